@@ -2,7 +2,7 @@
 """Tries the first call of `./feast` on a small repository with a toolchain that only pretends: first_call.py [TEST..].
 
 The repository is made in a temporary folder, with a copy of `feast` and of tools/first_call and five crates.
-The toolchain is tests/fakes/rt: it takes tenths of a second for a crate, and notes its calls.
+The toolchain is tests/fakes: it takes tenths of a second for a crate, and notes its calls.
 """
 from __future__ import annotations
 
@@ -21,17 +21,12 @@ import unittest
 
 TOP = pathlib.Path(__file__).resolve().parent.parent
 sys.dont_write_bytecode = True
-sys.path.insert(0, str(TOP / "tools"))
 
-from first_call import seconds  # noqa: E402
-from first_call.children import GIVING_WAY, Child  # noqa: E402
-from first_call.crates import Crate, awaited_most, chains, crates_of_program  # noqa: E402
-from first_call.progress import Progress, Status, wall_time  # noqa: E402
-from first_call.proof import Work  # noqa: E402
-from first_call.teller import as_bar  # noqa: E402
-from first_call.turns import Turns, niceness  # noqa: E402
+from first_call_parts import Crates, Estimates, Lines, Sessions  # noqa: E402, F401
 
-CRATES = "low:\nmiddle: low # stands on low\nbeside: low\nhigh: middle beside\nfeast: high low\nother: low\n"
+FAKES = TOP / "tests" / "fakes" / "bin"
+CRATES = "low:\nmiddle: low itoa # stands on low\nbeside: low\nhigh: middle beside\nfeast: high low\nother: low\n"
+SOURCE = "// a source\n"
 # What the program of the pretended toolchain writes, and its status.
 PROVED, STATUS = "proved call of", 3
 
@@ -41,7 +36,7 @@ class Call:
 
     def __init__(self, case: "FirstCall", words: list[str], **changes: str) -> None:
         environment = {name: value for name, value in os.environ.items() if name not in ("CI", "FEAST_PREVIEW")}
-        environment["PATH"] = f"{TOP / 'tests' / 'fakes'}:{environment['PATH']}"
+        environment["PATH"] = f"{FAKES}:{environment['PATH']}"
         environment["PRETENDED"] = str(case.top)
         self.process = subprocess.Popen(
             [str(case.top / "feast"), *words],
@@ -73,10 +68,11 @@ class FirstCall(unittest.TestCase):
         self.change("children.py", "TICK = 0.5", "TICK = 0.1")
         self.change("machine.py", "int(found[1]) // 1_000_000 if found else 0", "24")
         self.change("machine.py", "len(os.sched_getaffinity(0))", "4")
+        (self.top / "tools" / "first_call" / "seconds.txt").write_text("feast 2\n")
         (self.top / "crates.txt").write_text(CRATES)
         for name in ("low", "middle", "beside", "high", "feast", "other"):
             (self.top / "crates" / name / "src").mkdir(parents=True)
-            (self.top / "crates" / name / "src" / "lib.rt").write_text("// a source\n")
+            (self.top / "crates" / name / "src" / "lib.rt").write_text(SOURCE)
         self.program = self.top / "crates" / "feast" / "out" / "feast"
         (self.folder / "world").write_text("feast 1\n")
 
@@ -113,7 +109,7 @@ class FirstCall(unittest.TestCase):
     def test_word_that_is_no_text_is_handed_on(self) -> None:
         process = subprocess.run(
             [str(self.top / "feast"), b"\xff"],
-            env={**os.environ, "PATH": f"{TOP / 'tests' / 'fakes'}:{os.environ['PATH']}", "PRETENDED": str(self.top)},
+            env={**os.environ, "PATH": f"{FAKES}:{os.environ['PATH']}", "PRETENDED": str(self.top)},
             capture_output=True,
         )
         self.assertEqual(process.stdout, b"proved call of <\xff>\n")
@@ -133,14 +129,50 @@ class FirstCall(unittest.TestCase):
         self.assertLess(time.monotonic() - begin, 0.5)
         self.assertEqual(self.calls(), before)
 
+    def write(self, name: str, text: str) -> None:
+        """Changes a crate's source, some time after what was done before."""
+        time.sleep(0.01)
+        (self.top / "crates" / name / "src" / "lib.rt").write_text(text)
+
+    def built(self) -> list[str]:
+        """The crates whose proofs were begun, in order."""
+        return [it.split()[1] for it in self.calls() if it.startswith("build")]
+
     def test_changed_source_is_proved(self) -> None:
         Call(self, ["run"]).end()
-        before = self.count("run")
-        time.sleep(0.01)
-        (self.top / "crates" / "middle" / "src" / "lib.rt").write_text("// changed\n")
+        self.write("middle", "// changed\n")
         status, _, told = Call(self, ["run"]).end()
-        self.assertEqual((status, self.count("run")), (STATUS, before + 1), told)
+        self.assertEqual((status, self.built()[5:]), (STATUS, ["middle", "high", "feast"]), told)
         self.assertIn("2 of its 5 crates are proved, and the others", told)
+
+    def test_library_of_a_source_that_is_as_it_was_stands(self) -> None:
+        Call(self, ["run"]).end()
+        self.write("low", SOURCE)
+        self.assert_ran(Call(self, ["run"]).end(), "<run>")
+        self.assertEqual(self.built()[5:], ["feast"])
+
+    def test_library_that_is_gone_is_made_again(self) -> None:
+        Call(self, ["run"]).end()
+        shutil.rmtree(self.program.with_name("rlib") / "beside.rlib")
+        self.write("feast", "// changed\n")
+        self.assert_ran(Call(self, ["run"]).end(), "<run>")
+        self.assertEqual(self.built()[5:], ["beside", "high", "feast"])
+
+    def test_library_of_another_toolchain_is_made_again(self) -> None:
+        Call(self, ["run"]).end()
+        for note in self.program.with_name("rlib").glob("*.sum"):
+            note.write_text("another sum")
+        self.write("feast", "// changed\n")
+        self.assert_ran(Call(self, ["run"]).end(), "<run>")
+        self.assertEqual(sorted(self.built()[5:]), sorted(self.built()[:5]))
+
+    def test_source_that_changes_meanwhile_is_proved_by_the_next_call(self) -> None:
+        call = Call(self, ["run"])
+        self.wait_for("build low")
+        self.write("low", "// changed\n")
+        self.assert_ran(call.end(), "<run>")
+        self.assert_ran(Call(self, ["run"]).end(), "<run>")
+        self.assertEqual(sorted(self.built()[5:]), sorted(self.built()[:5]))
 
     def test_progress_is_told_line_by_line(self) -> None:
         told = Call(self, ["run"], FEAST_PREVIEW="no").end()[2]
@@ -148,27 +180,25 @@ class FirstCall(unittest.TestCase):
         lines = re.findall(r"feast: (\d) of 5 crates are proved; (.*) gone, (about .* left|soon done); (.*)", told)
         self.assertEqual([it[0] for it in lines], sorted(it[0] for it in lines), told)
         doing = list(dict.fromkeys(it[3] for it in lines))
-        proofs = [f"proving {name}" for name in ("low", "middle", "beside", "high")]
+        proofs = [f"proving {names}" for names in ("low", "middle, beside", "high")]
         wanted = [*proofs, "proving and building the program"]
         self.assertEqual([it for it in doing if it in wanted], wanted, told)
         self.assertEqual(lines[-1][0], "4")
         self.assertRegex(told, r"proved and built in \d+ s; the program by itself is /.*/crates/feast/out/feast\n\Z")
 
-    def test_sources_are_looked_through_before_most_crates(self) -> None:
-        told = Call(self, ["run"], FEAST_PREVIEW="no").end()[2]
-        self.assertRegex(told, "0 of 5 .* proving low\n(.*\n)*.*1 of 5 .* reading all sources\n(.*\n)*.*proving middle")
-
-    def test_program_is_proved_by_the_run_that_builds_it(self) -> None:
+    def test_crate_is_proved_once_those_below_it_are(self) -> None:
         Call(self, ["run"], FEAST_PREVIEW="no").end()
-        first = ["lib low --jobs 4", "low is proved"]
-        others = ["all check side by side 16", *(f"{name} is proved" for name in ("middle", "beside", "high"))]
-        self.assertEqual(self.calls(), [*first, *others, "run", "feast is proved"])
+        self.assertEqual(self.calls()[:2], ["build low by 4", "low is proved"])
+        self.assertEqual(set(self.calls()[2:4]), {"build middle by 1", "build beside by 1"})
+        self.assertEqual(set(self.calls()[4:6]), {"middle is proved", "beside is proved"})
+        rest = ["build high by 4", "high is proved", "build feast by 4", "feast is proved", "link"]
+        self.assertEqual(self.calls()[6:], rest)
 
     def test_progress_is_a_bar_on_a_terminal(self) -> None:
         ours, theirs = pty.openpty()
         process = subprocess.Popen(
             [str(self.top / "feast"), "run"],
-            env={**os.environ, "PATH": f"{TOP / 'tests' / 'fakes'}:{os.environ['PATH']}", "PRETENDED": str(self.top)},
+            env={**os.environ, "PATH": f"{FAKES}:{os.environ['PATH']}", "PRETENDED": str(self.top)},
             stdout=subprocess.PIPE,
             stderr=theirs,
             start_new_session=True,
@@ -177,17 +207,17 @@ class FirstCall(unittest.TestCase):
         told = read_all(ours)
         out = process.communicate(timeout=60)[0]
         self.assertEqual(out, b"proved call of <run>\n")
-        self.assertRegex(told, r"\r\x1b\[K\[#+\.+\] 1/5 crates, \d+ s gone, (\d+ (s|min) left|soon done): proving middle\r")
+        gone = r"\d+ s gone, (\d+ (s|min) left|soon done)"
+        self.assertRegex(told, rf"\r\x1b\[K\[#+\.+\] 1/5 crates, {gone}: proving middle, beside\r")
         self.assertRegex(told, r"preview of <run>\r\n")
 
     def test_little_memory_proves_one_after_another(self) -> None:
         self.change("machine.py", "return 24", "return 2")
         ended = Call(self, ["run"]).end()
         self.assert_ran(ended, "<run>")
-        runs = [it for it in self.calls() if it.startswith(("all", "lib", "run"))]
-        self.assertEqual(runs, ["lib low", "lib middle", "lib beside", "lib high", "run"])
+        begun = [f"build {name} by 1" for name in ("low", "middle", "beside", "high", "feast")]
+        self.assertEqual([it for it in self.calls() if it.startswith("build")], begun)
         self.assertRegex(ended[2], "1 of 5 crates are proved; .* proving middle\n")
-        self.assertNotIn("reading all sources", ended[2])
         self.assertIn("no preview: it wants 4 gigabytes", ended[2])
 
     def test_four_calls_build_once(self) -> None:
@@ -195,7 +225,7 @@ class FirstCall(unittest.TestCase):
         ends = [call.end() for call in calls]
         for number, ended in enumerate(ends):
             self.assert_ran(ended, f"<run> <{number}>")
-        self.assertEqual(self.count("run"), 1)
+        self.assertEqual(self.count("link"), 1)
         self.assertEqual(sum("another ./feast is building the program" in told for _, _, told in ends), 3)
 
     def test_call_that_waited_builds_if_the_first_could_not(self) -> None:
@@ -238,16 +268,16 @@ class FirstCall(unittest.TestCase):
 
     def test_interrupted(self) -> None:
         for number in (signal.SIGINT, signal.SIGTERM):
-            for moment in ("try", "low is proved"):
+            for moment in ("try", "build middle"):
                 with self.subTest(f"{number.name} at {moment}"):
                     (self.top / "calls").unlink(missing_ok=True)
-                    shutil.rmtree(self.top / "crates" / "low" / "out", ignore_errors=True)
+                    shutil.rmtree(self.program.parent, ignore_errors=True)
                     call = Call(self, ["run"])
                     self.wait_for(moment)
                     os.kill(call.process.pid, number)
                     status, out, told = call.end()
                     self.assertEqual((status, out), (130, ""))
-                    self.assertIn("feast: interrupted: what is proved is kept", told)
+                    self.assertIn("feast: interrupted: crates that are proved are kept", told)
                     self.assertEqual(left_over(self.top), [])
         self.assertIn("1 of its 5 crates is proved", Call(self, ["run"]).end()[2])
 
@@ -257,95 +287,21 @@ class FirstCall(unittest.TestCase):
         self.assertEqual((status, out), (1, ""))
         self.assertIn("error: the sum of middle is not proved\n", told)
         self.assertNotIn("fn good: proved", told)
-        self.assertNotIn("a word of low", told)
-        self.assertNotIn("2 of 5 crates are proved", told)
+        self.assertNotIn("modules loaded", told)
+        self.assertNotIn("3 of 5 crates are proved", told)
         self.assertTrue(told.endswith("feast: the program could not be built: the toolchain's reasons are above\n"))
+
+    def test_end_by_a_signal_is_told(self) -> None:
+        (self.top / "killed").write_text("middle")
+        status, _, told = Call(self, ["run"], FEAST_PREVIEW="no").end()
+        self.assertEqual(status, 1)
+        self.assertIn("== middle\nthe toolchain was ended by signal 9, most likely for want of memory\n", told)
 
     def test_without_the_toolchain(self) -> None:
         call = Call(self, ["run"], PATH="/usr/bin:/bin")
         status, out, told = call.end()
         self.assertEqual((status, out), (1, ""))
         self.assertIn("install the Rattle kit", told)
-
-
-class Chains(unittest.TestCase):
-    """Which crates others wait for."""
-
-    def setUp(self) -> None:
-        low, beside = Crate("low", TOP, ()), Crate("beside", TOP, ())
-        high, top = Crate("high", TOP, ("low",)), Crate("top", TOP, ("low", "beside", "high"))
-        self.chain = chains([low, beside, high, top], {"low": 10.0, "beside": 5.0, "high": 20.0, "top": 10.0})
-
-    def test_longest_chain_counts(self) -> None:
-        self.assertEqual(self.chain, {"low": 40.0, "beside": 15.0, "high": 30.0, "top": 10.0})
-
-    def test_lowest_crate_that_most_wait_for(self) -> None:
-        crates = [Crate("aside", TOP, ()), Crate("low", TOP, ()), Crate("high", TOP, ("low",))]
-        self.assertEqual(awaited_most(crates).name, "low")
-
-    def test_crates_with_short_chains_give_way(self) -> None:
-        self.assertEqual([niceness(share) for share in (1.0, 0.75, 0.5, 0.25)], [0, 10, 19, 19])
-
-    def test_process_is_given_its_niceness(self) -> None:
-        for name, beside, wanted in (("high", "low", 10), ("high", "top", 0)):
-            with self.subTest(f"{name} beside {beside}"):
-                process = subprocess.Popen(["sleep", "60"])
-                Turns(self.chain).give([Work(process.pid, name, 0.0), Work(2**22 + 1, beside, 0.0)])
-                self.addCleanup(process.wait)
-                self.addCleanup(process.kill)
-                self.assertEqual(os.getpriority(os.PRIO_PROCESS, process.pid), min(os.nice(0) + wanted, 19))
-
-
-class Sessions(unittest.TestCase):
-    """How sessions share the processors."""
-
-    def test_session_gives_way(self) -> None:
-        child = Child(["sleep", "60"], TOP, sys.stderr.buffer)
-        self.addCleanup(child.end)
-        child.give_way()
-        shared = pathlib.Path(f"/proc/{child.process.pid}/autogroup")
-        if shared.exists():
-            self.assertRegex(shared.read_text(), f"nice {GIVING_WAY}")
-
-
-class Estimates(unittest.TestCase):
-    """The table of times, and what is made of it."""
-
-    def test_table_names_crates(self) -> None:
-        crates = {crate.name for crate in crates_of_program(TOP)}
-        named = set(seconds.read(seconds.TABLE)) - {seconds.LOOKING}
-        self.assertEqual(named - crates, set())
-        self.assertGreater(len(named), len(crates) / 2)
-
-    def test_time_of_several_lanes(self) -> None:
-        crates = [Crate("low", TOP, ()), Crate("aside", TOP, ()), Crate("high", TOP, ("low",))]
-        spent = {"low": 10.0, "aside": 5.0, "high": 20.0}
-        self.assertEqual([wall_time(crates, spent, lanes) for lanes in (1, 2, 3)], [35.0, 30.0, 30.0])
-
-    def test_measured_speed_corrects_what_is_left(self) -> None:
-        crates = [Crate("low", TOP, ()), Crate("high", TOP, ("low",))]
-        expected = {seconds.LOOKING: 0.0, "low": 100.0, "high": 100.0}
-        progress = Progress(crates, 1, expected, set(expected), {seconds.LOOKING})
-        self.assertAlmostEqual(progress.status().left, 200.0, delta=0.1)
-        progress.at_work({"low": 130.0})
-        progress.finish("low")
-        progress.start -= 260
-        status = progress.status()
-        self.assertAlmostEqual(status.left, 100 * (60 + 260) / (60 + 100), delta=0.1)
-        self.assertAlmostEqual(status.share, 0.5)
-        self.assertEqual(progress.measured(), {"low": 130.0})
-
-
-class Lines(unittest.TestCase):
-    """How a status looks on a terminal."""
-
-    def test_names_are_shown_whole(self) -> None:
-        names = "proving edge_lock, atom_layout, ulam_types, code_gen"
-        status = Status(crates=42, done=10, now=names, share=0.25, gone=480, left=3180)
-        shown = as_bar(status, 80)
-        self.assertEqual(shown, "[##........] 10/42 crates, 8 min gone, 53 min left: proving edge_lock, ..")
-        self.assertTrue(as_bar(status, 120).endswith(names))
-        self.assertEqual(len(as_bar(status, 20)), 19)
 
 
 def read_all(terminal: int) -> str:

@@ -3,13 +3,14 @@
 `./feast` hands its words over to this package if the program isn't built, or a source is newer:
 
   call       the order of things: the lock, the preview, the proof, the program
-  build      the toolchain's runs, followed until they end
+  build      the crates proved side by side, each once those below it are
   lock       one build at a time
   sources    whether the program is older than a source
   crates     the crates that the program is made of
-  kept       what earlier runs have left of them
+  libraries  which libraries of them earlier calls have made of these sources
   machine    memory and processors
-  proof      which runs of the toolchain there are, and what one is at
+  toolchain  the commands that prove a crate, and make its library or the program
+  work       a crate that is being proved
   progress   what is done, what is left, and how long that takes
   seconds    how long each crate takes: the table `seconds.txt`, and the last build here
   preview    the same call without any proof, in the meantime

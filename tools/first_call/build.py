@@ -1,20 +1,22 @@
-"""A build: the toolchain's runs one after another, followed until they end."""
+"""A build: the crates proved side by side, each once those below it are, and followed until all are."""
 from __future__ import annotations
 
 import os
+import signal
+import time
 from pathlib import Path
-from typing import Callable, Optional
+from typing import Callable
 
 from first_call import seconds
-from first_call.children import Child
-from first_call.crates import chains, crates_of_program
+from first_call.children import spent_by_sessions
+from first_call.crates import PROGRAM, Crate, chains, crates_of_program
 from first_call.faults import said_of_faults
-from first_call.kept import Kept, kept
-from first_call.machine import room_here
+from first_call.libraries import Libraries
+from first_call.machine import lanes_here
 from first_call.progress import Progress
-from first_call.proof import WAITS, Log, Step, spent_by, steps, told_crate, works
 from first_call.teller import Teller, spoken
-from first_call.turns import Turns
+from first_call.toolchain import Toolchain
+from first_call.work import Work
 
 
 class Refused(Exception):
@@ -25,26 +27,21 @@ class Build:
     """A build of the program below a folder. `pause` is called again and again while it waits."""
 
     def __init__(self, top: Path, program: Path, teller: Teller, pause: Callable[[], None]) -> None:
+        self.start = time.time_ns()
         self.program = program
         self.measured = program.with_name("seconds.txt")
-        self.log = program.with_name("first-call.log")
         self.teller = teller
         self.pause = pause
-        self.run: Optional[Child] = None
-        self.crates = crates_of_program(top)
-        self.room = room_here()
-        self.progress = self.expected(kept(top, self.crates))
-        self.turns = Turns(chains(self.crates, self.progress.expected))
-
-    def expected(self, found: dict[str, Kept]) -> Progress:
-        """What is to be done, where this much is kept of each crate."""
-        whole = seconds.expected(self.crates, self.measured)
-        likely = {name: spent * found.get(name, Kept.NOTHING).value for name, spent in whole.items()}
-        anew = {name for name in whole if found.get(name, Kept.NOTHING) is Kept.NOTHING}
-        done = {name for name, it in found.items() if it is Kept.BUILT}
-        is_looked_through = self.room.places == 1 or len(done) == len(self.crates) - 1
-        done |= {seconds.LOOKING} if is_looked_through else set()
-        return Progress(self.crates, self.room.lanes, likely, anew, done)
+        self.toolchain = Toolchain.found(program.with_name("rlib"))
+        self.lanes = lanes_here()
+        crates = crates_of_program(top)
+        self.libraries = Libraries(self.toolchain, crates)
+        expected = seconds.expected(crates, self.measured)
+        self.progress = Progress(crates, self.lanes, expected, self.libraries.standing() - {PROGRAM})
+        chain = chains(crates, expected)
+        left = (crate for crate in crates if crate.name not in self.progress.done)
+        self.waiting = sorted(left, key=lambda crate: -chain[crate.name])
+        self.works: list[Work] = []
 
     def announce(self) -> None:
         """Says what is to be done, and how long that takes."""
@@ -54,59 +51,56 @@ class Build:
             proved = f"{status.done} of its {status.crates} crates {'is' if status.done == 1 else 'are'} proved"
             crates = f"{proved}, and the others are"
         self.teller.say(
-            f"the program is still to be built: {crates} proved first, {self.room.lanes} at a time,"
+            f"the program is still to be built: {crates} proved first, {self.lanes} at a time,"
             f" in about {spoken(status.left)}"
         )
-        self.teller.say("you can interrupt this: what is proved is kept, and the same command goes on from there")
-        if seconds.LOOKING not in self.progress.done:
-            looking = spoken(self.progress.expected[seconds.LOOKING])
-            self.teller.say(f"before most of them are proved, all sources are read, which takes about {looking}")
+        self.teller.say("you can interrupt this: crates that are proved are kept, and the same command goes on from there")
 
     def go(self) -> None:
         """Proves the crates and builds the program."""
-        for step in steps(self.crates, self.room):
-            self.follow(step)
-        os.utime(self.program)
+        while self.waiting or self.works:
+            self.begin_ready()
+            self.teller.status(self.progress.status())
+            self.pause()
+            self.look()
+        # A source that was changed since then is newer.
+        os.utime(self.program, ns=(self.start, self.start))
         seconds.write(self.measured, {**seconds.read(self.measured), **self.progress.measured()})
 
-    def follow(self, step: Step) -> None:
-        """Runs the toolchain, and shows progress until it ends."""
-        with open(self.log, "wb") as out:
-            self.run = Child(step.words, step.folder, out)
-        log = Log(self.log)
-        status = None
-        while status is None:
-            self.pause()
-            status = self.run.status()
-            running = works(self.run.process.pid)
-            self.turns.give(running)
-            self.progress.at_work(spent_by(running))
-            self.take_in(log.new_lines())
-            self.teller.status(self.progress.status())
-            if status is None and self.is_through(step):
-                self.run.end()
-                status = 0
+    def begin_ready(self) -> None:
+        """Begins the crates that wait for no other, as many as there are free processors; those first on which the
+        longest chains of others stand. One beside which there is nothing to do gets all processors."""
+        ready = [crate for crate in self.waiting if self.progress.done.issuperset(crate.below)]
+        jobs = self.lanes if len(ready) + len(self.works) == 1 else 1
+        for crate in ready[: self.lanes - len(self.works)]:
+            self.waiting.remove(crate)
+            self.libraries.begin(crate)
+            log = self.program.with_name("first-call") / f"{crate.name}.log"
+            self.works.append(Work(crate, self.toolchain.commands(crate, jobs), log))
+        self.progress.at_work({work.crate.name: work.spent for work in self.works})
+
+    def look(self) -> None:
+        """Takes in how far the crates under way are."""
+        sessions = spent_by_sessions()
+        for work in self.works:
+            work.take_in(sessions)
+        self.progress.at_work({work.crate.name: work.spent for work in self.works})
+        for work in list(self.works):
+            status = work.status()
+            if status is not None:
+                self.finish(work, status)
+
+    def finish(self, work: Work, status: int) -> None:
+        """Takes in that a crate has ended with a status."""
         if status != 0:
-            raise Refused(said_of_faults(self.log.read_text(errors="replace")))
-        for name in step.ends:
-            self.progress.finish(name)
-
-    def is_through(self, step: Step) -> bool:
-        """Whether a run that leaves crates to later ones has done all others."""
-        names = {crate.name for crate in self.crates}
-        return bool(step.leaves) and names - step.leaves <= self.progress.done
-
-    def take_in(self, lines: list[str]) -> None:
-        """Takes in what the toolchain says."""
-        for line in lines:
-            name = told_crate(line)
-            for crate in self.crates:
-                if crate.name == name and crate.is_built():
-                    self.progress.finish(name)
-            if WAITS.match(line):
-                self.teller.say(line)
+            raise Refused(said_of_faults(work.crate.name, status, work.said()))
+        self.works.remove(work)
+        self.libraries.finish(work.crate)
+        self.progress.finish(work.crate.name)
 
     def end(self) -> None:
         """Ends what is under way."""
-        if self.run:
-            self.run.end()
+        for work in self.works:
+            work.child.tell(signal.SIGTERM)
+        for work in self.works:
+            work.child.end()

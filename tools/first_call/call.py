@@ -13,6 +13,7 @@ from first_call.lock import Lock
 from first_call.preview import NoPreview, Preview, is_wanted
 from first_call.sources import is_stale
 from first_call.teller import Teller, spoken
+from first_call.toolchain import NoToolchain
 
 FAILED, INTERRUPTED = 1, 130
 SIGNALS = (signal.SIGINT, signal.SIGTERM, signal.SIGHUP)
@@ -101,11 +102,11 @@ def main(top: Path, words: list[str]) -> int:
         call.make_ready()
         return call.run_program()
     except Interrupted:
-        call.teller.say("interrupted: what is proved is kept, and the same command goes on from there")
+        call.teller.say("interrupted: crates that are proved are kept, and the same command goes on from there")
         return INTERRUPTED
     except Refused as fault:
         call.teller.show(str(fault))
         call.teller.say("the program could not be built: the toolchain's reasons are above")
-    except OSError as fault:
+    except (NoToolchain, OSError) as fault:
         call.teller.say(str(fault))
     return FAILED

@@ -5,9 +5,9 @@ import os
 import signal
 import subprocess
 import time
-from dataclasses import dataclass
+from collections import defaultdict
 from pathlib import Path
-from typing import IO, Iterator, Optional, Sequence
+from typing import IO, Optional, Sequence
 
 # How long a process has to end by itself, in seconds.
 PATIENCE = 8.0
@@ -65,26 +65,17 @@ def pause() -> None:
     time.sleep(TICK)
 
 
-@dataclass(frozen=True)
-class Command:
-    """A process: its number, its words, and the seconds that it and those that it has waited for had a processor."""
-
-    process: int
-    words: list[str]
-    spent: float
-
-
-def commands_of(session: int) -> Iterator[Command]:
-    """Each process of a session, as the system tells of it."""
+def spent_by_sessions() -> dict[int, float]:
+    """For each session the seconds that its processes, and those that they have waited for, had a processor."""
     ticks = os.sysconf("SC_CLK_TCK")
+    found: defaultdict[int, float] = defaultdict(float)
     for entry in Path("/proc").iterdir():
         if not entry.name.isdigit():
             continue
         try:
             # Behind the name, which stands in brackets: state, parent, group, session; from the twelfth on, times.
             fields = (entry / "stat").read_text(errors="replace").rpartition(")")[2].split()
-            if int(fields[3]) == session:
-                words = (entry / "cmdline").read_bytes().decode(errors="replace").split("\0")
-                yield Command(int(entry.name), words, sum(map(int, fields[11:15])) / ticks)
+            found[int(fields[3])] += sum(map(int, fields[11:15])) / ticks
         except (OSError, IndexError, ValueError):
             continue
+    return dict(found)

@@ -11,24 +11,21 @@ PROGRAM = "feast"
 
 @dataclass(frozen=True)
 class Crate:
-    """A crate: its name, its folder, and the repository's libraries that it stands on, near and far."""
+    """A crate: its name, its folder, the repository's libraries that it stands on, near and far, and the libraries
+    that its line of crates.txt names, the toolchain's among them."""
 
     name: str
     folder: Path
     below: tuple[str, ...]
+    named: tuple[str, ...] = ()
 
-    def is_built(self) -> bool:
-        """Whether the toolchain's last run over this library proved and built it."""
-        return self.stamp().is_file()
+    def near(self) -> list[str]:
+        """The repository's libraries that it names."""
+        return [name for name in self.named if name in self.below]
 
-    def stamp(self) -> Path:
-        """The file that the toolchain writes last when it builds a library, and removes first."""
-        return self.folder / "out" / "rlib" / "stamp"
-
-    def is_begun(self) -> bool:
-        """Whether an earlier run has left part of a proof."""
-        kept = self.folder / "out" / "incremental"
-        return kept.is_dir() and any(kept.iterdir())
+    def outside(self) -> list[str]:
+        """The toolchain's libraries that it names."""
+        return [name for name in self.named if name not in self.below]
 
 
 def listed(top: Path) -> dict[str, list[str]]:
@@ -39,26 +36,19 @@ def listed(top: Path) -> dict[str, list[str]]:
 
 
 def crates_of_program(top: Path) -> list[Crate]:
-    """The program's crates, in the order in which the toolchain takes them."""
-    near = listed(top)
+    """The program's crates, each after those that it stands on."""
+    named = listed(top)
     far: dict[str, list[str]] = {}
 
     def below(name: str) -> list[str]:
         if name not in far:
             far[name] = []
-            found = [it for dep in near.get(name, []) if dep in near for it in [*below(dep), dep]]
+            found = [it for dep in named.get(name, []) if dep in named for it in [*below(dep), dep]]
             far[name] = list(dict.fromkeys(found))
         return far[name]
 
     names = [*below(PROGRAM), PROGRAM]
-    crates = [Crate(name, top / "crates" / name, tuple(below(name))) for name in names]
-    return sorted(crates, key=lambda crate: len(crate.below))
-
-
-def awaited_most(crates: list[Crate]) -> Crate:
-    """Of the crates that stand on no other, the one that most others stand on."""
-    lowest = (crate for crate in crates if not crate.below)
-    return max(lowest, key=lambda crate: sum(crate.name in it.below for it in crates))
+    return [Crate(name, top / "crates" / name, tuple(below(name)), tuple(named.get(name, []))) for name in names]
 
 
 def chains(crates: list[Crate], seconds: Mapping[str, float]) -> dict[str, float]:

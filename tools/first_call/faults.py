@@ -3,21 +3,14 @@ from __future__ import annotations
 
 import re
 
-
-def is_news(line: str) -> bool:
-    """Whether a line says something else than that a function is proved."""
-    return not line.endswith(": proved")
+# Lines that say what went well.
+WELL = re.compile(r".*: proved|logic /.*|statements \w+: .*")
 
 
-def said_of_faults(log: str) -> str:
-    """The lines of a log that are about crates that failed, or all if it names none."""
-    lines = log.splitlines()
-    failed = {f"== {name}" for name in re.findall(r"^(\w+): failed", log, re.M)}
-    if failed:
-        shown, is_shown = [], False
-        for line in lines:
-            if line.startswith("== "):
-                is_shown = line in failed
-            shown += [line] * is_shown
-        lines = shown
-    return "".join(f"{line}\n" for line in lines if is_news(line))
+def said_of_faults(name: str, status: int, said: str) -> str:
+    """The lines that say why a crate could not be proved or built, from what was said and the status, which is below
+    0 for a signal."""
+    faults = [line for line in said.splitlines() if not WELL.fullmatch(line)]
+    if status < 0:
+        faults.append(f"the toolchain was ended by signal {-status}, most likely for want of memory")
+    return "".join(f"{line}\n" for line in [f"== {name}", *faults])

@@ -7,7 +7,6 @@ from dataclasses import dataclass, field
 from typing import Mapping
 
 from first_call.crates import PROGRAM, Crate, chains
-from first_call.seconds import LOOKING
 
 # With how many seconds by the clock that went as expected the measured speed is averaged.
 SETTLED = 60.0
@@ -48,15 +47,13 @@ def wall_time(crates: list[Crate], seconds: dict[str, float], lanes: int) -> flo
 
 @dataclass
 class Progress:
-    """The crates in the toolchain's order, by how many processors they are proved, the seconds of one processor that
-    each of them and looking through all sources is expected to take, which of these are from nothing, and what is
-    done; then the seconds that each has taken so far, and what is at work now. `whole` is what all of it takes by
-    the clock, if it goes as expected."""
+    """The crates, lowest first, by how many processors they are proved, the seconds of one processor that each of
+    them is expected to take, and which are done; then the seconds that each has taken so far, and which are at work
+    now. `whole` is what all of it takes by the clock, if it goes as expected."""
 
     crates: list[Crate]
     lanes: int
     expected: dict[str, float]
-    anew: set[str]
     done: set[str]
     start: float = field(default_factory=time.monotonic)
     spent: dict[str, float] = field(default_factory=dict)
@@ -67,45 +64,38 @@ class Progress:
         self.whole = self.ahead()
 
     def at_work(self, spent: Mapping[str, float]) -> None:
-        """Takes in what is at work at this moment, crates or the look at the sources, and what each has taken."""
-        if LOOKING in self.now and LOOKING not in spent:
-            self.finish(LOOKING)
+        """Takes in which crates are at work at this moment, and what each has taken."""
         self.spent.update(spent)
-        self.now = tuple(name for name in self.names() if name in spent)
+        self.now = tuple(crate.name for crate in self.crates if crate.name in spent)
 
     def finish(self, name: str) -> None:
-        """Takes in that a crate, or the look at the sources, is done."""
+        """Takes in that a crate is done."""
         self.done.add(name)
         self.now = tuple(it for it in self.now if it != name)
 
-    def names(self) -> list[str]:
-        """What is to be done, in order."""
-        return [LOOKING, *(crate.name for crate in self.crates)]
-
     def measured(self) -> dict[str, float]:
-        """What was done from nothing, with the seconds that it took."""
-        return {name: self.spent[name] for name in self.anew & self.done & self.spent.keys()}
+        """The crates that were proved, with the seconds that each took."""
+        return {name: spent for name, spent in self.spent.items() if name in self.done}
 
     def left_of(self, name: str) -> float:
-        """The seconds that are left of a crate, or of the look at the sources."""
+        """The seconds that are left of a crate."""
         whole = 0.0 if name in self.done else self.expected[name]
         return max(whole - self.spent.get(name, 0.0), REST * whole)
 
     def ahead(self) -> float:
         """How long what is left takes by the clock, if all goes as expected."""
-        left = {name: self.left_of(name) for name in self.names()}
-        return left[LOOKING] + wall_time(self.crates, left, self.lanes)
+        return wall_time(self.crates, {crate.name: self.left_of(crate.name) for crate in self.crates}, self.lanes)
 
     def status(self) -> Status:
         """How far the build is. What went so far says how much slower than expected the rest will go."""
         gone, ahead = time.monotonic() - self.start, self.ahead()
         slowness = (SETTLED + gone) / (SETTLED + self.whole - ahead)
-        whole = sum(self.expected[name] for name in self.names())
+        whole = sum(self.expected[crate.name] for crate in self.crates)
         return Status(
             crates=len(self.crates),
             done=sum(crate.name in self.done for crate in self.crates),
-            now=said_of(self.now) or ("between crates" if self.spent else "starting"),
-            share=max(1 - sum(map(self.left_of, self.names())) / whole, 0.0),
+            now=said_of(self.now),
+            share=max(1 - sum(self.left_of(crate.name) for crate in self.crates) / whole, 0.0),
             gone=gone,
             left=slowness * ahead,
         )
@@ -113,8 +103,6 @@ class Progress:
 
 def said_of(now: tuple[str, ...]) -> str:
     """What is at work, in words; empty if nothing is."""
-    if LOOKING in now:
-        return "reading all sources"
     if PROGRAM in now:
         return "proving and building the program"
     return f"proving {', '.join(now)}" if now else ""

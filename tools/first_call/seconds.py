@@ -12,8 +12,6 @@ from typing import Iterable
 from first_call.crates import Crate
 
 TABLE = Path(__file__).resolve().parent / "seconds.txt"
-# What is in the table beside the crates.
-LOOKING = "looking-through"
 # Seconds for a line of code, and for one of a definition or a proof.
 CODE_LINE, PROOF_LINE = 0.1, 0.02
 LEAST = 2.0
@@ -46,7 +44,7 @@ def by_length(crate: Crate) -> float:
 
 
 def expected(crates: Iterable[Crate], measured: Path) -> dict[str, float]:
-    """What each crate, and what is in the table beside them, is likely to take."""
-    table = {LOOKING: LEAST, **read(TABLE), **read(measured)}
-    rest = {crate.name: by_length(crate) for crate in crates if crate.name not in table}
-    return {name: max(spent, LEAST) for name, spent in {**table, **rest}.items()}
+    """What each crate is likely to take."""
+    table = {**read(TABLE), **read(measured)}
+    found = {it.name: table[it.name] if it.name in table else by_length(it) for it in crates}
+    return {name: max(spent, LEAST) for name, spent in found.items()}

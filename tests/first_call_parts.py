@@ -1,0 +1,89 @@
+"""Tests of the parts of tools/first_call that need no repository; tests/first_call.py runs them with its own."""
+from __future__ import annotations
+
+import pathlib
+import sys
+import time
+import unittest
+
+TOP = pathlib.Path(__file__).resolve().parent.parent
+sys.path.insert(0, str(TOP / "tools"))
+
+from first_call import seconds  # noqa: E402
+from first_call.children import GIVING_WAY, Child, spent_by_sessions  # noqa: E402
+from first_call.crates import Crate, chains, crates_of_program  # noqa: E402
+from first_call.progress import Progress, Status, wall_time  # noqa: E402
+from first_call.teller import as_bar  # noqa: E402
+
+
+class Crates(unittest.TestCase):
+    """The crates, and which of them others wait for."""
+
+    def test_longest_chain_counts(self) -> None:
+        low, beside = Crate("low", TOP, ()), Crate("beside", TOP, ())
+        high, top = Crate("high", TOP, ("low",)), Crate("top", TOP, ("low", "beside", "high"))
+        chain = chains([low, beside, high, top], {"low": 10.0, "beside": 5.0, "high": 20.0, "top": 10.0})
+        self.assertEqual(chain, {"low": 40.0, "beside": 15.0, "high": 30.0, "top": 10.0})
+
+    def test_toolchain_has_what_is_named_beside_crates(self) -> None:
+        crate = Crate("high", TOP, ("lowest", "low"), ("low", "itoa"))
+        self.assertEqual((crate.near(), crate.outside()), (["low"], ["itoa"]))
+
+
+class Sessions(unittest.TestCase):
+    """How sessions share the processors."""
+
+    def test_seconds_of_a_session(self) -> None:
+        child = Child(["sh", "-c", "(while :; do :; done); :"], TOP, sys.stderr.buffer)
+        self.addCleanup(child.end)
+        end = time.monotonic() + 20
+        while spent_by_sessions().get(child.process.pid, 0.0) < 0.5 and time.monotonic() < end:
+            time.sleep(0.1)
+        self.assertGreaterEqual(spent_by_sessions()[child.process.pid], 0.5)
+
+    def test_session_gives_way(self) -> None:
+        child = Child(["sleep", "60"], TOP, sys.stderr.buffer)
+        self.addCleanup(child.end)
+        child.give_way()
+        shared = pathlib.Path(f"/proc/{child.process.pid}/autogroup")
+        if shared.exists():
+            self.assertRegex(shared.read_text(), f"nice {GIVING_WAY}")
+
+
+class Estimates(unittest.TestCase):
+    """The table of times, and what is made of it."""
+
+    def test_table_names_crates(self) -> None:
+        crates = {crate.name for crate in crates_of_program(TOP)}
+        named = set(seconds.read(seconds.TABLE))
+        self.assertEqual(named - crates, set())
+        self.assertGreater(len(named), len(crates) / 2)
+
+    def test_time_of_several_lanes(self) -> None:
+        crates = [Crate("low", TOP, ()), Crate("aside", TOP, ()), Crate("high", TOP, ("low",))]
+        spent = {"low": 10.0, "aside": 5.0, "high": 20.0}
+        self.assertEqual([wall_time(crates, spent, lanes) for lanes in (1, 2, 3)], [35.0, 30.0, 30.0])
+
+    def test_measured_speed_corrects_what_is_left(self) -> None:
+        crates = [Crate("low", TOP, ()), Crate("high", TOP, ("low",))]
+        progress = Progress(crates, 1, {"low": 100.0, "high": 100.0}, set())
+        self.assertAlmostEqual(progress.status().left, 200.0, delta=0.1)
+        progress.at_work({"low": 130.0})
+        progress.finish("low")
+        progress.start -= 260
+        status = progress.status()
+        self.assertAlmostEqual(status.left, 100 * (60 + 260) / (60 + 100), delta=0.1)
+        self.assertAlmostEqual(status.share, 0.5)
+        self.assertEqual(progress.measured(), {"low": 130.0})
+
+
+class Lines(unittest.TestCase):
+    """How a status looks on a terminal."""
+
+    def test_names_are_shown_whole(self) -> None:
+        names = "proving edge_lock, atom_layout, ulam_types, code_gen"
+        status = Status(crates=42, done=10, now=names, share=0.25, gone=480, left=3180)
+        shown = as_bar(status, 80)
+        self.assertEqual(shown, "[##........] 10/42 crates, 8 min gone, 53 min left: proving edge_lock, ..")
+        self.assertTrue(as_bar(status, 120).endswith(names))
+        self.assertEqual(len(as_bar(status, 20)), 19)
