@@ -189,7 +189,7 @@ class FirstCall(unittest.TestCase):
     def test_crate_is_proved_once_those_below_it_are(self) -> None:
         Call(self, ["run"], FEAST_PREVIEW="no").end()
         self.assertEqual(self.calls()[:2], ["build low by 4", "low is proved"])
-        self.assertEqual(set(self.calls()[2:4]), {"build middle by 1", "build beside by 1"})
+        self.assertEqual(set(self.calls()[2:4]), {"build middle by 2", "build beside by 2"})
         self.assertEqual(set(self.calls()[4:6]), {"middle is proved", "beside is proved"})
         rest = ["build high by 4", "high is proved", "build feast by 4", "feast is proved", "link"]
         self.assertEqual(self.calls()[6:], rest)

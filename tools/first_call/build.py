@@ -9,7 +9,7 @@ from typing import Callable
 
 from first_call import seconds
 from first_call.children import spent_by_sessions
-from first_call.crates import PROGRAM, Crate, chains, crates_of_program
+from first_call.crates import chains, crates_of_program
 from first_call.faults import said_of_faults
 from first_call.libraries import Libraries
 from first_call.machine import lanes_here
@@ -37,7 +37,7 @@ class Build:
         crates = crates_of_program(top)
         self.libraries = Libraries(self.toolchain, crates)
         expected = seconds.expected(crates, self.measured)
-        self.progress = Progress(crates, self.lanes, expected, self.libraries.standing() - {PROGRAM})
+        self.progress = Progress(crates, self.lanes, expected, self.libraries.standing())
         chain = chains(crates, expected)
         left = (crate for crate in crates if crate.name not in self.progress.done)
         self.waiting = sorted(left, key=lambda crate: -chain[crate.name])
@@ -68,15 +68,16 @@ class Build:
         seconds.write(self.measured, {**seconds.read(self.measured), **self.progress.measured()})
 
     def begin_ready(self) -> None:
-        """Begins the crates that wait for no other, as many as there are free processors; those first on which the
-        longest chains of others stand. One beside which there is nothing to do gets all processors."""
+        """Begins crates that wait for no other, and shares the free processors among them. If there are too few, those
+        go first on which the longest chains of others stand."""
         ready = [crate for crate in self.waiting if self.progress.done.issuperset(crate.below)]
-        jobs = self.lanes if len(ready) + len(self.works) == 1 else 1
-        for crate in ready[: self.lanes - len(self.works)]:
+        free = self.lanes - sum(work.jobs for work in self.works)
+        jobs = max(free // max(len(ready), 1), 1)
+        for crate in ready[:free]:
             self.waiting.remove(crate)
             self.libraries.begin(crate)
             log = self.program.with_name("first-call") / f"{crate.name}.log"
-            self.works.append(Work(crate, self.toolchain.commands(crate, jobs), log))
+            self.works.append(Work(crate, jobs, self.toolchain.commands(crate, jobs), log))
         self.progress.at_work({work.crate.name: work.spent for work in self.works})
 
     def look(self) -> None:

@@ -9,10 +9,12 @@ from first_call.crates import Crate
 
 
 class Work:
-    """A crate that is proved: the command that runs, those that follow it, and where all write."""
+    """A crate that is proved: by how many processors, the command that runs, those that follow it, and where all
+    write."""
 
-    def __init__(self, crate: Crate, commands: list[list[str]], log: Path) -> None:
+    def __init__(self, crate: Crate, jobs: int, commands: list[list[str]], log: Path) -> None:
         self.crate = crate
+        self.jobs = jobs
         self.log = log
         self.rest = commands
         self.before = 0.0
