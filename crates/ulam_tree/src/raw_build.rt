@@ -87,7 +87,6 @@ pub fn block(body: Vec<Statement>) -> Statement
 }
 
 /// An `if`, maybe with an `else`.
-#[tactic(auto, using(crate::proofs::RawRows::if_is))]
 pub fn if_so(cond: Cond, yes: Box<Statement>, no: Option<Box<Statement>>) -> Statement
     ensures { statement_of result ≡ tree.if_so (cond_of cond) (boxed_statement yes) (part_alone no) }
 {

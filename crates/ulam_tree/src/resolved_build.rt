@@ -96,7 +96,6 @@ pub fn if_so(cond: Cond, yes: Box<Statement>, no: Option<Box<Statement>>) -> Sta
 }
 
 /// A `for`, with its first statement, its condition and its step where it has them.
-#[tactic(auto, using(crate::proofs::ResolvedRows::resolved_for_is))]
 pub fn for_all(
     first: Option<Box<Statement>>,
     cond: Option<Expr>,

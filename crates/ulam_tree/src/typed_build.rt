@@ -100,7 +100,6 @@ pub fn block(body: Vec<Statement>) -> Statement
 }
 
 /// An `if`, maybe with an `else`.
-#[tactic(auto, using(crate::proofs::TypedRows::typed_if_is))]
 pub fn if_so(cond: Cond, yes: Box<Statement>, no: Option<Box<Statement>>) -> Statement
     ensures { typed_statement result ≡ tree.if_so (typed_cond cond) (boxed_statement yes) (typed_part no) }
 {

@@ -1,0 +1,5 @@
+use Rattle.std.proofs.Common.{refl}
+use Rattle.ulam_tree.proofs.resolved_build.group.Goals as goal
+
+pub returns : goal.returns
+returns c = refl
