@@ -1,0 +1,5 @@
+use Rattle.std.proofs.Common.{rules}
+use Rattle.feast_base.proofs.mem_sink.MemSink.append.Goals as goal
+
+pub returns : goal.returns
+returns c = search rules
