@@ -1,4 +1,4 @@
-use Rattle.std.proofs.Common.{◌≡◌, ◌+◌, ◌*◌, ◌∙◌, ap, sym, subst, arith}
+use Rattle.std.proofs.Common.{◌≡◌, ◌+◌, ◌*◌, ◌∙◌, ap, sym, subst, arith, rules}
 use Rattle.bit_field.specs.Atom.{LeavesGap}
 use Rattle.tile_map.specs.Plane.{site}
 use Rattle.serial_order.specs.Scene.{registers_at}
@@ -21,3 +21,6 @@ newer_of-requires g c =
     let second : c.in-Some.register + 1 ≡ 2 + 2 * p.place = omega (arith, p.first) in
     let is = c.word-high.ensures.value ∙ (ap (λ (w : WordsValue). registers_at w.histories e (c.in-Some.register + 1)) c.word-low.ensures.same ∙ ap (registers_at words.histories e) second) in
     subst LeavesGap (sym is) gap
+
+pub returns-in-Some-clause-cell : goal.returns-in-Some-clause-cell
+returns-in-Some-clause-cell g c = search rules
