@@ -62,7 +62,7 @@ class Estimates(unittest.TestCase):
     def test_time_of_several_lanes(self) -> None:
         crates = [Crate("low", TOP, ()), Crate("aside", TOP, ()), Crate("high", TOP, ("low",))]
         spent = {"low": 10.0, "aside": 5.0, "high": 20.0}
-        self.assertEqual([wall_time(crates, spent, lanes) for lanes in (1, 2, 3)], [35.0, 30.0, 30.0])
+        self.assertEqual([wall_time(crates, spent, lanes) for lanes in (1, 2, 4)], [35.0, 20.0, 10.0])
 
     def test_measured_speed_corrects_what_is_left(self) -> None:
         crates = [Crate("low", TOP, ()), Crate("high", TOP, ("low",))]

@@ -12,7 +12,7 @@ from first_call.children import spent_by_sessions
 from first_call.crates import chains, crates_of_program
 from first_call.faults import said_of_faults
 from first_call.libraries import Libraries
-from first_call.machine import lanes_here
+from first_call.machine import jobs_each, lanes_here
 from first_call.progress import Progress
 from first_call.teller import Teller, spoken
 from first_call.toolchain import Toolchain
@@ -72,7 +72,7 @@ class Build:
         go first on which the longest chains of others stand."""
         ready = [crate for crate in self.waiting if self.progress.done.issuperset(crate.below)]
         free = self.lanes - sum(work.jobs for work in self.works)
-        jobs = max(free // max(len(ready), 1), 1)
+        jobs = jobs_each(free, len(ready))
         for crate in ready[:free]:
             self.waiting.remove(crate)
             self.libraries.begin(crate)

@@ -15,6 +15,11 @@ def free_memory() -> int:
     return int(found[1]) // 1_000_000 if found else 0
 
 
+def jobs_each(free: int, ready: int) -> int:
+    """How many of the free processors each of the crates gets that wait for no other, if each gets one at least."""
+    return max(free // max(ready, 1), 1)
+
+
 def lanes_here() -> int:
     """How many crates can be proved side by side: one a processor, if there is memory for each."""
     return max(min(len(os.sched_getaffinity(0)), free_memory() // EACH), 1)

@@ -7,6 +7,7 @@ from dataclasses import dataclass, field
 from typing import Mapping
 
 from first_call.crates import PROGRAM, Crate, chains
+from first_call.machine import jobs_each
 
 # With how many seconds by the clock that went as expected the measured speed is averaged.
 SETTLED = 60.0
@@ -28,19 +29,21 @@ class Status:
 
 
 def wall_time(crates: list[Crate], seconds: dict[str, float], lanes: int) -> float:
-    """How long so many lanes take for what is left of each crate, if a free one always takes that crate, of those
-    that wait for no other, which begins the longest chain of crates."""
+    """How long so many processors take for what is left of each crate, if those that are free are shared among the
+    crates that wait for no other, and go first to those which begin the longest chains of crates."""
     chain = chains(crates, seconds)
     waiting = sorted(crates, key=lambda crate: -chain[crate.name])
-    running: list[tuple[float, str]] = []
+    running: list[tuple[float, int, str]] = []
     done: set[str] = set()
-    now = 0.0
+    now, free = 0.0, lanes
     while waiting or running:
-        ready = [crate for crate in waiting if done.issuperset(crate.below)][: lanes - len(running)]
-        waiting = [crate for crate in waiting if crate not in ready]
-        for crate in ready:
-            heapq.heappush(running, (now + seconds[crate.name], crate.name))
-        now, name = heapq.heappop(running)
+        ready = [crate for crate in waiting if done.issuperset(crate.below)]
+        jobs = jobs_each(free, len(ready))
+        for crate in ready[:free]:
+            waiting.remove(crate)
+            heapq.heappush(running, (now + seconds[crate.name] / jobs, jobs, crate.name))
+        now, jobs, name = heapq.heappop(running)
+        free = lanes - sum(it for _, it, _ in running)
         done.add(name)
     return now
 
