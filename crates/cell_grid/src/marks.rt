@@ -4,7 +4,7 @@ ghost use Rattle.cell_grid.specs.Shut.{cleared, is_inside, widened};
 
 /// A rectangle of columns from `left` to below `right` and rows from `top` to below `bottom`.
 /// Contracts of `Grid::shut` speak of it.
-#[derive(Clone, Copy, Debug)]
+#[derive(Clone, Copy)]
 pub struct Rectangle {
     /// The first column.
     pub left: u32,

@@ -9,7 +9,7 @@ use feast_base::NoMemory;
 use feast_base::text::{push, push_number};
 
 /// A field of a line.
-#[derive(Clone, Copy, Debug)]
+#[derive(Clone, Copy)]
 pub enum Field<'a> {
     /// A word or a name.
     Word(&'a [u8]),
