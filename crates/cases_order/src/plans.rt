@@ -8,7 +8,7 @@ use feast_base::NoMemory;
 use std::alloc::Global;
 
 /// How many tiles a plane has in a row and in a column, and how many sites a tile has in each.
-#[derive(Clone, Copy)]
+#[derive(Clone, Copy, Debug)]
 pub struct Shape {
     /// Tiles in a row.
     pub tx: u32,
@@ -21,7 +21,7 @@ pub struct Shape {
 }
 
 /// An attempt of a tile at a site of its rectangle.
-#[derive(Clone, Copy)]
+#[derive(Clone, Copy, Debug)]
 pub struct Try {
     /// The tile.
     pub tile: u32,
