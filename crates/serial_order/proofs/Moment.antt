@@ -1,21 +1,19 @@
 -- The news bits of one edge at any moment, by its own history and its two ends alone.
-use Rattle.std.proofs.Common.{ℕ, ◌≡◌, ◌≢◌, ◌≤◌, ◌<◌, ◌+◌, ◌*◌, ◌%◌, List, [], refl, sym, ap, subst, arith, inl, inr, Bool, true, false, Some, ◌∙◌, ◌==◌}
-use Rattle.std.specs.Prelude.{slice_get, if◌then◌else◌}
+use Rattle.std.proofs.Common.{ℕ, ◌≡◌, ◌<◌, ◌+◌, ◌*◌, ◌%◌, List, [], refl, sym, ap, subst, arith, inl, inr, Bool, true, false, Some, ◌∙◌, ◌==◌}
+use Rattle.std.specs.Prelude.{slice_get}
 use Rattle.std.specs.Int.{bit_at}
 use Rattle.std.proofs.lemmas.Bool.Decides.{nat_tests}
-use Rattle.tile_map.specs.Plane.{Site, MapValue, is_held}
+use Rattle.tile_map.specs.Plane.{Site, is_held}
 use Rattle.tile_map.specs.Edges.{low_end, high_end, shared_of, has_end}
 use Rattle.tile_map.specs.Laws.{IsPlane}
 use Rattle.tile_map.proofs.PlaneLaws.{plane}
-use Rattle.edge_lock.specs.declared.history.Hold.{Hold}
 use Rattle.edge_lock.specs.History.{own, register_value}
 use Rattle.edge_lock.specs.EndLists.{EndLists}
 use Rattle.border_cache.specs.Cells.{CellValue, cell_of}
 use Rattle.border_cache.specs.News.{word_of}
 use Rattle.border_cache.specs.Windows.{end_at, sites_on}
-use Rattle.border_cache.specs.Copies.{held_cell}
 use Rattle.tile_core.specs.Values.{TileValue}
-use Rattle.tile_core.specs.Turns.{Common, Turn, cells_of, lists_of, AreTurns}
+use Rattle.tile_core.specs.Turns.{Common, Turn, cells_of, AreTurns}
 use Rattle.serial_order.specs.Scene.{EdgeHistory}
 use Rattle.serial_order.specs.OneEdge.{HasPlayedOn, EndsHavePlayed, KnowsNewest, NewsHoldsAtAnyMoment}
 use Rattle.serial_order.proofs.Lists.{back, snocs}

@@ -1,5 +1,5 @@
 -- The cells of a site on the edges that share it: those that an event there needs have them all.
-use Rattle.std.proofs.Common.{ℕ, zero, suc, ◌≡◌, ◌<◌, ◌≤◌, ◌+◌, ◌-◌, ◌*◌, List, [], ◌∷◌, refl, sym, ap, arith, Bool, true, false, Option, Some, None, ◌∙◌, ◌==◌, ◌&&◌, length, drop, get_or, eqb-true, inl, inr, le-leb, ltb-true}
+use Rattle.std.proofs.Common.{ℕ, zero, suc, ◌≡◌, ◌<◌, ◌≤◌, ◌+◌, ◌*◌, List, [], ◌∷◌, refl, sym, ap, arith, Bool, true, false, Option, Some, None, ◌∙◌, ◌==◌, ◌&&◌, length, drop, get_or, eqb-true, inl, inr, le-leb, ltb-true}
 use Rattle.std.specs.Prelude.{filter, if◌then◌else◌}
 use Rattle.std.specs.List.{range_with_len}
 use Rattle.std.proofs.lemmas.Bool.{and_left, and_right, false_from_ne_true}

@@ -18,10 +18,10 @@ use Rattle.tile_core.specs.Values.{event_site}
 use Rattle.tile_core.specs.Turns.{Won, Turn, cells_of, accesses_at}
 use Rattle.serial_order.proofs.Coherence.{Latest, untouched, touched, Candidates, coherent}
 use Rattle.serial_order.proofs.Ground.{end_small, inside, needed, apart, placed, place_is, other_end_is, joined}
-use Rattle.serial_order.proofs.Histories.{values, cell_at, IsHistory}
-use Rattle.serial_order.proofs.Edge.{Deeds, IsHoldOf, HasHold, cell_by, Earlier, earlier, differ, latest_is, Wrote}
-use Rattle.serial_order.proofs.News.{HasNews, IsNewsOf, News, quiet, by_own, by_other, news_is}
-use Rattle.serial_order.proofs.Deeds.{is_near, covers, at_place, bit_in, bit_clear, event_hold, covered, mine, theirs, spared, bits}
+use Rattle.serial_order.proofs.Histories.{values, cell_at}
+use Rattle.serial_order.proofs.Edge.{Deeds, HasHold, cell_by, Earlier, earlier, differ, latest_is, Wrote}
+use Rattle.serial_order.proofs.News.{HasNews, News, quiet, by_own, by_other, news_is}
+use Rattle.serial_order.proofs.Deeds.{is_near, covers, at_place, bit_in, bit_clear, event_hold, covered, bits}
 use Rattle.serial_order.proofs.Tile.{Played, Did, DidWrite, Past, past, grows, stamps, last_is}
 use Rattle.serial_order.proofs.Tile.{cell_by as cell_at_site}
 use Rattle.serial_order.proofs.OneEdge.{news_on}

@@ -1,8 +1,7 @@
 -- Two tiles that are at rest at the ends of an edge of one plain board have played there.
-use Rattle.std.proofs.Common.{ℕ, ◌≡◌, ◌<◌, List, length, take, refl, sym, ap, subst, ◌∙◌, arith, inl, ⊎_elim}
+use Rattle.std.proofs.Common.{ℕ, ◌≡◌, List, length, take, refl, sym, ap, subst, ◌∙◌, arith, inl, ⊎_elim}
 use Rattle.std.specs.Prelude.{min}
 use Rattle.std.proofs.lemmas.List.{length-take}
-use Rattle.tile_map.specs.Edges.{pairs_of}
 use Rattle.draw_stream.specs.declared.attempt.Attempt.{Attempt}
 use Rattle.edge_lock.specs.History.{own, site_count, IsEdgeHistory}
 use Rattle.edge_lock.specs.PlainEdges.{IsKept, view_of}

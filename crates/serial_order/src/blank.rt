@@ -10,7 +10,7 @@ use std::alloc::Global;
 use tile_map::Map;
 
 /// A rectangle of sites: its first site, and how many columns and rows it has.
-#[derive(Clone, Copy, Debug)]
+#[derive(Clone, Copy)]
 pub(crate) struct TileRectangle {
     pub(crate) left: u32,
     pub(crate) top: u32,

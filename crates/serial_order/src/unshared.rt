@@ -9,7 +9,7 @@ use tile_map::Map;
 
 /// A tile, and the columns and rows of its rectangle that no other tile holds: `left` and `top` are
 /// the first, `right` and `bottom` one more than the last.
-#[derive(Clone, Copy, Debug)]
+#[derive(Clone, Copy)]
 pub(crate) struct Unshared {
     pub(crate) tile: u32,
     pub(crate) left: u32,
