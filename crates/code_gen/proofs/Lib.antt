@@ -46,3 +46,4 @@ pub mod ElementBuilds
 pub mod Mapped
 mod Making
 mod Emitted
+mod DepthSteps

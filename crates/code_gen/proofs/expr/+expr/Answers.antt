@@ -2,12 +2,14 @@ use Rattle.std.proofs.Common.{rules, ◌-◌, arith, refl, sym, ◌≡◌, ◌�
 use Rattle.std.proofs.lemmas.Grind.{common_steps}
 use Rattle.std.proofs.lemmas.Result.{IfOk-weaker}
 use Rattle.ulam_tree.specs.TypedViews.{typed_args}
+use Rattle.ulam_meaning.specs.Programs.{Function}
 use Rattle.ulam_meaning.specs.Paths.{callee}
-use Rattle.code_gen.specs.Pieces.{Piece, none, seq}
-use Rattle.code_gen.specs.Clipped.{clip}
+use Rattle.ulam_meaning.specs.Expressions as meaning
+use Rattle.code_gen.specs.Pieces.{Piece, none, seq, asks}
+use Rattle.code_gen.specs.Clipped.{clip, clip_instr}
 use Rattle.code_gen.specs.Scheme.{nowhere, call_piece, if_nothing, args_piece}
 use Rattle.code_gen.specs.Seen.{scene_of, callee_of}
-use Rattle.code_gen.specs.Views.{piece_of}
+use Rattle.code_gen.specs.Views.{piece_of, key_of}
 use Rattle.code_gen.proofs.Clips.{call_done, pair_by}
 use Rattle.std.specs.Box.{box_value}
 use Rattle.code_gen.proofs.Making.{made_is}
@@ -67,3 +69,15 @@ pub args-loop-i-preserved : goal.args-loop-i-preserved
 args-loop-i-preserved t c =
     let i = c.loop-i.i in
     args_next (scene_of c.args.scene.now) c.args.list.now c.args.casts.now (i - 1) i c.index-list-i.result _ (piece_of c.in_ok-value.value) (piece_of c.fit.result) (piece_of c.loop-i.piece) (piece_of c.in_ok-piece.piece) (omega arith) (omega (arith, c.min-both.ensures)) (omega (arith, c.min-both.ensures)) c.index-list-i.is c.in_ok-value.ensures c.fit.ensures c.loop-i.invariant c.in_ok-piece.ensures
+
+pub expr-returns-in_ok-value-in-Prefix : goal.expr-returns-in_ok-value-in-Prefix
+expr-returns-in_ok-value-in-Prefix t c =
+    let d : c.deref-in-Prefix.result.now ≡ box_value c.in-Prefix.value = search rules in
+    let instr = sym (ap clip_instr c.prefix_instr.ensures.value) ∙ c.prefix_instr.ensures.whole in
+    made_is _ _ _ (rw (c.in-Prefix.is, c.in_ok-value-in-Prefix.ensures, d, instr) refl) c.then_instr.ensures
+
+pub call-returns-in_ok-list-in-Called : goal.call-returns-in_ok-list-in-Called
+call-returns-in_ok-list-in-Called t c =
+    let casts = c.as_slice.ensures.value ∙ c.in_ok-casts-in-Called.ensures ∙ ap (λ (f : Function). meaning.casts f.params) c.function-function.ensures in
+    let list = c.in_ok-list-in-Called.ensures ∙ ap (λ l. clip (args_piece (scene_of c.args.scene.now) (typed_args c.args.list.now) l)) casts in
+    made_is _ _ _ (rw c.in-Called.is (ap (λ p. seq p (asks (key_of c.in-Called.key))) list)) c.seq.ensures

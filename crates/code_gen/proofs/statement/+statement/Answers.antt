@@ -1,6 +1,7 @@
-use Rattle.std.proofs.Common.{rules, arith, ◌≡◌, ◌∙◌, option_map}
+use Rattle.std.proofs.Common.{rules, arith, refl, ◌≡◌, ◌∙◌, option_map}
 use Rattle.std.proofs.lemmas.Result.{IfOk-weaker}
 use Rattle.std.proofs.lemmas.Grind.{common_steps}
+use Rattle.std.specs.Box.{box_value}
 use Rattle.ulam_tree.specs.TypedViews.{typed_expr, typed_statement, typed_part}
 use Rattle.code_gen.specs.Pieces.{seq}
 use Rattle.code_gen.specs.Clipped.{clip}
@@ -10,6 +11,7 @@ use Rattle.code_gen.specs.Views.{piece_of}
 use Rattle.code_gen.proofs.Blocks.{block_is, body_step, body_done}
 use Rattle.code_gen.proofs.TypedCalls.{does_at}
 use Rattle.code_gen.proofs.TypedStatements.{block_at, if_done, for_done}
+use Rattle.code_gen.proofs.Making.{made_is}
 use Rattle.code_gen.proofs.statement.+statement.Goals as goal
 
 pub statement-returns-in-Block : goal.statement-returns-in-Block
@@ -54,3 +56,8 @@ body-loop-one-preserved t c =
 pub body-returns : goal.body-returns
 body-returns t c =
     block_is c.loop-one.pieces ∙ body_done (scene_of c.args.scene.now) c.args.list.now c.loop-one.one-index c.loop-one.pieces.items _ c.loop-one-test.false c.loop-one.invariant
+
+pub statement-returns-in_ok-body-in-While : goal.statement-returns-in_ok-body-in-While
+statement-returns-in_ok-body-in-While t c =
+    let d : c.deref-in-While.result.now ≡ box_value c.in-While.body = search rules in
+    made_is _ _ _ (rw (c.in-While.is, c.in_ok-test-in-While.ensures, c.in_ok-body-in-While.ensures, d) refl) c.test_loop.ensures
