@@ -1,8 +1,12 @@
--- What a draft's lists become with one more line.
-use Rattle.std.proofs.Common.{ℕ, zero, suc, nat_lt, false, ◌≡◌, ◌+◌, ◌*◌, ◌<◌, ◌≤◌, arith, List, [], ◌∷◌, ◌++◌, length, get_or, ap, ◌∙◌}
+-- What a draft's lists become with one more line, and what its plan needs.
+use Rattle.std.proofs.Common.{ℕ, zero, suc, nat_lt, false, not, ◌≡◌, ◌+◌, ◌*◌, ◌<◌, ◌≤◌, arith, List, [], ◌∷◌, ◌++◌, length, get_or, ap, ◌∙◌}
 use Rattle.std.proofs.Math.ListN.{set}
 use Rattle.std.proofs.lemmas.List.{get_or_default}
+use Rattle.list_laws.proofs.Filters.{filter_short}
+use Rattle.draw_stream.specs.Plans.{IsPlan, scripted}
 use Rattle.draw_stream.specs.declared.attempt.Attempt.{Attempt}
+use Rattle.tile_map.proofs.Numbers.{tiles_few}
+use Rattle.world_text.specs.Drafts.{DraftValue, IsDraft}
 
 pub tries_more : (lists : List (List Attempt)) (t : ℕ) (new old : List Attempt) (a : Attempt) → t < length lists → old ≡ get_or lists t old → new ≡ old ++ a ∷ [] →
     set lists t new ≡ set lists t (get_or lists t [] ++ a ∷ [])
@@ -15,3 +19,27 @@ count_fits k (suc n) some le = let e : k * suc n ≡ k + k * n = grind arith in 
 
 pub few_at : (k n : ℕ) → nat_lt 1000000 (k * n) ≡ false → k * n ≤ 1000000
 few_at k n h = grind arith
+
+-- a draft has marks, and few of them
+pub some_marks : (d : DraftValue) → IsDraft d → 1 ≤ length d.plane.off
+some_marks d k = omega (arith, k.on, filter_short not d.plane.off)
+
+pub few_marks : (d : DraftValue) → IsDraft d → length d.plane.off ≤ 64
+few_marks d k = omega (arith, k.map.marks, tiles_few d.plane k.map)
+
+-- a tile of a draft has sites, and few of them
+pub few_sites : (d : DraftValue) → IsDraft d → (1 ≤ d.plane.w * d.plane.h) × (d.plane.w * d.plane.h ≤ 4096)
+few_sites d k =
+    let z = k.map.sizes in
+    go d.plane.w d.plane.h z.w_low z.w_high z.h_low z.h_high
+  where
+    go : (a b : ℕ) → 8 ≤ a → a ≤ 64 → 8 ≤ b → b ≤ 64 → (1 ≤ a * b) × (a * b ≤ 4096)
+    go a b p q r s = (grind arith, grind arith)
+
+-- the lists of a draft are a plan
+pub draft_plan : (d : DraftValue) → IsDraft d → IsPlan (scripted d.tries)
+draft_plan d k = record {
+  some = omega (arith, k.lists, k.map.marks, some_marks d k);
+  most = omega (arith, k.lists, tiles_few d.plane k.map);
+  few = omega (arith, k.made, k.few);
+}

@@ -1,8 +1,8 @@
-use Rattle.std.proofs.Common.{ℕ, ◌≡◌, ◌+◌, ◌<◌, ◌==◌, ◌∙◌, Bool, List, ap, sym, length, map, take, drop, arith, true, false, not, refl, Some, is_some, subst, ◌++◌, ◌∷◌, []}
+use Rattle.std.proofs.Common.{ℕ, ◌≡◌, ◌+◌, ◌*◌, ◌^◌, ◌<◌, ◌==◌, ◌∙◌, Bool, List, ap, sym, length, map, replicate, take, drop, arith, true, false, not, refl, Some, is_some, subst, ◌++◌, ◌∷◌, []}
 use Rattle.std.specs.List.{list_any}
-use Rattle.std.proofs.lemmas.List.{length-set}
-use Rattle.std.proofs.lemmas.List.{take_all}
-use Rattle.world_text.proofs.Marks.{one_unknown, one_taken, one_fine, places_more, next_atom, no_atoms, marked_more, found_more}
+use Rattle.std.proofs.lemmas.List.{length-replicate, length-set, take_all}
+use Rattle.world_text.specs.declared.draft.RawAtom.{RawAtom}
+use Rattle.world_text.proofs.Marks.{unmarked, one_unknown, one_taken, one_fine, places_more, next_atom, no_atoms, marked_more, found_more}
 use Rattle.world_text.specs.Named.{name_fault, atom_place, placed, type_of, AreMarked}
 use Rattle.world_text.proofs.named.name_atoms.Goals as goal
 
@@ -13,6 +13,22 @@ taken_is false free e f = cc
 free_is : (marked free : Bool) → free ≡ not marked → free ≡ true → marked ≡ false
 free_is true free e f = cc
 free_is false free e f = refl
+
+pub loop-raw-init : goal.loop-raw-init
+loop-raw-init c =
+    let sites = c.args.width * c.args.height in
+    let none : c.in_ok-marks.marks.items ≡ replicate sites false = c.in_ok-marks.ensures.items_if_clones_equal (λ y h. h) in
+    record {
+      rest = refl;
+      found = c.new-found.ensures.items;
+      marked = subst (λ (q : List Bool). AreMarked q []) (sym none) (unmarked sites);
+      size = ap length none ∙ length-replicate sites false;
+    }
+
+pub atom_place-place-requires-clause-inside : goal.atom_place-place-requires-clause-inside
+atom_place-place-requires-clause-inside c =
+    let within = subst (λ (a : RawAtom). (a.x < c.args.width) × (a.y < c.args.height) × (a.state < 2 ^ 71)) (sym c.raw-item.is) (c.requires.inside c.loop-raw.raw-index c.raw-item.result (omega arith)) in
+    (within.0, within.1)
 
 pub returns-in_default : goal.returns-in_default
 returns-in_default c =
