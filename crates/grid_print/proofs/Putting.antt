@@ -1,5 +1,5 @@
 -- Parts of a text that were put one after another.
-use Rattle.std.proofs.Common.{ℕ, ◌≡◌, ◌+◌, ◌-◌, List, [], ◌++◌, length, refl, sym, ap, subst, arith, ◌∙◌, Option, Some, None, append_assoc, length-append, Result, Ok, Err}
+use Rattle.std.proofs.Common.{ℕ, ◌≡◌, ◌≢◌, ◌+◌, ◌-◌, ◌≤◌, List, [], ◌∷◌, ◌++◌, length, refl, sym, ap, subst, arith, ◌∙◌, Option, Some, None, append_assoc, length-append, Result, Ok, Err}
 use Rattle.std.specs.Result.{IsErr}
 use Rattle.std.proofs.lemmas.List.{append-nil}
 use Rattle.feast_base.specs.Outside.{Grows, SinkState}
@@ -72,3 +72,13 @@ underway_done a b text left u none = subst (λ z. IsPut a b z) (sym (u.split ∙
 pub underway_cut : {T : Type 0} (a b c : SinkState) (text left piece rest : List ℕ) (r : Result T SinkFailed) → IsErr r → IsUnderway a b text left → left ≡ piece ++ rest → IsCut b c piece → PutsAll a c text r
 underway_cut a b c text left piece rest (Ok x) e u is q = absurd (cc e)
 underway_cut a b c text left piece rest (Err x) e u is q = cut_then a b c u.front (piece ++ rest) text (u.split ∙ ap (λ z. u.front ++ z) is) u.put (cut_more b c piece rest q)
+
+-- whether anything is left
+
+pub nothing_left : (xs : List ℕ) → length xs ≡ 0 → xs ≡ []
+nothing_left [] h = refl
+nothing_left (x ∷ xs) h = absurd (omega (arith, h))
+
+pub some_left : (xs : List ℕ) → xs ≢ [] → 1 ≤ length xs
+some_left [] h = absurd (h refl)
+some_left (x ∷ xs) h = omega arith
