@@ -73,12 +73,7 @@ pub underway_cut : {T : Type 0} (a b c : SinkState) (text left piece rest : List
 underway_cut a b c text left piece rest (Ok x) e u is q = absurd (cc e)
 underway_cut a b c text left piece rest (Err x) e u is q = cut_then a b c u.front (piece ++ rest) text (u.split ∙ ap (λ z. u.front ++ z) is) u.put (cut_more b c piece rest q)
 
--- whether anything is left
-
-pub nothing_left : (xs : List ℕ) → length xs ≡ 0 → xs ≡ []
-nothing_left [] h = refl
-nothing_left (x ∷ xs) h = absurd (omega (arith, h))
-
+-- what is left has a byte, unless it is empty
 pub some_left : (xs : List ℕ) → xs ≢ [] → 1 ≤ length xs
 some_left [] h = absurd (h refl)
 some_left (x ∷ xs) h = omega arith

@@ -1,8 +1,9 @@
 use Rattle.std.proofs.Common.{◌≡◌, length, refl, arith, rules}
 use Rattle.std.proofs.lemmas.Grind.{common_steps}
+use Rattle.std.proofs.lemmas.List.{nil_from_length}
 use Rattle.feast_base.specs.Loading.{IsPut, IsCut}
 use Rattle.feast_base.specs.Outside.{SinkState}
-use Rattle.grid_print.proofs.Putting.{underway_none, underway_more, underway_cut, underway_done, nothing_left, some_left}
+use Rattle.grid_print.proofs.Putting.{underway_none, underway_more, underway_cut, underway_done, some_left}
 use Rattle.grid_print.proofs.page.put_pieces.Goals as goal
 
 pub loop-left-init : goal.loop-left-init
@@ -34,4 +35,4 @@ put_piece-requires-clause-full g c = λ more. omega (arith, some_left _ more, c.
 pub returns : goal.returns
 returns g c =
     let none : length c.loop-left.left.now ≡ 0 = first_of (search rules, grind (arith, common_steps)) in
-    underway_done _ _ c.args.bytes.now c.loop-left.left.now c.loop-left.invariant (nothing_left c.loop-left.left.now none)
+    underway_done _ _ c.args.bytes.now c.loop-left.left.now c.loop-left.invariant (nil_from_length c.loop-left.left.now none)
