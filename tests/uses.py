@@ -21,18 +21,19 @@ NOT_CODE = ("ghost use", "#[tactic", "//")
 
 @dataclass
 class Crate:
-    """A line of crates.txt, with what the crate's files say: its code without ghost imports, and all of them."""
+    """A line of crates.txt, with the words that the crate's files have where a library may be named: in the code
+    without ghost imports, and in contracts and proofs."""
 
     name: str
     libraries: list[str]
-    code: str
-    texts: str
+    in_code: set[str]
+    in_proofs: set[str]
 
     def has_in_code(self, library: str) -> bool:
-        return re.search(rf"\b{library}::|\buse {library}\b", self.code) is not None
+        return library in self.in_code
 
     def has(self, library: str) -> bool:
-        return self.has_in_code(library) or re.search(rf"\bRattle\.{library}\.", self.texts) is not None
+        return library in self.in_code or library in self.in_proofs
 
 
 def crates() -> list[Crate]:
@@ -42,8 +43,11 @@ def crates() -> list[Crate]:
         texts = [path.read_text() for path in sorted((TOP / "crates" / name / "src").rglob("*.rt"))]
         folders = [TOP / "crates" / name / part for part in ("specs", "proofs")]
         proofs = [path.read_text() for folder in folders for path in sorted(folder.rglob("*.antt"))]
-        lines = [line for text in texts for line in text.splitlines() if not line.lstrip().startswith(NOT_CODE)]
-        found.append(Crate(name, libraries.split(), "\n".join(lines), "\n".join(texts + proofs)))
+        lines = (line for text in texts for line in text.splitlines() if not line.lstrip().startswith(NOT_CODE))
+        code = "\n".join(lines)
+        in_code = {*re.findall(r"\b(\w+)::", code), *re.findall(r"\buse (\w+)", code)}
+        in_proofs = {word for text in texts + proofs for word in re.findall(r"\bRattle\.(\w+)\.", text)}
+        found.append(Crate(name, libraries.split(), in_code, in_proofs))
     return found
 
 
