@@ -151,6 +151,11 @@ class FirstCall(unittest.TestCase):
         self.assert_ran(Call(self, ["run"]).end(), "<run>")
         self.assertEqual(self.built()[5:], ["feast"])
 
+    def test_libraries_alone_have_sums(self) -> None:
+        Call(self, ["run"]).end()
+        sums = [note.stem for note in self.program.with_name("rlib").glob("*.sum")]
+        self.assertEqual(sorted(sums), ["beside", "high", "low", "middle"])
+
     def test_library_that_is_gone_is_made_again(self) -> None:
         Call(self, ["run"]).end()
         shutil.rmtree(self.program.with_name("rlib") / "beside.rlib")

@@ -49,8 +49,8 @@ class Libraries:
         self.note(crate.name).unlink(missing_ok=True)
 
     def finish(self, crate: Crate) -> None:
-        """Takes in that a library is made; if sources of its crate have changed meanwhile, it is not kept."""
-        if sum_of_sources(crate) == self.own[crate.name]:
+        """Takes in that a crate is proved. If it is a library, and its sources have not changed meanwhile, it is kept."""
+        if self.toolchain.library(crate.name).is_dir() and sum_of_sources(crate) == self.own[crate.name]:
             part = self.note(f"{crate.name}.{os.getpid()}")
             part.write_text(self.sums[crate.name])
             os.replace(part, self.note(crate.name))
