@@ -2,8 +2,8 @@ use Rattle.std.proofs.Common.{◌≡◌, ◌<◌, length, refl, sym, ap, ◌∙�
 use Rattle.tile_map.specs.Plane.{site, tiles_of}
 use Rattle.tile_map.specs.Edges.{needs_of}
 use Rattle.tile_core.specs.Turns.{AgreeOnEdges}
-use Rattle.tile_threads.proofs.LettingGo.{after_some}
-use Rattle.edge_lock.proofs.BoardLaws.{same_end}
+use Rattle.tile_threads.proofs.LettingGo.{after_some, gave_none}
+use Rattle.edge_lock.proofs.BoardLaws.{same_end, same_end_here}
 use Rattle.tile_threads.proofs.Resting.{nothing_left, site_inside, tile_inside, next_is_held, next_is_quiet, is_edge, given_more, given_all}
 use Rattle.border_cache.proofs.Stored.{end_stays}
 use Rattle.tile_threads.proofs.home.give_rest.Goals as goal
@@ -55,6 +55,15 @@ give_back-requires-clause-unwritten g c =
     let i = c.loop-i.invariant in
     let lt : c.loop-i.i < length c.needs-needs.result = let n = c.len-i-end.ensures.count in let t = c.loop-i-test.true in omega (arith, n, t) in
     next_is_quiet c.args.map.now c.args.tile.now.core (g.D.Board.end c.args.end.now).lists c.requires.done.stopped c.requires.done.underway c.in-Some.x c.in-Some.y (sym c.in-Some.is ∙ c.in_hand.ensures) c.needs-needs.result (c.needs-needs.ensures ∙ ap (λ t. needs_of c.args.map.now t (site c.in-Some.x c.in-Some.y)) c.number.ensures) (g.D.Board.end c.loop-i.end).lists c.loop-i.i c.edge.result lt c.edge.ensures i.given
+
+pub loop-i-init : goal.loop-i-init
+loop-i-init g c =
+    let a = g.D.Board.end c.args.end.now in
+    record {
+      given = gave_none c.args.map.now c.args.tile.now.core.number c.needs-needs.result a.lists;
+      same = same_end_here a;
+      moved = g.met.D.Board.moved_same c.args.end.now;
+    }
 
 pub loop-i-preserved : goal.loop-i-preserved
 loop-i-preserved g c =
