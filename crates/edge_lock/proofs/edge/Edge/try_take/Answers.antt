@@ -1,4 +1,4 @@
-use Rattle.std.proofs.Common.{arith, sym, ap, ◌∙◌, subst, ◌≡◌, ◌+◌, ◌*◌, ◌<◌, ℕ}
+use Rattle.std.proofs.Common.{arith, rules, sym, ap, ◌∙◌, subst, ◌≡◌, ◌+◌, ◌*◌, ◌<◌, ℕ}
 use Rattle.edge_lock.specs.EndLists.{IsNew, IsFree}
 use Rattle.edge_lock.specs.Passes.{EdgeValue, PassValue, IsPaired}
 use Rattle.edge_lock.proofs.SharedSteps.{tries_as}
@@ -17,3 +17,6 @@ compare_exchange-found-requires c =
 
 pub returns-clause-end : goal.returns-clause-end
 returns-clause-end c = subst (λ (p : PassValue). p.end < 2) c.pass.view_is c.pass.invariant.0
+
+pub returns-clause-pass : goal.returns-clause-pass
+returns-clause-pass c = search rules
