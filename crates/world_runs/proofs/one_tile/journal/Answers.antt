@@ -1,6 +1,7 @@
-use Rattle.std.proofs.Common.{ap}
+use Rattle.std.proofs.Common.{ap, ◌∷◌, [], ◌∙◌}
 use Rattle.std.proofs.lemmas.Result.{IfOk-weaker}
-use Rattle.event_journal.specs.Logs.{abandoned_in}
+use Rattle.event_journal.specs.Logs.{abandoned_in, log_of}
+use Rattle.world_runs.specs.OneTile.{events_from}
 use Rattle.world_runs.proofs.Alone.{events_few, events_log, journal_holds}
 use Rattle.world_runs.proofs.one_tile.journal.Goals as goal
 
@@ -15,3 +16,8 @@ returns-clause-records g c = journal_holds c.args.map.now c.in_ok-attempts.attem
 
 pub returns-clause-abandoned : goal.returns-clause-abandoned
 returns-clause-abandoned g c = IfOk-weaker c.journal_of.result _ _ (λ j is. ap abandoned_in is) c.journal_of.ensures
+
+pub returns-clause-logs : goal.returns-clause-logs
+returns-clause-logs g c =
+    let m = c.args.map.now in
+    IfOk-weaker c.journal_of.result _ _ (λ j is. is ∙ ap (λ rs. log_of 0 rs [] ∷ []) (c.in_ok-records.ensures ∙ ap (events_from m 0) c.in_ok-attempts.ensures.value)) c.journal_of.ensures
