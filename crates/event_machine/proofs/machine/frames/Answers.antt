@@ -1,0 +1,8 @@
+use Rattle.std.proofs.Common.{arith}
+use Rattle.event_machine.proofs.machine.frames.Goals as goal
+
+pub loop-alloc-preserved : goal.loop-alloc-preserved
+loop-alloc-preserved c = record {
+  len = omega arith;
+  room = omega arith;
+}
