@@ -1,0 +1,6 @@
+use Rattle.std.proofs.Common.{rules}
+use Rattle.std.proofs.lemmas.Int.{ints}
+use Rattle.sat_math.proofs.arithmetic.neg.Goals as goal
+
+pub returns-clause-value : goal.returns-clause-value
+returns-clause-value c = search (ints, rules, c.nearest.ensures.value)
