@@ -6,15 +6,15 @@ after the last look is missed.
 
 from __future__ import annotations
 
-import os
 from dataclasses import dataclass
 from enum import Enum
 from pathlib import Path
-from typing import Iterator, Optional, Sequence
+from typing import Optional, Sequence
+
+from first_call.processes import Process, processes
 
 # the toolchain's program that checks crates
 CHECKER = "rattle"
-TICKS = os.sysconf("SC_CLK_TCK")
 
 
 class Part(Enum):
@@ -33,38 +33,6 @@ class Check:
     crate: str
     part: Part
     seconds: float = 0.0
-
-
-@dataclass(frozen=True)
-class Process:
-    """A process: its folder in /proc, when it began, which tells it from later ones of its number, its session, and
-    for how many seconds it has had a processor."""
-
-    folder: Path
-    begin: int
-    session: int
-    seconds: float
-
-    @classmethod
-    def read(cls, folder: Path) -> Process:
-        """A process as it is now. OSError or IndexError if it has ended."""
-        # Behind the name, which stands in brackets: state, parent, group, session; from the twelfth on, times.
-        fields = (folder / "stat").read_text(errors="replace").rpartition(")")[2].split()
-        return cls(folder, int(fields[19]), int(fields[3]), (int(fields[11]) + int(fields[12])) / TICKS)
-
-    def words(self) -> list[str]:
-        """The words of its command. OSError if it has ended."""
-        return [os.fsdecode(word) for word in (self.folder / "cmdline").read_bytes().split(b"\0")]
-
-
-def processes() -> Iterator[Process]:
-    """The processes that run now."""
-    for folder in Path("/proc").iterdir():
-        if folder.name.isdecimal():
-            try:
-                yield Process.read(folder)
-            except (OSError, IndexError):
-                continue
 
 
 def crate_of(words: Sequence[str]) -> Optional[str]:
@@ -103,7 +71,7 @@ class Watch:
             if crate is None:
                 return
             self.seen[key] = Check(crate, self.part(crate, words))
-        self.seen[key].seconds = process.seconds
+        self.seen[key].seconds = process.own
 
     def part(self, crate: str, words: Sequence[str]) -> Part:
         """What a check is for. The first of a crate's edits is checked over a folder where nothing is kept yet."""

@@ -10,8 +10,9 @@ TOP = pathlib.Path(__file__).resolve().parent.parent
 sys.path.insert(0, str(TOP / "tools"))
 
 from first_call import seconds  # noqa: E402
-from first_call.children import GIVING_WAY, Child, spent_by_sessions  # noqa: E402
+from first_call.children import GIVING_WAY, Child  # noqa: E402
 from first_call.crates import Crate, chains, crates_of_program  # noqa: E402
+from first_call.processes import spent_by_sessions  # noqa: E402
 from first_call.progress import Progress, Status, wall_time  # noqa: E402
 from first_call.teller import as_bar  # noqa: E402
 

@@ -17,4 +17,5 @@
   faults     what the toolchain said of what it could not prove
   teller     standard error: a bar, or lines
   children   processes that are started, watched and ended
+  processes  what the system says of those that run
 """

@@ -8,11 +8,11 @@ from pathlib import Path
 from typing import Callable
 
 from first_call import seconds
-from first_call.children import spent_by_sessions
 from first_call.crates import chains, crates_of_program
 from first_call.faults import said_of_faults
 from first_call.libraries import Libraries
 from first_call.machine import jobs_each, lanes_here
+from first_call.processes import spent_by_sessions
 from first_call.progress import Progress
 from first_call.teller import Teller, spoken
 from first_call.toolchain import Toolchain

@@ -5,7 +5,6 @@ import os
 import signal
 import subprocess
 import time
-from collections import defaultdict
 from pathlib import Path
 from typing import IO, Optional, Sequence
 
@@ -63,19 +62,3 @@ class Child:
 def pause() -> None:
     """Waits a moment."""
     time.sleep(TICK)
-
-
-def spent_by_sessions() -> dict[int, float]:
-    """For each session the seconds that its processes, and those that they have waited for, had a processor."""
-    ticks = os.sysconf("SC_CLK_TCK")
-    found: defaultdict[int, float] = defaultdict(float)
-    for entry in Path("/proc").iterdir():
-        if not entry.name.isdigit():
-            continue
-        try:
-            # Behind the name, which stands in brackets: state, parent, group, session; from the twelfth on, times.
-            fields = (entry / "stat").read_text(errors="replace").rpartition(")")[2].split()
-            found[int(fields[3])] += sum(map(int, fields[11:15])) / ticks
-        except (OSError, IndexError, ValueError):
-            continue
-    return dict(found)
