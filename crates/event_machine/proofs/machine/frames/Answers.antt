@@ -6,3 +6,6 @@ loop-alloc-preserved c = record {
   len = omega arith;
   room = omega arith;
 }
+
+pub push_reserved-requires : goal.push_reserved-requires
+push_reserved-requires c = omega arith
