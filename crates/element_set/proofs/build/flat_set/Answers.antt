@@ -1,4 +1,4 @@
-use Rattle.std.proofs.Common.{◌≡◌, length, None, refl, ap, subst, ◌∙◌}
+use Rattle.std.proofs.Common.{◌≡◌, length, None, refl, ap, subst, ◌∙◌, rules}
 use Rattle.std.proofs.lemmas.List.{length-map}
 use Rattle.ulam_heirs.specs.Faults.{first_fault}
 use Rattle.ulam_heirs.specs.Files.{all_heirs, flat_files}
@@ -27,3 +27,6 @@ returns c =
     let found = ap program items ∙ enough files heads long in
     let tells = tells_like set_value (all_items c.in_ok-flat.flat.items) (in_row (flat_files files heads)) found c.named_set.result c.named_set.ensures in
     tells_then set_value (stage.flat (trees_value trees)) stage.named_set (in_row (flat_files files heads)) c.named_set.result (sound, refl) tells
+
+pub returns-in_err-flat : goal.returns-in_err-flat
+returns-in_err-flat c = search rules
