@@ -2,7 +2,7 @@ use Rattle.std.proofs.Common.{rules, arith, ◌+◌, ◌-◌}
 use Rattle.std.proofs.lemmas.Grind.{common_steps}
 use Rattle.ulam_tree.specs.RawViews.{body_list}
 use Rattle.ulam_parse.specs.Views.{from}
-use Rattle.ulam_parse.specs.Statements.{body, with_body, statement_in}
+use Rattle.ulam_parse.specs.Statements.{body, with_body, statement_in, if_rest}
 use Rattle.ulam_parse.proofs.Steps.{statement_tired}
 use Rattle.ulam_parse.proofs.Loops.{body_none, body_step}
 use Rattle.ulam_parse.proofs.Turns.{one_more, no_more}
@@ -34,3 +34,7 @@ unfolding body
 body_in-returns t c =
     let e = no_more (λ n. with_body (body_list c.turns.found.items) (body (statement_in c.args.steps) n (from c.args.tape.now c.turns.next))) _ c.turns._turn c.turns-test.false c.turns.invariant in
     first_of (search (rules), grind (arith, common_steps))
+
+pub if_rest-returns : goal.if_rest-returns
+unfolding if_rest
+if_rest-returns t c = search rules
