@@ -1,5 +1,5 @@
 #!/usr/bin/env python3
-"""Tests that each crate has its edits that the check must refuse, and that each can be applied: edits.py [CRATE..].
+"""Tests that each crate has its edits that the check must refuse, and that each can be applied: edits.py [NAME..].
 
 The edits are crates/CRATE/must-fail/*.edit. An edit can be applied if its files are there, each text that it
 replaces stands in its file once, and it changes something. Nothing is proved here: the gate tries the edits, and
@@ -7,10 +7,13 @@ replaces stands in its file once, and it changes something. Nothing is proved he
 """
 from __future__ import annotations
 
-import argparse
 import pathlib
 import sys
-from typing import Iterator
+from functools import partial
+from typing import Iterator, Optional
+
+sys.dont_write_bytecode = True
+from checks import Check  # noqa: E402
 
 TOP = pathlib.Path(__file__).resolve().parent.parent
 PARTS = ("src", "specs", "proofs")
@@ -80,41 +83,30 @@ def fewest(crate: str) -> int:
     return 0 if crate.startswith(CASES) else FEWER.get(crate, FEWEST)
 
 
-def count_edits(crates: list[str]) -> int:
-    """Tests that each crate has its edits, and says how many crates have too few."""
-    few = [name for name in crates if len(edits_of(name)) < fewest(name)]
-    for name in few:
-        print(f"{name}: {len(edits_of(name))} edits, and {fewest(name)} are wanted")
-    return len(few)
+def too_few(crate: str) -> Optional[str]:
+    """Whether a crate has too few edits."""
+    found, wanted = len(edits_of(crate)), fewest(crate)
+    return f"{found} edits, and {wanted} are wanted" if found < wanted else None
 
 
-def try_edits(crates: list[str]) -> int:
-    """Tests that each edit can be applied, and says how many can't."""
-    edits, faults = [edit for name in crates for edit in edits_of(name)], 0
-    for edit in edits:
-        try:
-            apply(edit, edit.parent.parent)
-        except Fault as fault:
-            faults += 1
-            print(f"{edit.relative_to(TOP)}: {fault}")
-    print(f"{len(edits) - faults} edits can be applied, {faults} can't")
-    return faults
+def why_not(edit: pathlib.Path) -> Optional[str]:
+    """Why an edit can't be applied."""
+    try:
+        apply(edit, edit.parent.parent)
+    except Fault as fault:
+        return str(fault)
+    return None
 
 
-def main() -> int:
-    """The command."""
-    parser = argparse.ArgumentParser(description="Tests the edits that the check must refuse.")
-    parser.add_argument("crates", metavar="CRATE", nargs="*", help="of these crates alone")
-    given = parser.parse_args()
-    known = sorted(it.name for it in (TOP / "crates").iterdir())
-    lost = sorted(set(given.crates) - set(known))
-    if lost:
-        print(f"edits.py: there is no crate {', '.join(lost)}", file=sys.stderr)
-        return 2
-    crates = given.crates or known
-    faults = count_edits(crates) + try_edits(crates)
-    return 1 if faults else 0
+def checks(_: object) -> Iterator[Check]:
+    """A check for each crate, whether it has enough edits, and one for each edit."""
+    for folder in sorted((TOP / "crates").iterdir()):
+        yield Check(folder.name, partial(too_few, folder.name))
+        for edit in edits_of(folder.name):
+            yield Check(f"{folder.name}/{edit.stem}", partial(why_not, edit))
 
 
 if __name__ == "__main__":
-    sys.exit(main())
+    from driver import only
+
+    sys.exit(only("edits"))

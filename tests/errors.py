@@ -10,14 +10,17 @@ from __future__ import annotations
 
 import pathlib
 import re
-import subprocess
 import sys
-import tempfile
-from typing import Iterator, Optional, Union
+from functools import partial
+from typing import Iterator, Optional
+
+sys.dont_write_bytecode = True
+from checks import Check  # noqa: E402
+from program import File, called  # noqa: E402
+from refusals import status_of  # noqa: E402
 
 TOP = pathlib.Path(__file__).resolve().parent.parent
 WALKER = (TOP / "examples/walker.ulam").read_text()
-STATUS = {1: 4, 2: 4, 3: 4, 4: 4, 5: 4, 60: 4, 6: 9, 7: 5, 8: 6}
 
 
 def element(example: str) -> str:
@@ -56,17 +59,14 @@ def rows(page: str) -> Iterator[tuple[list[str], list[list[str]]]]:
         is_inside = line.startswith("    ")
 
 
-def packed(program: str, source: str) -> bytes:
+def packed(program: pathlib.Path, source: str) -> bytes:
     """The code file of a source."""
-    with tempfile.NamedTemporaryFile("w") as file:
-        file.write(source)
-        file.flush()
-        return subprocess.run([program, "pack", file.name], capture_output=True, timeout=60).stdout
+    return called(program, ["pack", "source"], {"source": source})[1]
 
 
 def files_of(
-    program: str, code: int, example: str, blocks: list[list[str]]
-) -> tuple[dict[str, Union[str, bytes]], list[str], str]:
+    program: pathlib.Path, code: int, example: str, blocks: list[list[str]]
+) -> tuple[dict[str, File], list[str], str]:
     """The files of an example, the words of its call, and the file that is refused."""
     if 61 <= code <= 64:
         code_file = changed_bytes(packed(program, blocks[-1][0]), example)
@@ -76,35 +76,30 @@ def files_of(
         return {"a": element(example)}, ["check", "a"], "a"
     if code < 80:
         return {"w": changed(blocks[-1], example), "e": WALKER}, ["step", "w", "e"], "w"
-    files = {"w": changed(blocks[-2], ""), "j": changed(blocks[-1], example), "e": WALKER}
+    files: dict[str, File] = {"w": changed(blocks[-2], ""), "j": changed(blocks[-1], example), "e": WALKER}
     times = re.search(r"with K (\d+)", example)
     return files, ["rewind", "w", "j", times[1], "e"] if times else ["replay", "w", "j", "e"], "j"
 
 
-def fault(program: str, cells: list[str], blocks: list[list[str]]) -> Optional[str]:
+def fault(program: pathlib.Path, cells: list[str], blocks: list[list[str]]) -> Optional[str]:
     """What is wrong with a row, or None."""
     code, text, _, example, place = cells
-    number = int(code[1:])
-    files, words, name = files_of(program, number, example, blocks)
-    with tempfile.TemporaryDirectory() as folder:
-        for file, content in files.items():
-            (pathlib.Path(folder) / file).write_bytes(content if isinstance(content, bytes) else content.encode())
-        done = subprocess.run([program, *words], cwd=folder, capture_output=True, text=True, timeout=60)
+    files, words, name = files_of(program, int(code[1:]), example, blocks)
+    status, output = called(program, words, files)
     wanted = re.escape(f"{name}:{place}: {code} {text.strip('`')}").replace("N", r"\d+") + "\n"
-    if done.returncode != STATUS.get(number, STATUS[number // 10]) or not re.fullmatch(wanted, done.stdout):
-        return f"{code}: status {done.returncode}, {done.stdout[:200]!r}"
+    if status != status_of(code) or not re.fullmatch(wanted, output.decode(errors="replace")):
+        return f"{code}: status {status}, {output[:200]!r}"
     return None
 
 
-def main() -> int:
-    """The command."""
-    program = str(pathlib.Path(sys.argv[1]).resolve())
+def checks(program: pathlib.Path) -> Iterator[Check]:
+    """A check for each row with an example, by its code and its number from 1."""
     page = (TOP / "docs/errors.md").read_text()
-    faults = [fault(program, *row) for row in rows(page)]
-    found = [it for it in faults if it is not None]
-    print(*found, f"{len(faults) - len(found)} passed, {len(found)} failed", sep="\n")
-    return 1 if found else 0
+    for number, (cells, blocks) in enumerate(rows(page), 1):
+        yield Check(f"{cells[0]}/{number}", partial(fault, program, cells, list(blocks)))
 
 
 if __name__ == "__main__":
-    sys.exit(main())
+    from driver import only
+
+    sys.exit(only("errors"))

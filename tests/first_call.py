@@ -1,12 +1,11 @@
 #!/usr/bin/env python3
-"""Tries the first call of `./feast` on a small repository with a toolchain that only pretends: first_call.py [TEST..].
+"""Tries the first call of `./feast` on a small repository with a toolchain that only pretends: first_call.py [NAME..].
 
 The repository is made in a temporary folder, with a copy of `feast` and of tools/first_call and five crates.
 The toolchain is tests/fakes: it takes tenths of a second for a crate, and notes its calls.
 """
 from __future__ import annotations
 
-import concurrent.futures
 import os
 import pathlib
 import pty
@@ -18,17 +17,23 @@ import sys
 import tempfile
 import time
 import unittest
+from typing import Iterator
 
 TOP = pathlib.Path(__file__).resolve().parent.parent
 sys.dont_write_bytecode = True
 
-from first_call_parts import Crates, Estimates, Lines, Sessions  # noqa: E402, F401
+from checks import flat  # noqa: E402
+from first_call_parts import Crates, Estimates, Lines, Sessions  # noqa: E402
 
+# (calls here are to build their own program)
+os.environ.pop("FEAST_PROGRAM", None)
 FAKES = TOP / "tests" / "fakes" / "bin"
 CRATES = "low:\nmiddle: low itoa # stands on low\nbeside: low\nhigh: middle beside\nfeast: high low\nother: low\n"
 SOURCE = "// a source\n"
 # What the program of the pretended toolchain writes, and its status.
 PROVED, STATUS = "proved call of", 3
+# How long a call may take, in seconds; on a busy machine it may be a hundred times as long as by itself.
+PATIENCE = 600
 
 
 class Call:
@@ -50,7 +55,7 @@ class Call:
 
     def end(self) -> tuple[int, str, str]:
         """The status, standard output and standard error."""
-        out, err = self.process.communicate(timeout=60)
+        out, err = self.process.communicate(timeout=PATIENCE)
         return self.process.returncode, out, err
 
 
@@ -97,7 +102,7 @@ class FirstCall(unittest.TestCase):
 
     def wait_for(self, what: str) -> None:
         """Waits until the toolchain has begun a call."""
-        end = time.monotonic() + 20
+        end = time.monotonic() + PATIENCE
         while not self.count(what) and time.monotonic() < end:
             time.sleep(0.02)
         self.assertTrue(self.count(what), what)
@@ -122,11 +127,10 @@ class FirstCall(unittest.TestCase):
     def test_built_program_is_run_at_once(self) -> None:
         Call(self, ["run"]).end()
         before = self.calls()
-        begin = time.monotonic()
         ended = Call(self, ["check", "world"]).end()
         self.assert_ran(ended, "<check> <world>")
-        self.assertEqual(ended[2], "")
-        self.assertLess(time.monotonic() - begin, 0.5)
+        refused = f"feast: the call was refused, with status {STATUS}: standard output has the reason\n"
+        self.assertEqual(ended[2], refused)
         self.assertEqual(self.calls(), before)
 
     def write(self, name: str, text: str) -> None:
@@ -210,7 +214,7 @@ class FirstCall(unittest.TestCase):
         )
         os.close(theirs)
         told = read_all(ours)
-        out = process.communicate(timeout=60)[0]
+        out = process.communicate(timeout=PATIENCE)[0]
         self.assertEqual(out, b"proved call of <run>\n")
         gone = r"\d+ s gone, (\d+ (s|min) left|soon done)"
         self.assertRegex(told, rf"\r\x1b\[K\[#+\.+\] 1/5 crates, {gone}: proving middle, beside\r")
@@ -335,26 +339,13 @@ def left_over(top: pathlib.Path) -> list[str]:
     return found
 
 
-def main() -> int:
-    """Tries all, several at a time, since they mostly wait."""
-
-    # (what a shell starts in the background ignores interrupts, and so would the calls)
-    signal.signal(signal.SIGINT, signal.default_int_handler)
-
-    def tried(case: unittest.TestCase) -> unittest.TestResult:
-        return case.run(unittest.TestResult()) or unittest.TestResult()
-
-    kinds = [kind for kind in globals().values() if isinstance(kind, type) and issubclass(kind, unittest.TestCase)]
-    names = [(kind, name) for kind in kinds for name in unittest.defaultTestLoader.getTestCaseNames(kind)]
-    cases = [kind(name) for kind, name in names if name in (sys.argv[1:] or [name])]
-    with concurrent.futures.ThreadPoolExecutor(4) as pool:
-        results = list(pool.map(tried, cases))
-    faults = [fault for result in results for fault in [*result.failures, *result.errors]]
-    for case, said in faults:
-        print(f"{case}:\n{said}")
-    print(f"{len(cases) - len(faults)} passed, {len(faults)} failed")
-    return 1 if faults else 0
+def checks(_: object) -> Iterator[unittest.TestCase]:
+    """The tests of the first call, and those of its parts."""
+    for kind in (FirstCall, Crates, Estimates, Lines, Sessions):
+        yield from flat(unittest.defaultTestLoader.loadTestsFromTestCase(kind))
 
 
 if __name__ == "__main__":
-    sys.exit(main())
+    from driver import only
+
+    sys.exit(only("first_call"))

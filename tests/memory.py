@@ -67,7 +67,7 @@ def is_handed_on(code: Code, function: Optional[Function], begin: int) -> bool:
     """Whether the value that is made there hands on the error of an allocation."""
     if function and function.name == "from" and REFUSED.search(code.text[function.start : function.body]):
         return True
-    at = begin
+    at: Optional[int] = begin
     while at is not None and (function is None or at > function.body):
         before = code.before(at).removesuffix("Err(").rstrip().removesuffix("return").rstrip()
         if before.endswith("=>"):

@@ -5,9 +5,10 @@ Of each page (*.md): a link leads to a file; a path in backquotes that begins wi
 repository is there. A block of text after a paragraph that ends with a path in backquotes and a colon is
 that file, or its first lines if the paragraph says so. A block of classes is a file that `check` accepts.
 A block of commands is run by a shell, in a folder that looks like the top of a clone, one block of a page
-after another, and writes nothing to standard error but how far it has come; a block after a paragraph that ends with `writes` has what the last one wrote, and one
-after `begins with` the first lines of it. The map of crates has a row for each crate of crates.txt. A page
-has at most 200 lines, and the README names each page of docs.
+after another, and writes nothing to standard error but how far it has come and whether tiles kept pace; a block
+after a paragraph that ends with `writes` has what the last one wrote, and one after `begins with` the first lines
+of it. The map of crates has a row for each crate of crates.txt. The folder `work` looks like the top of a clone to
+commands. A page has at most 200 lines, and the README names each page of docs.
 """
 from __future__ import annotations
 
@@ -18,17 +19,21 @@ import shutil
 import subprocess
 import sys
 import tempfile
-from typing import Iterator
+from functools import partial
+from typing import Iterator, Optional
+
+sys.dont_write_bytecode = True
+from checks import Check  # noqa: E402
 
 TOP = pathlib.Path(__file__).resolve().parent.parent
-FOLDERS = "bench|crates|docs|examples|tests"
+FOLDERS = "bench|crates|docs|editors|examples|tests|tools|work"
 MOST_LINES = 200
 # How the commands of a page begin, and the classes. Commands for no file in particular have NAME in place of one. A
 # block that `check` writes begins like a class, but without a brace.
 COMMANDS = ("./feast ", "./lab ", "grep ", "sed ", "for ", "python3 examples/")
 CLASSES = re.compile(r"(element|quark) [^\n]*\{|/\*\* ")
-# The lines in which the lab says how far it has come.
-PROGRESS = re.compile(r"^.*: \d+ % done.*\n", re.MULTILINE)
+# The lines in which the lab says how far it has come, and that the threads of a run were apart, which they may be.
+PROGRESS = re.compile(r"^(.*: \d+ % done.*|lab: warning: .*: the tiles did not keep pace: .*)\n", re.MULTILINE)
 
 
 def pieces(page: str) -> Iterator[tuple[str, str]]:
@@ -81,6 +86,8 @@ def wrong_blocks(program: str, page: str, folder: pathlib.Path) -> Iterator[str]
     wrote = None
     for before, block in pieces(page):
         file = re.search(r"`(examples/\S+)`:$", before)
+        if block.startswith("./lab live "):  # serves until it is interrupted; tests/lab/test_live.py tries it
+            continue
         if block.startswith(COMMANDS) and "NAME" not in block:
             done = call(program, block, folder)
             wrote = done.stdout
@@ -117,6 +124,15 @@ def list_faults() -> list[str]:
     return [f"README.md: {page} is not named" for page in pages if f"`{page}`" not in readme]
 
 
+def work_faults() -> list[str]:
+    """What the folder `work` lacks to look like the top of a clone to the commands, and what git sees of theirs there."""
+    lost = [f"work/{name} is no link to {name}" for name in ("examples", "feast", "lab")
+            if (TOP / "work" / name).resolve() != TOP / name]
+    made = ["work/report", "work/heal/course.csv", "work/fence.html"]
+    ignored = subprocess.run(["git", "check-ignore", *made], cwd=TOP, capture_output=True, text=True, check=False).stdout
+    return lost + [f"{name} is not ignored" for name in made if name not in ignored.split()]
+
+
 def faults(program: str, path: pathlib.Path) -> list[str]:
     """What is wrong with a page."""
     page = path.read_text()
@@ -128,15 +144,27 @@ def faults(program: str, path: pathlib.Path) -> list[str]:
         return [*too_long, *lost_paths(page, path.parent), *wrong_blocks(program, page, folder)]
 
 
-def main() -> int:
-    """The command."""
-    program = str(pathlib.Path(sys.argv[1]).resolve())
+def said(found: list[str]) -> Optional[str]:
+    """Faults as one text; None if there are none."""
+    return "\n".join(found) or None
+
+
+def checks(program: pathlib.Path) -> Iterator[Check]:
+    """A check for each page, one for the map of crates and one for the list of pages."""
     pages = subprocess.run(["git", "ls-files", "*.md"], cwd=TOP, capture_output=True, text=True, check=True).stdout
-    found = [f"{page}: {fault}" for page in pages.split() for fault in faults(program, TOP / page)]
-    found += map_faults() + list_faults()
-    print(*found, f"{len(pages.split())} pages, {len(found)} faults", sep="\n")
-    return 1 if found else 0
+    for page in pages.split():
+        yield Check(page, partial(page_fault, str(program), TOP / page))
+    yield Check("the map of crates", lambda: said(map_faults()))
+    yield Check("the list of pages", lambda: said(list_faults()))
+    yield Check("the folder work", lambda: said(work_faults()))
+
+
+def page_fault(program: str, page: pathlib.Path) -> Optional[str]:
+    """What is wrong with a page."""
+    return said(faults(program, page))
 
 
 if __name__ == "__main__":
-    sys.exit(main())
+    from driver import only
+
+    sys.exit(only("pages"))

@@ -17,7 +17,12 @@ import shutil
 import subprocess
 import sys
 import tempfile
-from typing import IO, Optional, Sequence, Union
+from functools import partial
+from typing import Iterator, Optional
+
+sys.dont_write_bytecode = True
+from checks import Check  # noqa: E402
+from program import call  # noqa: E402
 
 CASES = pathlib.Path(__file__).resolve().parent / "cases"
 EXAMPLES = CASES.parent.parent / "examples"
@@ -45,22 +50,7 @@ def copy_examples(folder: pathlib.Path) -> None:
             shutil.copy(EXAMPLES / name, folder)
 
 
-def call(
-    program: str, folder: pathlib.Path, words: Sequence[bytes], stdout: Union[int, IO[bytes]] = subprocess.PIPE
-) -> subprocess.CompletedProcess[bytes]:
-    """One call of the program."""
-    return subprocess.run(
-        [program.encode(), *words],
-        cwd=folder,
-        stdin=subprocess.DEVNULL,
-        stdout=stdout,
-        stderr=subprocess.DEVNULL,
-        timeout=60,
-        check=False,
-    )
-
-
-def run(program: str, case: pathlib.Path) -> Optional[str]:
+def run(program: pathlib.Path, case: pathlib.Path) -> Optional[str]:
     """What is wrong with a case, or None."""
     with tempfile.TemporaryDirectory() as folder:
         copy = pathlib.Path(folder) / case.name
@@ -69,11 +59,11 @@ def run(program: str, case: pathlib.Path) -> Optional[str]:
         copy_examples(copy)
         full = (case / "stdout").exists()
         with open("/dev/full", "wb") as device:
-            done = call(program, copy, words_of(case / "args"), device if full else subprocess.PIPE)
+            done = call(program, words_of(case / "args"), copy, device if full else subprocess.PIPE)
         first = done
         if (case / "then").exists():
             (copy / "report").write_bytes(first.stdout)
-            done = call(program, copy, words_of(case / "then"))
+            done = call(program, words_of(case / "then"), copy)
     status = int((case / "status").read_text())
     if done.returncode != status:
         return f"status {done.returncode}, not {status}"
@@ -86,19 +76,19 @@ def run(program: str, case: pathlib.Path) -> Optional[str]:
     return None if is_right else f"wrote {done.stdout[:200]!r}"
 
 
-def main() -> int:
-    """The command."""
-    program = str(pathlib.Path(sys.argv[1]).resolve())
-    names = sys.argv[2:] or sorted(case.name for case in CASES.iterdir())
-    failed = 0
-    for name in names:
-        fault = run(program, CASES / name)
-        if fault is not None:
-            failed += 1
-            print(f"{name}: {(CASES / name / 'shows').read_text().strip()}: {fault}")
-    print(f"{len(names) - failed} passed, {failed} failed")
-    return 1 if failed else 0
+def checks(program: pathlib.Path) -> Iterator[Check]:
+    """A check for each case."""
+    for case in sorted(CASES.iterdir()):
+        yield Check(case.name, partial(fault, program, case))
+
+
+def fault(program: pathlib.Path, case: pathlib.Path) -> Optional[str]:
+    """What is wrong with a case, behind what it shows."""
+    said = run(program, case)
+    return said and f"{(case / 'shows').read_text().strip()}: {said}"
 
 
 if __name__ == "__main__":
-    sys.exit(main())
+    from driver import only
+
+    sys.exit(only("cases"))

@@ -9,6 +9,7 @@ the same. The subjects:
   readings      texts that are read as others, whose groups are written out
   names         texts that break a rule on names, and how many names there may be
   classes       the bits of classes and of their data members
+  bases         which members and functions heirs have, and where faults of bases are told
   stages        which of two faults is told
   typing_rules  bodies that have types, and bodies that have none
   codes         files with the code of their elements
@@ -22,41 +23,32 @@ the same. The subjects:
 """
 from __future__ import annotations
 
-import argparse
 import importlib
 import pathlib
 import sys
+from functools import partial
+from typing import Iterator
 
 HERE = pathlib.Path(__file__).resolve().parent
 sys.dont_write_bytecode = True
 sys.path.insert(0, str(HERE / "tables"))
 
+from checks import Check  # noqa: E402
+
 SUBJECTS = (
-    "tokens grammar readings names classes stages typing_rules codes code_files stack_codes number_ends arithmetic "
+    "tokens grammar readings names classes bases stages typing_rules codes code_files stack_codes number_ends arithmetic "
     "worlds reports calls"
 ).split()
 
 
-def run(program: str, subject: str) -> int:
-    """Tries the rows of a subject, and says how many failed."""
-    faults = [row.fault(program) for row in importlib.import_module(subject).rows()]
-    found = [it for it in faults if it is not None]
-    print(*found, f"{subject}: {len(faults) - len(found)} passed, {len(found)} failed", sep="\n")
-    return len(found)
-
-
-def main() -> int:
-    """The command."""
-    parser = argparse.ArgumentParser(description="Tries the tables of tests/tables against a program.")
-    parser.add_argument("program", type=pathlib.Path, help="the program")
-    parser.add_argument("subjects", metavar="SUBJECT", nargs="*", help="these tables alone")
-    given = parser.parse_args()
-    lost = sorted(set(given.subjects) - set(SUBJECTS))
-    if lost:
-        parser.error(f"there is no table {', '.join(lost)}")
-    failed = [run(str(given.program.resolve()), it) for it in given.subjects or SUBJECTS]
-    return 1 if any(failed) else 0
+def checks(program: pathlib.Path) -> Iterator[Check]:
+    """A check for each row of each table, by its number from 1."""
+    for subject in SUBJECTS:
+        for number, row in enumerate(importlib.import_module(subject).rows(), 1):
+            yield Check(f"{subject}/{number}", partial(row.fault, str(program)))
 
 
 if __name__ == "__main__":
-    sys.exit(main())
+    from driver import only
+
+    sys.exit(only("tables"))

@@ -124,6 +124,12 @@ def first_missing(bench: Bench, job: Job) -> None:
     lay(bench, job)
 
 
+def close_ends() -> None:
+    """Closes standard input and standard error."""
+    os.close(0)
+    os.close(2)
+
+
 def outputs(bench: Bench, job: Job) -> None:
     """Standard output that takes nothing, or a part."""
     with open("/dev/full", "wb") as device:
@@ -141,7 +147,7 @@ def outputs(bench: Bench, job: Job) -> None:
         bench.expect(f"{job.name}: output of at most {count} bytes", answer, SINK, job.out[:count])
     answer = bench.call(job.words, Limits(written=len(job.out)))
     bench.expect(f"{job.name}: output of just enough bytes", answer, DONE, job.out)
-    ends = Limits(then=lambda: (os.close(0), os.close(2)))
+    ends = Limits(then=close_ends)
     bench.expect(f"{job.name}: closed input and errors", bench.call(job.words, ends), DONE, job.out)
 
 

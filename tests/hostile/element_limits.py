@@ -4,7 +4,7 @@ from __future__ import annotations
 from typing import Callable
 
 from bench import BAD_ELEMENT, DONE, Bench, Limits
-from element_texts import LIMIT, NESTS, accepted, atoms, deepest, element, nested, refused, too_deep, world
+from element_texts import LIMIT, NESTS, accepted, atoms, deepest, depth_fault, element, nested, refused, too_deep, world
 
 
 def nesting(bench: Bench) -> None:
@@ -18,16 +18,16 @@ def nesting(bench: Bench) -> None:
         answer = bench.call(["run", "w", "e"])
         bench.expect(f"{form}, {levels} deep, run", answer, DONE, None)
         deeper = nested(form, levels + 1)
-        refused(bench, f"{form}, {levels + 1} deep", deeper, too_deep(deeper), 21, b"nested too deep")
+        refused(bench, f"{form}, {levels + 1} deep", deeper, depth_fault(deeper), 21, b"nested too deep")
         many = nested(form, 5_000)
-        refused(bench, f"{form}, 5,000 deep", many, too_deep(many), 21, b"nested too deep")
+        refused(bench, f"{form}, 5,000 deep", many, depth_fault(many), 21, b"nested too deep")
         for stack in (16, 32, 64, 128, 256, 512, 1024, 8192):
             bench.write("e", text)
             bench.write("w", world(b"A"))
             if bench.call(["run", "w", "e"], Limits(stack=stack * 1024)).status == DONE:
                 least[form] = stack
                 break
-    worst = max(least, key=least.get)
+    worst = max(least, key=lambda form: least[form])
     bench.say(least[worst] <= 2048, "the deepest texts need a quarter of 8 MiB at most", f"{least}")
     bench.note(f"deepest texts: {worst} needs a stack of {least[worst]} KiB, of 8,192 that are usual")
     unclosed(bench)
@@ -39,7 +39,7 @@ def unclosed(bench: Bench) -> None:
         (b"(", 21, b"nested too deep"), (b"{", 21, b"nested too deep"), (b"!", 21, b"nested too deep"),
     ):
         text = b"element A { Bool b; Void behave() { " + (b"" if token == b"{" else b"b = ") + token * 190_000
-        refused(bench, f"190,000 {token.decode()}", text, too_deep(text), code, told)
+        refused(bench, f"190,000 {token.decode()}", text, depth_fault(text), code, told)
     for token in (b")", b"}", b"]", b"else ", b";"):
         refused(bench, f"190,000 {token.decode()}", token * 190_000, 1, 20, b"syntax")
 
@@ -55,7 +55,7 @@ def limits(bench: Bench) -> None:
     def last(text: bytes, name: bytes) -> int:
         return text.rindex(name) + 1
 
-    rows = [
+    rows: list[tuple[str, int, Callable[[int], bytes], bytes]] = [
         ("data members", 64, lambda n: class_of(names(n, b"Bool m%d_;")), b"m64_"),
         ("functions", 63, lambda n: class_of(names(n, b"Void f%d_() { }")), b"behave"),
         ("constants", 64, lambda n: class_of(names(n, b"constant Int k%d_ = 1;")), b"k64_"),

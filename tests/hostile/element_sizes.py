@@ -2,6 +2,8 @@
 with size."""
 from __future__ import annotations
 
+from typing import Callable
+
 from bench import BAD_ELEMENT, DONE, Bench
 from element_texts import LIMIT, accepted, element, refused, survives
 
@@ -60,11 +62,11 @@ def chains(bench: Bench) -> None:
     tower = [b"quark Q0 { Bool b; }\n"] + [
         b"quark Q%d { " % k + b"".join(b"Q%d m%d; " % (k - 1, i) for i in range(64)) + b"}\n" for k in range(1, 100)
     ]
-    for what, text, line in (
+    for what, quarks, line in (
         ("least first", tower, b"e:2:7: E40 quark takes 64 bits, at most 32\n"),
         ("greatest first", tower[::-1], b"e:1:7: E40 quark takes 18446744073709551615 bits, at most 32\n"),
     ):
-        bench.write("e", b"".join(text))
+        bench.write("e", b"".join(quarks))
         bench.expect(f"64 to the 99th bits, {what}", bench.call(["check", "e"]), BAD_ELEMENT, line)
     constants = b"".join(b"constant Int k%d = k%d; " % (i, i - 1) for i in range(1, 64))
     accepted(bench, "64 constants of each other", b"element A { constant Int k0 = 7; " + constants + b"Int(k2) x; Void behave() { } }")
@@ -117,7 +119,7 @@ def statements(count: int) -> bytes:
 
 
 # Texts that grow: for each size a file whose length goes with it.
-GROWING = {
+GROWING: dict[str, Callable[[int], bytes]] = {
     "statements": lambda n: element(statements(n)),
     "empty statements": lambda n: element(b";" * (30 * n)),
     "blocks": lambda n: element(b"{ ; }" * (10 * n)),

@@ -35,6 +35,13 @@ def too_deep(text: bytes) -> Optional[int]:
     return None
 
 
+def depth_fault(text: bytes) -> int:
+    """The same of a line that has such a token."""
+    found = too_deep(text)
+    assert found is not None
+    return found
+
+
 def element(body: bytes, members: bytes = b"") -> bytes:
     """An element with this body, and with some members of each kind."""
     return (

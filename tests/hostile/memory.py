@@ -15,9 +15,9 @@ from typing import Iterator, Optional, Sequence
 from bench import DONE, MEMORY, NO_FORM, Answer, Bench, Limits, main_of, tool
 from fronts import ELEMENT
 from jobs import STATE, WALKER, ZEROS, Job, element, jobs_of, lay, world
+from rooms import KIB, rooms
 
 HERE = pathlib.Path(__file__).resolve().parent
-KIB = 1024
 # the number of a request that no call comes to
 NEVER = 1 << 40
 
@@ -106,10 +106,11 @@ def spaces(bench: Bench, job: Job) -> int:
     enough = least_space(bench, job.words, DONE)
     step = 4 if bench.long else max(4, (enough - begins) // 24)
     tried = 0
-    for space in [*range(begins + 16, enough, step), enough + 16, 2 * enough]:
+    for space in [*range(begins + 16, enough, step), enough + 16]:
         answer = bench.call(job.words, Limits(space=space * KIB))
         tried += 1
         bench.say(is_whole_or_nothing(answer, job.out), f"{job.name}: {space} KiB", answer.shown())
+    bench.expect(f"{job.name}: ample space", bench.call(job.words, Limits(space=2 * enough * KIB)), DONE, job.out)
     bench.note(f"{job.name}: begins in {begins} KiB, needs {enough} KiB, {tried} spaces tried")
     return tried
 
@@ -136,6 +137,10 @@ def in_spaces(bench: Bench, words: list[str], is_same: bool) -> None:
         answer = bench.call(words, Limits(space=space * KIB))
         held = is_whole_or_nothing(answer, whole.out if is_same else answer.out)
         bench.say(held, f"{words} in {space} KiB", answer.shown())
+    for limits in (Limits(space=2 * enough * KIB), Limits()):
+        answer = bench.call(words, limits)
+        is_whole = not is_same or (answer.out, answer.size) == (whole.out, whole.size)
+        bench.say(answer.status == DONE and is_whole, f"{words} in ample space", answer.shown())
     bench.note(f"{' '.join(words)}: needs {enough} KiB of address space")
 
 
@@ -182,6 +187,7 @@ def memory(bench: Bench) -> None:
     bench.note(f"{tried} calls with refused requests, {shut} in small address spaces")
     large(bench)
     amplified(bench)
+    rooms(bench)
 
 
 if __name__ == "__main__":

@@ -26,7 +26,7 @@ def filler(length: int) -> bytes:
 class Lines(NamedTuple):
     """Lines in pieces, and how many they are."""
 
-    count: int
+    number: int
     pieces: list[bytes]
 
 

@@ -15,6 +15,7 @@ from text_lines import HEAD, TRY, hard_reports, hard_worlds
 from text_long import (
     MILLION, full_plane, long_codes, long_reports, long_worlds, most_attempts, rates, too_long,
 )
+from text_puts import long_puts
 
 NAMES = [b"Walker"]
 
@@ -77,6 +78,7 @@ def texts(bench: Bench) -> None:
     long_codes(bench, total)
     if bench.long:
         too_long(bench)
+        long_puts(bench)
 
 
 if __name__ == "__main__":

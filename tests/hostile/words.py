@@ -3,7 +3,7 @@ name, which may be any bytes.
 """
 import sys
 
-from bench import UNREADABLE, USAGE, Bench, main_of, tool
+from bench import UNREADABLE, USAGE, Bench, Word, main_of, tool
 from jobs import Job, jobs_of
 
 NO_TEXT = b"\xff"
@@ -32,7 +32,7 @@ def unknown_files(bench: Bench, job: Job) -> None:
     for word in (b"", LONG):
         bench.expect(f"{job.name}: form {told(word)}", bench.call([word, *job.words[1:]]), 2, USAGE)
         for file in job.files:
-            words = [word if it == file.name else it for it in job.words]
+            words: list[Word] = [word if it == file.name else it for it in job.words]
             name = f"{job.name}: {file.name} is {told(word)}"
             bench.expect(name, bench.call(words), UNREADABLE, word + b": E01 unreadable\n")
 

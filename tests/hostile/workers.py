@@ -1,18 +1,19 @@
 """Runs with a worker for each tile: many small ones of many tiles, each report checked; workers of very
 unequal load; all on one processor; and workers on small stacks or without any thread.
 
-On the examples' tiles no tile may make far fewer events than the others.
+On planes of 4, 16 and 64 tiles no tile may make far fewer events than the others, or get far ahead of them.
 
 What a report has to be is asked of the program itself, by forms that know no threads: `replay` of it has
 to write its atoms, and `audit` has to say yes. Its entries are counted here.
 """
 from __future__ import annotations
 
+import math
 import os
-import pathlib
 import random
 import statistics
 import sys
+import time
 from typing import Collection, NamedTuple, Optional, Sequence
 
 from bench import DONE, MEMORY, Bench, Limits, main_of, tool
@@ -29,7 +30,6 @@ element Spin { Void behave() { while (true) { } } }
 element Fail { Random random; Void behave() { if (random.oneIn(3)) random.create(0); } }
 element Slow { EventWindow ew; Int x; Void behave() { for (Int i = 0; i < 900; i++) x = x * 7 + i; ew.swap(0, 4); } }
 """
-EXAMPLES = pathlib.Path(__file__).resolve().parents[2] / "examples"
 KINDS = [b"Wander", b"Copy", b"Eat", b"Spin", b"Fail", b"Slow"]
 
 
@@ -161,37 +161,113 @@ def crowded(bench: Bench) -> None:
     bench.note(f"crowded borders: {64 * count} attempts, {abandoned} abandoned")
 
 
-def events_of_tiles(report: bytes, tiles: int) -> list[int]:
-    """How many events of a report each tile made."""
+class Plane(NamedTuple):
+    """So many tiles each way, of so many columns and rows, each with so many attempts."""
+
+    tiles: int
+    side: int
+    attempts: int
+
+    @property
+    def name(self) -> str:
+        """What it is called."""
+        return f"{self.tiles} by {self.tiles} tiles of {self.side} by {self.side}"
+
+    def text(self) -> bytes:
+        """Its world: one site in four has an atom."""
+        head = b"feast 1\ntiles %d %d\nsize %d %d\nseed 1000\nattempts %d\n" % (
+            self.tiles, self.tiles, self.side, self.side, self.attempts)
+        sites = [(x, y) for y in range(0, self.tiles * self.side, 2) for x in range(0, self.tiles * self.side, 2)]
+        return head + b"".join(b"atom %d %d Wander\n" % site for site in sites)
+
+
+# on tiles of 8 by 8 sites nearly each attempt needs an edge
+PLANES = [Plane(2, 8, 20_000), Plane(4, 8, 20_000), Plane(8, 16, 15_000)]
+
+
+def tiles_of(report: bytes) -> list[int]:
+    """The tile of each event of a report, in the order of the journal."""
     records = sections(report).records
     lines = report.split(b"\n")
     first = lines.index(b"journal %d" % records) + 1
-    events = [0] * tiles
-    for line in lines[first : first + records]:
-        events[int(line.split(b" ", 2)[1])] += 1
-    return events
+    return [int(line.split(b" ", 2)[1]) for line in lines[first : first + records]]
+
+
+def drift(tiles: Sequence[int], count: int) -> float:
+    """How far one of the tiles was ahead of another at one of a thousand moments: the part of its own events that
+    it had made by then, less the part that the other had."""
+    events = [tiles.count(tile) for tile in range(count)]
+    made = [0] * count
+    worst = 0.0
+    for moment in range(0, len(tiles), len(tiles) // 1000 + 1):
+        for tile in tiles[moment : moment + len(tiles) // 1000 + 1]:
+            made[tile] += 1
+        parts = [some / max(1, all_of_them) for some, all_of_them in zip(made, events)]
+        worst = max(worst, max(parts) - min(parts))
+    return worst
 
 
 def even(bench: Bench) -> None:
-    """On the examples' tiles each tile makes at least a third of the mean number of events, as the middle of
-    five runs. The aim is more than twice that, so that a busy machine passes too."""
+    """On planes of 4, 16 and 64 tiles each tile makes at least a third of the mean number of events, and no tile
+    gets a tenth of its events ahead of another; both as the middle of three runs. The aims are three times that,
+    and half of it, so that a busy machine passes too."""
     if len(os.sched_getaffinity(0)) < 2:
         bench.note("how evenly tiles act: left out, since there is one processor")
         return
-    for name in ("diffusion", "regulator", "sorter"):
-        world = (EXAMPLES / f"{name}-tiles.world").read_bytes()
-        bench.write("w", world)
-        bench.write("e", (EXAMPLES / f"{name}.ulam").read_bytes())
-        runs = []
-        for _ in range(5):
-            answer = bench.call(["run", "w", "e"])
-            if not bench.say(answer.status == DONE, f"{name} on tiles", answer.shown()):
-                return
-            runs.append(events_of_tiles(bench.output.read_bytes(), 4))
-        middle = [statistics.median(counts) for counts in zip(*runs)]
-        bench.say(min(middle) >= statistics.mean(middle) / 3, f"{name}: the events of each tile", f"{middle}")
-        bench.note(f"{name} on tiles: the middle numbers of events are {middle}")
     bench.write("e", ELEMENTS)
+    for plane in PLANES:
+        count = plane.tiles**2
+        bench.write("w", plane.text())
+        poorest, drifts = [], []
+        for _ in range(3):
+            answer = bench.call(["run", "w", "e"])
+            if not bench.say(answer.status == DONE, plane.name, answer.shown()):
+                return
+            tiles = tiles_of(bench.output.read_bytes())
+            poorest.append(min(tiles.count(tile) for tile in range(count)) * count / len(tiles))
+            drifts.append(drift(tiles, count))
+        least, far = statistics.median(poorest), statistics.median(drifts)
+        bench.say(least >= 1 / 3, f"{plane.name}: the events of the poorest tile, of the mean", f"{least:.3f}")
+        bench.say(far < 0.1, f"{plane.name}: how far one tile gets ahead of another", f"{far:.3f}")
+        bench.note(f"{plane.name}: the poorest tile made {least:.2f} of the mean, the drift was {far:.3f}")
+
+
+def without_threads() -> list[bytes]:
+    """The words before a call that can start no thread; none if there is no way to forbid them."""
+    limit = [b"prlimit", b"--nproc=1:1"]
+    if os.geteuid() != 0:
+        return limit if tool("prlimit") is not None else []
+    if tool("prlimit") is None or tool("setpriv") is None:
+        return []
+    return [b"setpriv", b"--reuid=65534", b"--regid=65534", b"--clear-groups", *limit]
+
+
+def alone(bench: Bench) -> None:
+    """Where no thread can be started, workers that wait for others wait in vain: a run of 64 tiles then ends in at
+    most four times the time that it takes with threads, as the least of three."""
+    before = without_threads()
+    if not before:
+        bench.note("runs without threads: left out, since there is no prlimit here, or no setpriv")
+        return
+    plane = Plane(8, 64, 8_000)
+    bench.write("w", plane.text())
+    bench.write("e", ELEMENTS)
+    for name in ("w", "e"):
+        (bench.folder / name).chmod(0o644)
+    bench.folder.chmod(0o755)
+    times: dict[str, float] = {}
+    ways: tuple[tuple[str, Sequence[bytes]], ...] = (("with threads", []), ("without threads", before))
+    for name, words in ways:
+        times[name] = math.inf
+        for _ in range(3):
+            begin = time.perf_counter()
+            answer = bench.call(["run", "w", "e"], before=words, seconds=240)
+            times[name] = min(times[name], time.perf_counter() - begin)
+            if not bench.say(answer.status == DONE, f"{plane.name} {name}", answer.shown()):
+                return
+    held = times["without threads"] <= 4 * times["with threads"]
+    bench.say(held, f"{plane.name} without threads ends soon", f"{times}")
+    bench.note(f"{plane.name}: {times['with threads']:.2f} s with threads, {times['without threads']:.2f} s without")
 
 
 def stacks(bench: Bench) -> None:
@@ -231,6 +307,7 @@ def workers(bench: Bench) -> None:
     unequal(bench)
     crowded(bench)
     even(bench)
+    alone(bench)
     stacks(bench)
     threadless(bench)
     if tool("taskset") is not None:

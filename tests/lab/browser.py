@@ -13,7 +13,7 @@ from typing import Any
 
 NAMES = ("chromium", "chromium-browser", "google-chrome", "chrome")
 PATIENCE = 300.0
-KEYS = {"ArrowLeft": 37, "ArrowUp": 38, "ArrowRight": 39, "ArrowDown": 40, "End": 35, "Home": 36, " ": 32, "Tab": 9}
+KEYS = {"ArrowLeft": 37, "ArrowUp": 38, "ArrowRight": 39, "ArrowDown": 40, "End": 35, "Home": 36, " ": 32, "Tab": 9, "0": 48}
 SHIFT = 8
 # Chromium reads orders from its file 3, and writes answers to its file 4
 START = """import os, sys
@@ -26,7 +26,7 @@ ABOVE = 10  # pipes get numbers from here on, so that none is one of the two tha
 
 def chromium() -> str | None:
     """The browser of this machine, if there is one."""
-    return next((path for path in map(shutil.which, NAMES) if path), None)
+    return next((path for name in NAMES if (path := shutil.which(name))), None)
 
 
 class Browser:
@@ -131,6 +131,12 @@ class Browser:
         """Clicks at a point of the window."""
         for what in ("mousePressed", "mouseReleased"):
             self.call("Input.dispatchMouseEvent", type=what, x=x, y=y, button="left", clickCount=1)
+
+    def drag(self, points: list[tuple[float, float]]) -> None:
+        """Presses the mouse at the first point, moves it over the others, and lets it go at the last."""
+        for what, (x, y) in [("mousePressed", points[0]), *(("mouseMoved", point) for point in points[1:]),
+                             ("mouseReleased", points[-1])]:
+            self.call("Input.dispatchMouseEvent", type=what, x=x, y=y, button="left", buttons=1, clickCount=1)
 
     def resize(self, width: int, height: int, scale: float = 1) -> None:
         """Makes the window another size; `scale` is how many points of the screen a length of 1 has."""

@@ -14,7 +14,8 @@ from lab.main import main
 
 TOP = Path(__file__).resolve().parent.parent.parent
 EXAMPLES = TOP / "examples"
-PROGRESS = re.compile(r"^.*: \d+ % done.*\n", re.MULTILINE)
+# what a command says of itself beside its result: how far it is, and, of a run on threads, whether its tiles kept pace
+PROGRESS = re.compile(r"^(.*: \d+ % done.*|lab: warning: .*: the tiles did not keep pace: .*)\n", re.MULTILINE)
 Word = str | Path
 
 

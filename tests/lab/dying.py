@@ -8,7 +8,6 @@ from pathlib import Path
 sys.dont_write_bytecode = True
 sys.path.insert(0, str(Path(__file__).resolve().parent.parent.parent / "tools"))
 
-from lab import files  # noqa: E402
 from lab.main import main  # noqa: E402
 
 last = int(sys.argv[1])
@@ -23,5 +22,5 @@ def replace_or_die(beside: Path, path: Path) -> None:
     replace(beside, path)
 
 
-files.os.replace = replace_or_die  # type: ignore[assignment]
+setattr(os, "replace", replace_or_die)
 sys.exit(main(sys.argv[2:]))

@@ -14,11 +14,12 @@ Plane = dict[Site, str]
 
 @dataclass
 class Shot:
-    """A frame: how many events lie before it, its atoms, and the attempts that were given up since the last."""
+    """A frame: how many events lie before it, its atoms, and the attempts given up and the events failed since the last."""
 
     events: int
     atoms: Plane
     abandoned: Counter[Site]
+    failed: Counter[Site]
 
 
 def plane_of(lines: Iterable[str]) -> Plane:
@@ -71,9 +72,11 @@ def shots(html: str) -> list[Shot]:
     frames = []
     for events in told["events"]:
         plane |= {site: atoms[next(stream)] for site in sites()}
-        frames.append(Shot(events, {(site % columns, site // columns): atom for site, atom in plane.items() if atom}, Counter()))
+        frames.append(Shot(events, {(site % columns, site // columns): atom for site, atom in plane.items() if atom}, Counter(), Counter()))
     for frame in frames:
         frame.abandoned.update({(site % columns, site // columns): next(stream) for site in sites()})
+    for frame in frames if told["failed"] is not None else []:
+        frame.failed.update({(site % columns, site // columns): next(stream) for site in sites()})
     assert next(stream, None) is None
     return frames
 

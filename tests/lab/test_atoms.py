@@ -59,4 +59,4 @@ class Atoms(LabCase):
         self.refused("report:7: no report", "atoms", self.file("report", text.rpartition("abandoned")[0]), elements)
         self.refused("report:2: no report", "atoms", self.file("report", "feast 1\n"), elements)
         self.refused("bad.ulam:1:9: E33 no behave", "atoms", report, self.file("bad.ulam", "element A { }"))
-        self.refused("required: FILE", "atoms", report)
+        self.refused("atoms takes REPORT FILE.., or the folder DIR of a chain", "atoms", report)

@@ -7,9 +7,10 @@ import shutil
 import signal
 import subprocess
 import sys
+from collections.abc import Iterator
 from pathlib import Path
 
-from calls import EXAMPLES, LabCase, around, feast, here, lab, program
+from calls import EXAMPLES, LabCase, Word, around, feast, here, lab, program
 
 WORLD = """feast 1
 # a chain begins here
@@ -45,9 +46,19 @@ def contents(folder: Path) -> dict[str, bytes]:
 
 
 def lines_of(path: Path) -> list[str]:
-    """The lines of a file, unpacked."""
-    data = path.read_bytes()
-    return (gzip.decompress(data) if path.suffix == ".gz" else data).decode().splitlines()
+    """The lines of a file."""
+    return path.read_text().splitlines()
+
+
+def damaged(short: bytes) -> Iterator[bytes]:
+    """A kept report with a fault in each of its parts."""
+    lines = short.split(b"\n")
+    for number, line in enumerate(lines[:-1]):
+        if number in (1, 2, 3) or line.startswith(b"tile ") or lines[number - 1].startswith(b"tile 1"):
+            yield b"\n".join([*lines[:number], line[:-1] + (b"1" if line[-1:] != b"1" else b"2"), *lines[number + 1:]])
+            yield b"\n".join([*lines[:number], *lines[number + 1:]])
+    yield short[:len(short) // 2]
+    yield short + b"tile 9 0 0\n\n"
 
 
 class ChainCase(LabCase):
@@ -82,7 +93,7 @@ class Legs(ChainCase):
         self.assertEqual(sorted(before), sorted(f"{line[5:]} {'0' * 18}" for line in WORLD.splitlines() if line[:4] == "atom"))
         for leg, row in enumerate(rows[1:], 1):
             world = lines_of(self.chain / f"{leg:04}.world")
-            report = lines_of(self.chain / f"{leg:04}.report.gz")
+            report = self.passes("unpack", self.chain / f"{leg:04}.kept.gz").splitlines()
             seed = 3 + 5 * (leg - 1)
             self.assertEqual(world[:5], ["feast 1", "tiles 2 2", "size 8 8", f"seed {seed}", "attempts 500"])
             self.assertEqual([line[5:] for line in world[5:-1]], before)
@@ -174,10 +185,11 @@ class GoingOn(ChainCase):
         """Whichever file is not in its place yet when the lab is killed, the end is the same."""
         options = ["--step", "--keep", "reports"]
         expected = self.whole(2, *options)
-        files = len(expected) + 3  # the manifest is put in two places, and the course once more for each leg
+        # the manifest is put in two places, and for each leg the course once more, and the report before it is packed
+        files = len(expected) + 5
         for number in range(1, files + 1):
             shutil.rmtree(self.chain, ignore_errors=True)
-            dying = [sys.executable, HERE / "dying.py", str(number), *self.words(2, *options)]
+            dying: list[Word] = [sys.executable, HERE / "dying.py", str(number), *self.words(2, *options)]
             killed = subprocess.run(dying, capture_output=True, env=around(), timeout=300, check=False)
             self.assertEqual(killed.returncode, -signal.SIGKILL, number)
             self.passes(*self.words(2, *options))
@@ -189,7 +201,7 @@ class GoingOn(ChainCase):
     def test_begun_anew_with_other_elements(self) -> None:
         """A beginning that was killed leaves nothing behind that a later one takes for its own."""
         other = self.file("aaa.ulam", ELEMENTS + "element Further { Void behave() { } }\n")
-        dying = [sys.executable, HERE / "dying.py", "3", "chain", self.chain, "--legs", "1", self.world, other]
+        dying: list[Word] = [sys.executable, HERE / "dying.py", "3", "chain", self.chain, "--legs", "1", self.world, other]
         subprocess.run(dying, capture_output=True, env=around(), timeout=300, check=False)
         self.assertTrue((self.chain / "elements").exists())
         self.passes(*self.words(1))
@@ -221,8 +233,6 @@ class Refused(ChainCase):
         self.refused("begun with --step set, not not set", *self.words(2))
         self.refused("begun with --seed 3, not 4", *self.words(2, "--step", "--seed", "4"))
         self.refused("begun with --keep none, not reports", *self.words(2, "--step", "--keep", "reports"))
-        self.refused("begun with --at not set, not 2:clear:0,0,1,1",
-                     *self.words(2, "--step", "--at", "2:clear:0,0,1,1"))
         other = self.file("other.ulam", ELEMENTS + " ")
         self.refused("begun with other elements", "chain", self.chain, "--legs", "2", "--step", self.world, other)
         world = self.file("other.world", self.world.read_text() + "# another\n")
@@ -258,14 +268,11 @@ class Refused(ChainCase):
     def test_words(self) -> None:
         self.refused("--legs 0: a chain has at least one leg", *self.words(0))
         self.refused("--seed -1: a seed is from 0", *self.words(1, "--seed", "-1"))
-        for text in ("1:clear:0,0,1", "0:clear:0,0,1,1", "1:clear:0,0,17,1", "1:clear:16,0,1,1", "1:clear:0,0,0,1",
-                     "1:clear:0,0,1,0", "1:clear:0,15,1,2", "1:fill:0,0,1,1"):
-            self.refused(f"--at {text}: ", *self.words(1, "--at", text))
         self.refused("invalid int value: 'two'", "chain", self.chain, "--legs", "two", self.world, ELEMENTS)
         self.refused("required: FILE", "chain", self.chain, "--legs", "2", self.world)
 
     def test_inputs(self) -> None:
-        words = ["chain", self.chain, "--legs", "1"]
+        words: list[Word] = ["chain", self.chain, "--legs", "1"]
         walker = EXAMPLES / "walker.ulam"
         self.refused("nowhere.world: can't be read", *words, self.room / "nowhere.world", self.elements)
         self.refused("walk.world: its attempts have to be drawn", *words, EXAMPLES / "walk.world", walker)
@@ -300,16 +307,22 @@ class Audits(ChainCase):
     def test_faults(self) -> None:
         self.passes(*self.words(3, "--step", "--keep", "reports", "--at", "3:clear:0,0,8,8"))
         kept = contents(self.chain)
-        report = gzip.decompress(kept["0002.report.gz"])
+        self.assertEqual({name for name in kept if "gz" in name}, {f"{leg:04}.kept.gz" for leg in (1, 2, 3)})
+        short = gzip.decompress(kept["0002.kept.gz"])
+        report = self.passes("unpack", self.chain / "0002.kept.gz").encode()
         front, _, back = report.partition(b"journal ")
         record = back.splitlines()[1]
         other = report.replace(record, record[:-1] + (b"1" if record[-1:] != b"1" else b"2"), 1)
         moved = kept["0003.world"].replace(b"atom ", b"atom 0 0 Regulator\natom ", 1)
         for name, data, says in [
+            ("0002.report", other, "no leg 2: the audit of its report: "),
             ("0002.report.gz", gzip.compress(other), "no leg 2: the audit of its report: "),
             ("0002.report.gz", gzip.compress(front.replace(b" 000000", b" 000001", 1) + b"journal " + back),
              "no leg 2: the audit of its report: no atoms"),
-            ("0002.report.gz", kept["0001.report.gz"], "no leg 2: the audit of its report: "),
+            ("0002.report.gz", gzip.compress(self.passes("unpack", self.chain / "0001.kept.gz").encode()),
+             "no leg 2: the audit of its report: "),
+            *(("0002.kept.gz", gzip.compress(text), "no leg 2: ") for text in damaged(short)),
+            ("0002.kept.gz", kept["0001.kept.gz"], "no leg 2: "),
             ("0003.world", moved, "no leg 3: its world does not begin with what leg 2 left"),
             ("0002.world", kept["0002.world"].replace(b"seed 8", b"seed 9"), "no leg 2: its world"),
             ("0001.atoms", kept["0001.atoms"] + b"#", "no leg 1: 0001.atoms has other atoms"),
@@ -318,21 +331,65 @@ class Audits(ChainCase):
             ("elements/00-regulator.ulam", ELEMENTS.encode() + b" ", "no start: 00-regulator.ulam is not as it was"),
             ("course.csv", kept["course.csv"].replace(b"\n1,2000,", b"\n1,2001,"), "no leg 1: its row in the course"),
         ]:
-            self.assertNotEqual(kept[name], data, name)
+            self.assertNotEqual(kept.get(name), data, name)
+            if "report" in name:
+                (self.chain / "0002.kept.gz").unlink()
             (self.chain / name).write_bytes(data)
             done = here("chain", "--audit", self.chain)
             self.assertEqual((done.status, done.said), (1, ""), name)
             self.assertEqual(done.wrote.count("\n"), 1)
             self.assertTrue(done.wrote.startswith(says), done.wrote)
+            if "report" in name:
+                (self.chain / name).unlink()
+                name = "0002.kept.gz"
             (self.chain / name).write_bytes(kept[name])
         self.assertEqual(self.passes("chain", "--audit", self.chain), "yes\n")
 
+    def test_forms_of_reports(self) -> None:
+        """A report may be kept in short, packed as a whole, or not packed at all; a chain that goes on packs it."""
+        options = ["--step", "--keep", "reports"]
+        self.passes(*self.words(3, *options))
+        kept = contents(self.chain)
+        whole = self.passes("unpack", self.chain / "0002.kept.gz").encode()
+        self.assertLess(5 * len(kept["0002.kept.gz"]), len(gzip.compress(whole)))
+        for name, data in (("0002.report.gz", gzip.compress(whole)), ("0002.report", whole)):
+            (self.chain / "0002.kept.gz").unlink()
+            (self.chain / name).write_bytes(data)
+            self.assertEqual(self.passes("chain", "--audit", self.chain), "yes\n")
+            self.passes("film", self.chain, "--frames", "3", "-o", self.room / "film.html")
+            self.passes(*self.words(3, *options))
+            now = contents(self.chain)
+            if name == "0002.report":
+                self.assertEqual(now, kept)
+            else:
+                self.assertEqual(now.pop(name), data)
+                self.assertEqual(now, {it: kept[it] for it in kept if it != "0002.kept.gz"})
+                (self.chain / name).unlink()
+                (self.chain / "0002.kept.gz").write_bytes(kept["0002.kept.gz"])
+
+    def test_report_of_another_program(self) -> None:
+        """Of a report with other seeds than the world draws the audit says no, and one of no form is kept as it is."""
+        for edit, name, says in (
+            ("s/^\\(1 [0-9] [0-9]* [0-9]* [0-9]*\\) [0-9a-f]\\{16\\}$/\\1 00000000000000ff/", "0001.kept.gz", "no leg 1: "),
+            ("s/^\\([0-9]*\\) [0-9]* \\(.* [0-9a-f]\\{16\\}\\)$/\\1 9 \\2/", "0001.report.gz", "no leg 1: the audit of its report: "),
+        ):
+            other = self.file("other", f"#!/bin/sh\ncase $1 in step) {program()} \"$@\" | sed '{edit}';; *) exec {program()} \"$@\";; esac\n")
+            other.chmod(0o755)
+            done = lab(*self.words(1, "--step", "--keep", "reports"), instead=other)
+            self.assertEqual(done.returncode, 0, done.stderr)
+            self.assertTrue((self.chain / name).exists(), sorted(contents(self.chain)))
+            done = lab("chain", "--audit", self.chain)
+            self.assertEqual((done.returncode, done.stdout[:len(says)]), (1, says))
+            shutil.rmtree(self.chain)
+
     def test_missing_report(self) -> None:
         self.passes(*self.words(2, "--step", "--keep", "reports"))
-        (self.chain / "0002.report.gz").unlink()
-        self.refused("0002.report.gz: can't be read: no such file", "chain", "--audit", self.chain)
-        (self.chain / "0002.report.gz").write_bytes(b"\x1f\x8bnothing")
-        self.refused("0002.report.gz: ", "chain", "--audit", self.chain)
+        (self.chain / "0002.kept.gz").unlink()
+        self.refused("0002.kept.gz: can't be read: no such file", "chain", "--audit", self.chain)
+        for name in ("0002.report.gz", "0002.kept.gz"):
+            (self.chain / name).write_bytes(b"\x1f\x8bnothing")
+            self.refused(f"{name}: ", "chain", "--audit", self.chain)
+        (self.chain / "0002.kept.gz").unlink()
         (self.chain / "0002.report.gz").write_bytes(b"something else")
         done = here("chain", "--audit", self.chain)
         self.assertEqual((done.status, done.said), (1, ""))

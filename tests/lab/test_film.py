@@ -132,7 +132,8 @@ class Chains(LabCase):
         super().setUp()
         self.chain = self.room / "healing"
         world = self.file("small.world", (EXAMPLES / "regulator-tiles.world").read_text().replace("attempts 40000", "attempts 5000"))
-        self.begin = ["chain", self.chain, "--legs", "4", "--step", "--at", "3:clear:0,0,16,12", world, EXAMPLES / "regulator.ulam"]
+        self.begin: list[Word] = ["chain", self.chain, "--legs", "4", "--step", "--at", "3:clear:0,0,16,12", world,
+                                  EXAMPLES / "regulator.ulam"]
 
     def made(self, keep: str) -> tuple[list[dict[str, str]], str]:
         """The course of a chain, and its film as text."""
@@ -151,7 +152,7 @@ class Chains(LabCase):
         course, html = self.made("reports")
         shots = films.shots(html)
         ends = [sum(int(row["events"]) for row in course[:leg + 1]) for leg in range(5)]
-        self.assertEqual(films.head(html)["cuts"], [ends[2]])
+        self.assertEqual(films.head(html)["acts"], [{"events": ends[2], "text": "clear:0,0,16,12"}])
         self.assertEqual(shots[-1].atoms, self.atoms(4))
         before, after = (shot for shot in shots if shot.events == ends[2])
         self.assertEqual(before.atoms, self.atoms(2))
@@ -160,7 +161,7 @@ class Chains(LabCase):
         for shot in shots:
             leg = next((leg for leg in range(1, 5) if ends[leg - 1] < shot.events < ends[leg]), None)
             if leg is not None:
-                report = self.file("report", gzip.decompress((self.chain / f"{leg:04}.report.gz").read_bytes()).decode())
+                report = self.file("report", self.passes("unpack", self.chain / f"{leg:04}.kept.gz"))
                 world = self.chain / f"{leg:04}.world"
                 self.assertEqual(shot.atoms, atoms_after(world, report, shot.events - ends[leg - 1], EXAMPLES / "regulator.ulam"))
         self.assertEqual(sum(shot.abandoned.total() for shot in shots), sum(int(row["abandoned"]) for row in course))

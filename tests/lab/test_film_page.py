@@ -49,6 +49,16 @@ PALE = """(() => {
     return (Math.max(one, other) + 0.05) / (Math.min(one, other) + 0.05) < 4.5;
   }).map((node) => node.textContent);
 })()"""
+# the colour of a point of the plane in its fourth row
+BORDER = "[...document.getElementById('plane').getContext('2d').getImageData(%s, 3, 1, 1).data].join(' ')"
+# how many colours a site has within its edges
+INKS = """(() => {
+  const canvas = document.getElementById('plane');
+  const side = (canvas.width - 2) / 16;
+  const data = canvas.getContext('2d').getImageData(3 + %d * side, 3 + %d * side, side - 5, side - 5).data;
+  return new Set(Array.from({ length: data.length / 4 }, (_, i) => data.slice(4 * i, 4 * i + 3).join())).size;
+})()"""
+DRAWN = "new Promise((done) => requestAnimationFrame(() => requestAnimationFrame(() => done(true))))"
 WORLD, ELEMENTS = EXAMPLES / "fence-tiles.world", EXAMPLES / "fence.ulam"
 NAMED = ("button", "slider", "checkbox", "combobox", "spinbutton", "application", "image")
 KINDS = """
@@ -188,6 +198,12 @@ class Fence(FilmPage):
         self.browser.press("Home")
         self.agrees(self.shots[0].atoms, self.colors_of, 16, 16)
 
+    def test_drift(self) -> None:
+        """Below the plane stands that the tiles of this run were apart."""
+        self.assertTrue(self.browser.value("document.getElementById('mixed').checkVisibility()"))
+        self.assertEqual(self.text("mixed"), films.head(self.page.read_text())["mixed"])
+        self.assertRegex(self.text("mixed"), r"^The tiles did not keep pace: at one moment a tile was \d\d % of its events ahead")
+
     def test_members(self) -> None:
         """A click on each atom shows its members."""
         self.browser.press("End")
@@ -241,7 +257,7 @@ class Fence(FilmPage):
         """Each control has a name, each text can be read, and small windows show all of it."""
         nodes = self.browser.call("Accessibility.getFullAXTree")["nodes"]
         controls = [node for node in nodes if node.get("role", {}).get("value") in NAMED]
-        self.assertEqual(len(controls), 10)
+        self.assertEqual(len(controls), 18)
         self.assertEqual([node for node in controls if not node["name"]["value"].strip()], [])
         self.assertEqual(self.browser.value(PALE), [])
         for width, height, scale in ((1280, 700, 1), (768, 1024, 2), (320, 568, 2)):
@@ -256,6 +272,80 @@ class Fence(FilmPage):
         self.assertEqual(self.browser.requests(), [self.page.as_uri()])
         said = [event for event in self.browser.events if event.get("method") in ("Log.entryAdded", "Runtime.exceptionThrown")]
         self.assertEqual(said, [])
+
+    def test_address(self) -> None:
+        """The address may name a frame, from the start and also while the page is open."""
+        for frame in ("7", "39", "0", "99"):
+            self.browser.value(f"window.location.hash = '#frame={frame}'")
+            self.browser.wait(f"document.getElementById('slider').value === '{min(int(frame), 40)}'")
+        self.browser.open("about:blank", "window.location.href === 'about:blank'")
+        self.browser.open(f"{self.page.as_uri()}#frame=23", READY)
+        self.assertIn("Frame 23 of 40", self.text("moment"))
+        self.agrees(self.shots[23].atoms, self.colors_of, 16, 16)
+
+    def test_looks(self) -> None:
+        """Elements, borders of tiles and letters are shown as they are chosen."""
+        self.browser.press("End")
+        fences = {site for site, atom in self.end.items() if atom.startswith("Fence")}
+        self.browser.value("document.querySelector('[aria-label=\"Show Mouse\"]').click()")
+        wanted = [[self.colors_of["Fence"] if (x, y) in fences else "#ffffff" for x in range(16)] for y in range(16)]
+        self.assertEqual(self.colors(16, 16), wanted)
+        middle = BORDER % "document.getElementById('plane').width / 2"
+        self.assertEqual(self.browser.value(middle), "60 68 76 255")
+        self.browser.value("document.getElementById('borders').click()")
+        self.assertNotEqual(self.browser.value(middle), "60 68 76 255")
+        inks = INKS % min(fences)
+        self.assertGreater(self.browser.value(inks), 1)
+        self.browser.value("document.getElementById('letters').click()")
+        self.assertEqual(self.browser.value(inks), 1)
+
+    def test_member(self) -> None:
+        """Coloured by a member, its least and its greatest value in the film have the ends of the scale; others are grey."""
+        self.browser.value("document.getElementById('color-by').value = 'Fence.place'")
+        self.browser.value("document.getElementById('color-by').dispatchEvent(new Event('change'))")
+        places = [(int(atom.split()[1], 16), frame, site) for frame, shot in enumerate(self.shots)
+                  for site, atom in shot.atoms.items() if atom.startswith("Fence")]
+        for (_, frame, site), color in ((min(places), "#440154"), (max(places), "#fde725")):
+            self.browser.value(f"window.location.hash = '#frame={frame}'")
+            self.browser.wait(f"document.getElementById('slider').value === '{frame}'")
+            colors = {(x, y): self.colors(16, 16)[y][x] for x, y in self.shots[frame].atoms}
+            self.assertEqual(colors[site], color)
+            self.assertEqual({colors[it] for it, atom in self.shots[frame].atoms.items() if atom.startswith("Mouse")}, {"#c9cdd1"})
+            here = [it[::2] for it in places if it[1] == frame]
+            self.assertEqual(len({colors[it] for _, it in here}), len({place for place, _ in here}))
+
+    def test_zoom(self) -> None:
+        """The wheel zooms about the mouse, a drag moves the plane, and a click then chooses what is shown there."""
+        left, top, width, height = self.box("plane")
+        side = width / 16
+        x, y = left + 3.5 * side, top + 9.5 * height / 16
+        for _ in range(2):
+            self.browser.call("Input.dispatchMouseEvent", type="mouseWheel", x=x, y=y, deltaX=0, deltaY=-100)
+            self.browser.value(DRAWN)  # so that the browser doesn't make one of two turns
+        for at, column in ((x, 3), (x + 0.7 * side, 3), (x + 2 * side, 4)):
+            self.browser.click(at, y)
+            self.assertIn(f"Column {column}, row 9", self.text("site"))
+        self.browser.drag([(x, y), (x + 30, y), (x + 2 * side, y)])
+        self.browser.value(DRAWN)
+        self.assertIn("Column 4, row 9", self.text("site"))
+        for at, column in ((x + 2 * side, 3), (x, 2)):
+            self.browser.click(at, y)
+            self.assertIn(f"Column {column}, row 9", self.text("site"))
+        self.picture("fence-zoom")
+        self.browser.press("0")
+        self.browser.click(x, y)
+        self.assertIn("Column 3, row 9", self.text("site"))
+
+    def test_dark(self) -> None:
+        """In a dark system the page is dark, and its texts can be read."""
+        self.browser.call("Emulation.setEmulatedMedia", features=[{"name": "prefers-color-scheme", "value": "dark"}])
+        self.addCleanup(self.browser.call, "Emulation.setEmulatedMedia", features=[])
+        self.browser.wait("getComputedStyle(document.body).backgroundColor === 'rgb(31, 36, 41)'")
+        self.assertEqual(self.browser.value(PALE), [])
+        self.browser.press("End")
+        empty = min({(x, y) for x in range(16) for y in range(16)} - set(self.end))
+        self.assertEqual(self.colors(16, 16)[empty[1]][empty[0]], "#2b3138")
+        self.picture("fence-dark")
 
 
 class Others(FilmPage):

@@ -1,5 +1,9 @@
 """Worlds from drawings and patterns."""
-from calls import LabCase, feast
+import gzip
+import subprocess
+from pathlib import Path
+
+from calls import TOP, LabCase, Word, around, feast, here
 
 ELEMENTS = """quark Part { Unsigned(4) count; Bool on; }
 element Cell {
@@ -8,6 +12,24 @@ element Wall { EventWindow ew; Void behave() { } }
 """
 SIZE = ["--size", "8", "8"]
 GLIDER = "#N Glider\n#C a comment\nx = 3, y = 3, rule = B3/S23\nbo$2bo$\n3o!\nwhat follows is not read\n"
+# patterns in all the ways in which they are written, and the sites that they fill
+PATTERNS = [
+    ("x = 3, y = 3\nbo$2bo$3o!", [(1, 0), (2, 1), (0, 2), (1, 2), (2, 2)]),
+    (GLIDER, [(1, 0), (2, 1), (0, 2), (1, 2), (2, 2)]),
+    ("#C a comment\n\n\nx = 1, y = 1, rule = B3/S23\no!", [(0, 0)]),  # empty lines before the first
+    ("\n  \nx = 2, y = 1\n2o!", [(0, 0), (1, 0)]),
+    ("\ufeffx = 2, y = 1\n2o!", [(0, 0), (1, 0)]),  # a byte order mark
+    ("\ufeff#C marked\r\nx = 2, y = 1\r\n2o!\r\n", [(0, 0), (1, 0)]),
+    ("x=2,y=1,rule=B3/S23\n2o!", [(0, 0), (1, 0)]),
+    (" x  =  2 ,  y =  2 , rule = B3/S23 \no$bo!", [(0, 0), (1, 1)]),
+    ("#CXRLE Pos=-1,-1 Gen=5\nx = 2, y = 1, rule = B3/S23\nbo!", [(1, 0)]),
+    ("x = 12, y = 1\n10bo\no!", [(10, 0), (11, 0)]),  # a row on two lines
+    ("x = 2, y = 6\no5$bo!", [(0, 0), (1, 5)]),  # rows without cells
+    ("x = 2, y = 2\nob$bo$!", [(0, 0), (1, 1)]),
+    ("x = 2, y = 1\n\n#C between\no\n#C again\n\no!", [(0, 0), (1, 0)]),
+    ("x = 0, y = 0\n!", []),
+    ("x = 3, y = 1, rule = B3/S23\n.A.!", [(1, 0)]),
+]
 
 
 class Paintings(LabCase):
@@ -17,13 +39,13 @@ class Paintings(LabCase):
         super().setUp()
         self.elements = self.file("e.ulam", ELEMENTS)
 
-    def words(self, text: str, *more: str) -> list[object]:
+    def words(self, text: str, *more: str) -> list[Word]:
         """The words that paint a map."""
         return ["paint", self.file("map", text), *more, self.elements]
 
     def test_letters(self) -> None:
         told = self.passes(*self.words("#. A\n\n  #.A\r\n       #\n", *SIZE, "--key", "#=Wall",
-                                       "--key", 
+                                       "--key",
                                        "A=Cell:level=-3,ones=2,mask=0xa5,f=true,list[1]=-1,part.count=9,part.on=1"))
         # level 11101, ones 0011, mask 10100101, f 1, list 000 111, part 1001 1: behind a first bit of 0
         bits = ("0" + "11101" + "0011" + "10100101" + "1" + "000" + "111" + "1001" + "1").ljust(72, "0")
@@ -105,3 +127,62 @@ class Paintings(LabCase):
         self.refused("--attempts 250001: 4 tiles may have from 0 to 250000 each",
                      *self.words("A", *key, *SIZE, "--tiles", "2", "2", "--seed", "1", "--attempts", "250001"))
         self.refused("required: --size", *self.words("A", *key))
+
+
+class Maps(LabCase):
+    """Which files are maps, and what is said of them."""
+
+    def setUp(self) -> None:
+        super().setUp()
+        self.elements = self.file("e.ulam", ELEMENTS)
+
+    def painted(self, path: Path, says: str = "") -> list[tuple[int, int]]:
+        """The sites that a map with the symbol o fills; it says this on standard error."""
+        done = here("paint", path, "--key", "o=Wall", "--key", "A=Wall", "--size", "16", "16", self.elements)
+        self.assertEqual((done.status, done.said), (0, says and f"lab: warning: {path}: {says}\n"))
+        return [(int(x), int(y)) for x, y in (line.split()[1:3] for line in done.wrote.splitlines()[3:])]
+
+    def test_patterns(self) -> None:
+        """Patterns of all sorts, against sites that are written out."""
+        for text, sites in PATTERNS:
+            with self.subTest(text):
+                self.assertEqual(self.painted(self.file("map.rle", text)), sites)
+
+    def test_packed(self) -> None:
+        path = self.room / "glider.rle.gz"
+        path.write_bytes(gzip.compress(GLIDER.encode()))
+        self.assertEqual(self.painted(path), [(1, 0), (2, 1), (0, 2), (1, 2), (2, 2)])
+        path.write_bytes(gzip.compress(GLIDER.encode())[:-9])
+        self.refused("glider.rle.gz: the packed map is damaged", "paint", path, "--key", "o=Wall", *SIZE, self.elements)
+
+    def test_standard_input(self) -> None:
+        words: list[Word] = [TOP / "lab", "paint", "-", "--key", "o=Wall", *SIZE, self.elements]
+        done = subprocess.run(words, input=GLIDER.encode(), capture_output=True, env=around(), check=True)
+        self.assertEqual((done.stdout.decode().count("Wall"), done.stderr), (5, b""))
+        done = subprocess.run(words, input=b"x = 1, y = 1\n3q!", capture_output=True, env=around(), check=False)
+        self.assertEqual((done.returncode, done.stderr), (2, b"lab: standard input: 3q is no part of a pattern in RLE\n"))
+
+    def test_warnings(self) -> None:
+        """Of a rule that isn't that of the Game of Life, and of cells beyond the box; the cells are painted all the same."""
+        other = "the pattern is made for the rule {}, and not for B3/S23; its atoms do what their element says"
+        for rule in ("B36/S23", "WireWorld", "B3/S23:T10,10"):
+            path = self.file("map.rle", f"x = 2, y = 1, rule = {rule}\n2o!")
+            self.assertEqual(self.painted(path, other.format(rule)), [(0, 0), (1, 0)])
+        for rule in ("B3/S23", "b3/s23", "23/3", "Life"):
+            self.assertEqual(len(self.painted(self.file("map.rle", f"x = 2, y = 1, rule = {rule}\n2o!"))), 2)
+        path = self.file("map.rle", "x = 2, y = 1\n3o$o!")
+        says = "2 of its cells lie beyond the 2 columns and 1 rows of its first line; they are painted too"
+        self.assertEqual(self.painted(path, says), [(0, 0), (1, 0), (2, 0), (0, 1)])
+
+    def test_other_forms(self) -> None:
+        """The other forms of patterns are named, by what they begin with or by their names."""
+        for name, text, form in (
+            ("a.mc", "[M2] (golly 4.0)\n#R B3/S23\n$$..*$\n", "a macrocell file"),
+            ("a", "[M2] (golly 4.0)\n", "a macrocell file"),
+            ("a.lif", "#Life 1.05\n#P 0 0\n.*.\n", "a pattern in the form Life 1.05 or 1.06"),
+            ("a.txt", "#Life 1.06\n0 0\n", "a pattern in the form Life 1.05 or 1.06"),
+        ):
+            self.refused(f"{name}: {form}, which is not read; open it in Golly and save it as RLE",
+                         "paint", self.file(name, text), "--key", "o=Wall", *SIZE, self.elements)
+        self.refused(r"map: '\t' at column 0 of row 0 has no --key",
+                     "paint", self.file("map", "\tA"), "--key", "A=Wall", *SIZE, self.elements)

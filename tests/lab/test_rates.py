@@ -7,7 +7,7 @@ import xml.etree.ElementTree as xml
 from pathlib import Path
 from statistics import fmean
 
-from calls import EXAMPLES, LabCase, feast
+from calls import EXAMPLES, LabCase, Word, feast
 
 SVG = "{http://www.w3.org/2000/svg}"
 OFF = "feast 2\ntiles 3 2\nsize 8 9\noff 1\nseed 5\nattempts 900\natom 2 2 Regulator\n"
@@ -22,7 +22,7 @@ class RatesCase(LabCase):
         self.world = self.file("small.world", text.replace("attempts 40000", "attempts 4000"))
         self.report = self.file("report", feast("step", self.world, EXAMPLES / "regulator.ulam"))
 
-    def rows(self, world: Path, report: Path, *words: str) -> list[dict[str, str]]:
+    def rows(self, world: Path, report: Path, *words: Word) -> list[dict[str, str]]:
         """The rows that the verb writes."""
         return list(csv.DictReader(io.StringIO(self.passes("rates", world, report, *words))))
 

@@ -1,7 +1,7 @@
 """Reports are read whole, packed or not, and their entries taken apart."""
 import gzip
 
-from calls import EXAMPLES, LabCase, feast
+from calls import EXAMPLES, LabCase, Word, feast
 
 from lab.errors import LabError
 from lab.outcome import Outcome, counts
@@ -61,6 +61,18 @@ class Reports(LabCase):
                          (lines[:at], len(report.journal), len(report.abandoned)))
         self.assertEqual(counts(outcome.atoms, ["Fence", "Mouse", "Nobody"]),
                          [sum(" Fence " in line for line in lines), sum(" Mouse " in line for line in lines), 0])
+
+    def test_lines_of_refusals(self) -> None:
+        """A file in which the line of a refused call was kept is told by this line."""
+        for line in ("E00 usage: feast check|code|pack FILE..", "w: E01 unreadable", "walker.ulam:3:17: E31 unknown name",
+                     "gr\u00f6\u00dfe.ulam:1:1: E20 syntax"):
+            report = self.file("report", line + "\n")
+            says = f"lab: {report}: no report, but the line of a call that was refused: {line}\n"
+            calls: list[list[Word]] = [
+                ["atoms", report, EXAMPLES / "walker.ulam"], ["rates", EXAMPLES / "walk.world", report],
+                ["film", EXAMPLES / "walk.world", report, EXAMPLES / "walker.ulam", "--csv"]]
+            for words in calls:
+                self.refused(says, *words)
 
     def test_faults(self) -> None:
         lines = SMALL.splitlines()

@@ -106,20 +106,22 @@ class Sweeps(LabCase):
         known = "they have Base.near, Mover.eager, Mover.shift, Mover.most, Stone.near"
         for name in ("Mover.near", "Mover.far", "Decoy.near", "Stone.most", "Nobody.near"):
             self.refused(f"the files have no constant {name}; {known}", "sweep", "--set", f"{name}=1", *files)
-        for text in ("Mover.near", "near=1", "Mover.near=", "Mover.near=1,,2", "Mover.near=1; }"):
+        self.refused(f"--set near=1: the files have no constant near; {known}", "sweep", "--set", "near=1", *files)
+        for text in ("Mover.near", "Mover.near=", "Mover.near=1,,2", "Mover.near=1; }", "Base.near=1;}", "Base.near=1,-", "A.b.c=1"):
             self.refused(f"--set {text}: it has to be Element.constant=A,B,..", "sweep", "--set", text, *files)
 
     def test_refused_words(self) -> None:
         files = [self.world, self.mover, self.stone]
         words = ["sweep", "--set", "Base.near=1"]
-        self.refused("--repeat 0: each combination", *words, "--repeat", "0", *files)
+        for option in ("repeat", "legs", "jobs"):
+            self.refused(f"--{option} 0: it has to be at least 1", *words, f"--{option}", "0", *files)
         self.refused("--seed 18446744073709551616: a seed is", *words, "--seed", str(2**64), *files)
-        self.refused("required: --set", "sweep", *files)
+        self.refused("required: WORLD, FILE", *words)
         self.refused("--set Base.near: it is given twice", *words, "--set", "Base.near=2", *files)
 
     def test_refused_inputs(self) -> None:
         words = ["sweep", "--set", "Base.near=1"]
-        self.refused("E73 unknown element", *words, self.world, self.stone)
+        self.refused("E73 unknown element", "sweep", "--set", "Stone.near=1", self.world, self.stone)
         self.refused("its attempts have to be drawn", *words, EXAMPLES / "walk.world", self.mover, self.stone)
         baseless = self.file("mover.ulam", "\n\n\n" + SOURCE.split("\n", 3)[3])
         self.refused(f"{self.mover}:4:17: E37", *words, self.world, baseless, self.stone)

@@ -4,7 +4,7 @@ import shutil
 import subprocess
 from pathlib import Path
 
-from calls import EXAMPLES, TOP, LabCase, around, lab, program
+from calls import EXAMPLES, TOP, LabCase, Word, around, lab, program
 
 from lab.main import VERBS
 
@@ -24,7 +24,7 @@ class Words(LabCase):
         self.refused("invalid choice: 'fly'", "fly")
 
     def test_program_that_is_none(self) -> None:
-        words = ["atoms", self.room / "r", EXAMPLES / "fence.ulam"]
+        words: list[Word] = ["atoms", self.room / "r", EXAMPLES / "fence.ulam"]
         done = lab(*words, instead=self.room / "nothing")
         self.assertEqual((done.returncode, done.stdout, done.stderr),
                          (2, "", f"lab: {self.room / 'nothing'}: FEAST_PROGRAM names it, and it is no program\n"))

@@ -9,14 +9,15 @@ model, in the order of the journal, and have to lead to the report's atoms.
 import argparse
 import importlib
 import pathlib
-import subprocess
 import sys
 from collections.abc import Iterator
 from dataclasses import dataclass
 
-import machine
-from plane import read_world
-from window import Elements, act
+sys.path.insert(1, str(pathlib.Path(__file__).resolve().parent.parent))
+import machine  # noqa: E402
+from plane import read_world  # noqa: E402
+from program import written  # noqa: E402
+from window import Elements, act  # noqa: E402
 
 EXAMPLES = pathlib.Path(__file__).resolve().parent.parent.parent / "examples"
 
@@ -38,13 +39,8 @@ class Example:
         return {kind: behave for module in modules for kind, behave in module.ELEMENTS.items()}
 
 
-ALONE = ("diffusion", "regulator", "sorter", "fence", "seasons", "life", "forkbomb", "wator", "membrane")
+ALONE = ("diffusion", "regulator", "sorter", "fence", "seasons", "life", "forkbomb", "wator", "membrane", "gradient", "wire")
 ALL = [*(Example(name) for name in ALONE), Example("swapline", ("stone",)), Example("horde", ("regulator",))]
-
-
-def call(program: pathlib.Path, *words: str) -> str:
-    """What a call of the program writes."""
-    return subprocess.run([str(program), *words], capture_output=True, text=True, check=True).stdout
 
 
 def is_replayed(world: pathlib.Path, text: str, elements: Elements) -> bool:
@@ -60,11 +56,11 @@ def faults(program: pathlib.Path, example: Example) -> Iterator[str]:
     several = EXAMPLES / f"{example.name}-tiles.world"
     elements = example.elements()
     for one in sorted({*EXAMPLES.glob(f"{example.name}*.world")} - {several}):
-        if call(program, "run", str(one), *example.files()) != machine.of_one_tile(read_world(one), elements).text():
+        if written(program, "run", str(one), *example.files()) != machine.of_one_tile(read_world(one), elements).text():
             yield one.name
-    if call(program, "step", str(several), *example.files()) != machine.stepped(read_world(several), elements).text():
+    if written(program, "step", str(several), *example.files()) != machine.stepped(read_world(several), elements).text():
         yield "stepped"
-    if not is_replayed(several, call(program, "run", str(several), *example.files()), elements):
+    if not is_replayed(several, written(program, "run", str(several), *example.files()), elements):
         yield "threads"
 
 

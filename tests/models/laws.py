@@ -3,7 +3,8 @@
 
 Life comes to what Conway's rules alone give; the line moves each stone by one column; the membrane
 parts grains from dust, after every hundredth event too; the antidote leaves an empty plane. Each is
-tried on one tile, stepped, and so many times on threads. A threaded run whose tiles have made too
+tried on one tile, stepped, and so many times on threads; so is that each site of a field knows its distance, and that
+after every hundredth event each pulse of a wire was heard or is on its way. A threaded run whose tiles have made too
 few events is not over; what holds before the end has to hold of it too.
 """
 import argparse
@@ -12,9 +13,10 @@ import sys
 from collections.abc import Callable, Iterator
 
 import machine
-from compare import EXAMPLES, Example, call
-from elements import life, membrane, swapline
+from compare import EXAMPLES, Example
+from elements import gradient, life, membrane, swapline, wire
 from plane import Atom, Plane, World, read_world
+from program import written
 from window import Elements, act
 
 Law = Callable[[World, str, Elements], str]
@@ -60,11 +62,28 @@ def bomb_law(world: World, text: str, _elements: Elements) -> str:
     return "not over" if list(plane_of(world, text).sites()) else "over"
 
 
+def field_law(world: World, text: str, _elements: Elements) -> str:
+    """Each site knows its distance from the source."""
+    return "over" if gradient.is_measured(plane_of(world, text)) else "not over"
+
+
+def wire_law(world: World, text: str, elements: Elements) -> str:
+    """No pulse is lost, and none is doubled."""
+    plane = world.plane()
+    for number, attempt in enumerate(machine.journal_of(text)):
+        act(plane, attempt, elements)
+        if number % 100 == 0 and not wire.is_counted(plane):
+            return "wrong"
+    return "over" if wire.is_counted(plane) else "wrong"
+
+
 LAWS: list[tuple[Example, Law]] = [
     (Example("life"), life_law),
     (Example("swapline", ("stone",)), line_law),
     (Example("membrane"), membrane_law),
     (Example("forkbomb"), bomb_law),
+    (Example("gradient"), field_law),
+    (Example("wire"), wire_law),
 ]
 
 
@@ -73,7 +92,7 @@ def answers(program: pathlib.Path, example: Example, law: Law, runs: int) -> Ite
     calls = [("one tile", "run", ""), ("stepped", "step", "-tiles"), *[("threads", "run", "-tiles")] * runs]
     for kind, word, suffix in calls:
         path = EXAMPLES / f"{example.name}{suffix}.world"
-        text = call(program, word, str(path), *example.files())
+        text = written(program, word, str(path), *example.files())
         yield kind, law(read_world(path), text, example.elements())
 
 

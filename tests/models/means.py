@@ -15,10 +15,11 @@ import tempfile
 from collections.abc import Callable
 from dataclasses import dataclass
 
-from compare import EXAMPLES, Example, call
+from compare import EXAMPLES, Example
 from elements import horde
 from laws import plane_of
 from plane import Attempt, Plane, World, read_world
+from program import written
 from window import act
 
 
@@ -54,7 +55,7 @@ def by_program(program: pathlib.Path, it: Quantity, seed: int) -> float:
     with tempfile.NamedTemporaryFile("w", suffix=".world") as file:
         file.write(text)
         file.flush()
-        return it.measure(plane_of(read_world(path), call(program, "run", file.name, *it.example.files())))
+        return it.measure(plane_of(read_world(path), written(program, "run", file.name, *it.example.files())))
 
 
 def by_model(world: World, it: Quantity, seed: int) -> float:

@@ -4,7 +4,8 @@ from __future__ import annotations
 from typing import Iterator
 
 from packing import Function, code_file, element
-from rows import File, Row, refused, written
+from program import File
+from rows import Row, refused, written
 from texts import atoms, lines, report, world
 
 # The code file of the walker.

@@ -25,20 +25,21 @@ NOTHING, NUMBER, ATOM = 0, 1, 2
 
 @dataclasses.dataclass(frozen=True)
 class Function:
-    """A function by its name, the place where it begins, its parameters, its slots (each NUMBER or ATOM), and its
-    answer."""
+    """A function by its name, the place where it begins, its parameters, its slots (each NUMBER or ATOM), its
+    answer, and the first bit of its class."""
 
     name: str = "behave"
     first: int = 0
     params: int = 0
     slots: tuple[int, ...] = ()
     answer: int = NOTHING
+    base: int = 0
 
     def packed(self) -> bytes:
-        """Its bytes. Its base is 0."""
+        """Its bytes."""
         place = self.first.to_bytes(4, "big")
         counts = bytes([self.params, self.answer, len(self.slots)])
-        return named(self.name) + b"\x00" + place + counts + bytes(kind - NUMBER for kind in self.slots)
+        return named(self.name) + bytes([self.base]) + place + counts + bytes(kind - NUMBER for kind in self.slots)
 
 
 def named(name: str) -> bytes:

@@ -6,105 +6,128 @@ then has, for each leg NNNN from 0001 on,
 
   NNNN.world      the world of the leg
   NNNN.atoms      the atoms at its end, as `replay` writes them (0000.atoms: at the start)
-  NNNN.report.gz  its report, with --keep reports
+  NNNN.kept.gz    its report, with --keep reports (`./lab unpack NNNN.kept.gz` writes it in full)
+  acts.txt        what was done before legs by --at, one act in a line
   course.csv      for each leg: its attempts, events and abandoned attempts; aeps, the events per live
-                  site in all legs so far; and how many atoms of each element it left. Leg 0 is the start.
+                  site in all legs so far; how many atoms of each element it left; and what --count, --mean,
+                  --sum, --min and --max measure of them. Leg 0 is the start.
 
 and copies of the world and the element files, with which the legs are run. A chain that was stopped, at
 whatever moment, goes on if the same command is given again, also with more legs. Another world, other
-elements or other options are refused.
+elements or other options are refused. New measures are added to the course, for the legs that are done too.
+With --until the chain is over once the rule holds at the end of a leg, or at the start.
 
 Seeds: leg k takes the seed S + (k - 1) * (tiles + 1), modulo 2^64, where S is that of --seed or else
 of WORLD. Tile t draws from the seed + t, and the order of a stepped leg is drawn from the seed + tiles,
 so no two legs and no two tiles share a seed. An `order` line of WORLD is not used.
 
---audit audits the report of each leg, and tests that each leg begins with exactly what the one before
-left, except for what --at cleared. It writes `yes` or `no` with the first leg at fault, and ends with 0 or 1.
+--at says what is done to the atoms before a leg, or how many attempts a leg makes. It may be given several times,
+and to a chain that was begun already, for a leg that is still to come. The forms are
+
+  LEG:clear:X,Y,W,H                    no atoms are left in W by H sites, from column X and row Y on
+  LEG:put:Element:member=V,..:X,Y,W,H  each of these sites has an atom whose members have these values, and 0 for
+                                       all others (or LEG:put:Element:X,Y,W,H)
+  LEG:erase:P:X,Y,W,H                  each atom there vanishes with the probability P
+  LEG:flip:P:X,Y,W,H                   of each atom there, with the probability P, one bit of its members is changed
+  LEG:attempts:K                       in this leg alone each tile makes K attempts
+
+A site is X,Y, and several places have `+` between them: 3,4+0,8,16,2. Random numbers come from the seed of the
+leg, or from one that the act has (LEG:flip:0.1:0,0,8,8:seed=7). Acts of one leg are done in their order.
+
+--audit audits the report of each leg, and tests that each leg begins with exactly what the acts before it make of
+what the one before left. It writes `yes` or `no` with the first leg at fault, and ends with 0 or 1.
+With --leg K it does so for leg K alone, or for the start if K is 0. If it says `yes` for the start and for each leg,
+it does for the whole chain.
+
+--from OLD K begins the chain DIR as a branch of another: its legs up to K are copies of the legs of OLD, and it goes on
+from there with the same world, elements and seeds, and with acts of its own. So the two differ by the acts alone.
 """
 import argparse
-import gzip
 from pathlib import Path
 
-from lab.chain_audit import Audit
-from lab.chain_folder import COURSE, Begun, Course, Folder, Leg, digest, refuse_other
-from lab.chain_rule import Cut, Rule
+from lab.alone import Alone
+from lab.branch import begin_branch
+from lab.chain_audit import audit
+from lab.chain_folder import Course, Folder
+from lab.chain_measures import with_measures
+from lab.chain_start import Start
 from lab.errors import LabError
-from lab.files import read_text, write_whole
+from lab.files import read_text
+from lab.keeper import Keeper
 from lab.layout import Layout
-from lab.outcome import Outcome, counts
+from lab.legs import Maker
+from lab.measures import add_measure_options, measures_of
 from lab.program import Program
 from lab.progress import Progress
-from lab.starting import drawn_world, first_atoms, first_seed
-
-PACKING = 3
+from lab.until import FORM, Until
 
 
 def add_arguments(parser: argparse.ArgumentParser) -> None:
     """The words of the verb."""
-    parser.add_argument("--audit", metavar="DIR", action=Audit, help="audit the chain of DIR, and do nothing else")
-    parser.add_argument("folder", metavar="DIR", type=Path,
-                        help="the folder of the chain; it is made if it isn't there")
-    parser.add_argument("--legs", metavar="N", type=int, required=True, help="the number of legs in all")
+    auditing = parser.add_argument("--audit", metavar="DIR", type=Path, action=Alone,
+                                   help="audit the chain of DIR, and do nothing else")
+    parser.add_argument("--leg", metavar="K", type=int, help="with --audit: audit this leg alone")
+    branching = parser.add_argument("--from", metavar=("OLD", "K"), dest="origin", nargs=2, action=Alone,
+                                    help="begin with the legs up to K of another chain")
+    folder = parser.add_argument("folder", metavar="DIR", type=Path,
+                                 help="the folder of the chain; it is made if it isn't there")
+    legs = parser.add_argument("--legs", metavar="N", type=int, required=True, help="the number of legs in all")
     parser.add_argument("--step", action="store_true", help="stepped legs, on one thread; else each tile has a thread")
     parser.add_argument("--seed", metavar="S", type=int, help="the seed of the first leg")
     parser.add_argument("--keep", choices=["none", "reports"], default="none", help="keep the report of each leg")
-    parser.add_argument("--at", metavar="LEG:clear:X,Y,W,H", action="append", default=[],
-                        help="clear a rectangle of W by H sites before a leg; may be given several times")
-    parser.add_argument("world", metavar="WORLD", type=Path, help="the world to begin with")
-    parser.add_argument("files", metavar="FILE", type=Path, nargs="+", help="the element files")
+    parser.add_argument("--at", metavar="LEG:ACT", action="append", default=[],
+                        help="what is done to the atoms before a leg, as above; may be given several times")
+    parser.add_argument("--until", metavar="RULE", help=f"stop after the first leg at whose end this holds: {FORM}")
+    add_measure_options(parser)
+    inputs = [parser.add_argument("world", metavar="WORLD", type=Path, help="the world to begin with"),
+              parser.add_argument("files", metavar="FILE", type=Path, nargs="+", help="the element files")]
+    setattr(auditing, "needless", [folder, legs, *inputs])
+    setattr(branching, "needless", inputs)
 
 
 def run(arguments: argparse.Namespace) -> int:
-    """Begins a chain, or goes on with it, until it has its legs."""
-    if arguments.legs < 1:
-        raise LabError(f"--legs {arguments.legs}: a chain has at least one leg")
-    program, folder = Program.find(), Folder(arguments.folder)
-    world = drawn_world(arguments.world)
-    seed = first_seed(world, arguments.seed)
-    rule = Rule(world, seed, arguments.step, [Cut.of(text, world) for text in arguments.at])
-    begun = Begun(digest(arguments.world), [digest(file) for file in arguments.files],
-                  arguments.step, seed, arguments.keep, arguments.at)
-    atoms = first_atoms(program, arguments.world, arguments.files)
-    course = Course(Layout.of(program, arguments.files).elements, world.sites)
-    folder.make()
-    with folder.held():
-        if folder.is_begun:
-            refuse_other(folder, folder.begun(), begun, arguments.world)
-            course = folder.course(course.elements, world.sites)
-            refuse_changed(folder, course)
-        else:
-            course.legs.append(Leg(0, 0, 0, 0, counts(atoms, course.elements)))
-            folder.begin(begun, arguments.world, arguments.files, atoms, course)
-        go(program, folder, rule, begun, course, arguments.legs)
-    aeps = f"{course.events / world.sites:.4f}"
-    print(f"{folder.path}: {len(course.legs) - 1} legs, {course.events} events, {aeps} a site")
+    """Begins a chain, or goes on with it, and tells how far it has come; or audits one."""
+    if arguments.audit is not None:
+        return audit(Folder(arguments.audit), arguments.leg)
+    if arguments.leg is not None:
+        raise LabError(f"--leg {arguments.leg}: it belongs to --audit DIR")
+    if arguments.origin is not None:
+        begin_branch(arguments)
+    course = made(arguments, Progress(max(arguments.legs, 1)))
+    print(course.summary(arguments.folder))
+    for text in arguments.at:
+        if int(text.partition(":")[0]) >= len(course.legs):
+            print(f"--at {text}: still to come; the chain has {len(course.legs) - 1} legs so far")
     return 0
 
 
-def refuse_changed(folder: Folder, course: Course) -> None:
-    """Refuses to go on from atoms that are not those of the last leg."""
-    last = course.legs[-1]
-    path = folder.atoms(last.number)
-    if counts(read_text(path), course.elements) != last.counts:
-        raise LabError(f"{path}: it has other atoms than {COURSE} says")
+def made(arguments: argparse.Namespace, progress: Progress) -> Course:
+    """Begins a chain, or goes on with it, until it has its legs; gives back its course."""
+    if arguments.legs < 1:
+        raise LabError(f"--legs {arguments.legs}: a chain has at least one leg")
+    program, folder = Program.find(), Folder(arguments.folder)
+    start = Start.of(program, arguments.world, arguments.files, arguments.step, arguments.seed, arguments.keep, arguments.at)
+    layout = Layout.of(program, arguments.files)
+    measures_of(arguments.measures, layout)
+    until = Until.of(arguments.until, layout) if arguments.until is not None else None
+    folder.make()
+    with folder.held():
+        maker, course = start.opened(folder)
+        go(with_measures(maker, course, arguments.measures), course, arguments.legs, until, progress)
+    return course
 
 
-def go(program: Program, folder: Folder, rule: Rule, begun: Begun, course: Course, legs: int) -> None:
-    """Makes the legs that are still to be made."""
-    progress = Progress(legs, len(course.legs) - 1)
-    for number in range(len(course.legs), legs + 1):
-        progress.at(number - 1, f"leg {number} of {legs}")
-        course.legs.append(make_leg(program, folder, rule, begun, course.elements, number))
-        folder.write_course(course)
+def go(maker: Maker, course: Course, legs: int, until: Until | None, progress: Progress) -> None:
+    """Makes the legs that are still to be made, or those up to the first at whose end the rule holds."""
+    progress.start_done = len(course.legs) - 1
+    with Keeper(maker.folder, maker.rule.world) as keeper:
+        keeper.keep_all(len(course.legs) - 1)
+        for number in range(len(course.legs), legs + 1):
+            if until is not None and until.holds(read_text(maker.folder.atoms(number - 1))):
+                break
+            progress.at(number - 1, f"leg {number} of {legs}")
+            report = maker.report(number, maker.atoms_before(number))
+            course.legs.append(maker.written(number, report))
+            maker.folder.write_course(course)
+            keeper.keep(number)
     progress.end()
-
-
-def make_leg(program: Program, folder: Folder, rule: Rule, begun: Begun, elements: list[str], number: int) -> Leg:
-    """Makes a leg and writes its files; it is done when its row stands in the course."""
-    write_whole(folder.world(number), rule.leg(number, read_text(folder.atoms(number - 1))))
-    report = program.call(["step" if begun.step else "run", folder.world(number), *folder.files]).output
-    outcome = Outcome.of(report)
-    if begun.keep == "reports":
-        write_whole(folder.report(number), gzip.compress(report, PACKING, mtime=0))
-    write_whole(folder.atoms(number), outcome.atoms)
-    return Leg(number, rule.attempts, outcome.events, outcome.abandoned, counts(outcome.atoms, elements))

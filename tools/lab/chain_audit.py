@@ -1,37 +1,32 @@
 """The audit of a chain: of each leg, and of what lies between the legs."""
-import argparse
 import tempfile
-from collections.abc import Iterator
-from dataclasses import dataclass
+from collections.abc import Iterator, Sequence
+from dataclasses import dataclass, replace
 from pathlib import Path
-from typing import Any
 
 from lab.chain_folder import Begun, Course, Folder, Leg
-from lab.chain_rule import Cut, Rule
+from lab.chain_rule import Rule, by_legs
 from lab.errors import LabError
-from lab.files import open_report, read_text, write_whole
+from lab.files import read_text, write_whole
+from lab.kept import AnotherReport, read_report
 from lab.layout import Layout
+from lab.measures import Measure, measured, measures_of
 from lab.outcome import Outcome, counts
 from lab.program import Program, Refusal
 from lab.progress import Progress
 from lab.starting import drawn_world, first_atoms
 
 
-class Audit(argparse.Action):
-    """Audits a chain, and ends: as for `--help`, no other words are needed beside it."""
-
-    def __call__(self, parser: argparse.ArgumentParser, _space: argparse.Namespace, values: Any,
-                 _option: str | None = None) -> None:
-        parser.exit(audit(Folder(Path(values))))
-
-
-def audit(folder: Folder) -> int:
-    """Writes whether a chain is what it says, and gives back 0 if it is, else 1."""
+def audit(folder: Folder, leg: int | None) -> int:
+    """Writes whether a chain, or a leg of it, is what it says, and gives back 0 if it is, else 1."""
     begun = folder.begun()
     if begun.keep != "reports":
         raise LabError(f"{folder.path}: the chain can't be audited: it was begun without --keep reports")
-    faults = Chain.of(Program.find(), folder, begun).faults()
-    fault = next(faults, None)
+    chain = Chain.of(Program.find(), folder, begun)
+    legs = len(chain.course.legs) - 1
+    if leg is not None and not 0 <= leg <= legs:
+        raise LabError(f"{folder.path}: the chain has the legs 0 to {legs}, and no leg {leg}")
+    fault = next(chain.faults(range(legs + 1) if leg is None else [leg]), None)
     print("yes" if fault is None else f"no {fault}", flush=True)
     return 0 if fault is None else 1
 
@@ -45,36 +40,46 @@ class Chain:
     begun: Begun
     rule: Rule
     course: Course
+    measures: list[Measure]
 
     @staticmethod
     def of(program: Program, folder: Folder, begun: Begun) -> "Chain":
         """The chain of a folder."""
         world = drawn_world(folder.start)
-        rule = Rule(world, begun.seed, begun.step, [Cut.of(text, world) for text in begun.at])
-        elements = Layout.of(program, folder.files).elements
-        return Chain(program, folder, begun, rule, folder.course(elements, world.sites))
+        layout = Layout.of(program, folder.files)
+        rule = Rule(world, begun.seed, begun.step, by_legs(folder.acts(begun, world, layout)))
+        course = folder.course(layout.elements, world.sites)
+        return Chain(program, folder, begun, rule, course, measures_of(course.measures, layout))
 
-    def faults(self) -> Iterator[str]:
-        """What is wrong with the chain, leg by leg."""
+    def faults(self, legs: Sequence[int]) -> Iterator[str]:
+        """What is wrong with these legs of the chain, leg by leg; 0 is the start."""
         changed = self.folder.changed(self.begun)
         if changed is not None:
             yield f"start: {changed.name} is not as it was when the chain was begun"
+        progress = Progress(len(legs))
+        for done, number in enumerate(legs):
+            progress.at(done, f"leg {number} of {len(self.course.legs) - 1}")
+            yield from self.leg_faults(number) if number else self.start_faults()
+        progress.end()
+
+    def start_faults(self) -> Iterator[str]:
+        """What is wrong with the start."""
         atoms = first_atoms(self.program, self.folder.start, self.folder.files)
         yield from self.leaves(Leg(0, 0, 0, 0, counts(atoms, self.course.elements)), atoms)
-        legs = len(self.course.legs) - 1
-        progress = Progress(legs)
-        for number in range(1, legs + 1):
-            progress.at(number - 1, f"leg {number} of {legs}")
-            if read_text(self.folder.world(number)) != self.rule.leg(number, atoms):
-                yield f"leg {number}: its world does not begin with what leg {number - 1} left"
-            with open_report(self.folder.report(number)) as file:
-                report = file.read()
-            yield from self.verdict(number, report)
-            outcome = Outcome.of(report)
-            atoms = outcome.atoms
-            left = counts(atoms, self.course.elements)
-            yield from self.leaves(Leg(number, self.rule.attempts, outcome.events, outcome.abandoned, left), atoms)
-        progress.end()
+
+    def leg_faults(self, number: int) -> Iterator[str]:
+        """What is wrong with a leg, if the files of what the leg before left are right."""
+        if read_text(self.folder.world(number)) != self.rule.leg(number, read_text(self.folder.atoms(number - 1))):
+            yield f"leg {number}: its world does not begin with what leg {number - 1} left"
+        try:
+            report = read_report(self.folder.report(number))
+        except AnotherReport as fault:
+            yield f"leg {number}: {fault}"
+            return
+        yield from self.verdict(number, report)
+        outcome = Outcome.of(report)
+        left = counts(outcome.atoms, self.course.elements)
+        yield from self.leaves(Leg(number, self.rule.attempts(number), outcome.events, outcome.abandoned, left), outcome.atoms)
 
     def verdict(self, number: int, report: bytes) -> Iterator[str]:
         """What the program's audit of a leg finds wrong."""
@@ -93,5 +98,5 @@ class Chain:
         """What is wrong with the files of what a leg left."""
         if read_text(self.folder.atoms(leg.number)) != atoms:
             yield f"leg {leg.number}: {self.folder.atoms(leg.number).name} has other atoms than it left"
-        if self.course.legs[leg.number] != leg:
+        if self.course.legs[leg.number] != replace(leg, measured=measured(self.measures, atoms)):
             yield f"leg {leg.number}: its row in the course is another"

@@ -5,26 +5,31 @@ import hashlib
 import io
 import json
 import os
-from collections.abc import Iterator, Sequence
+from collections.abc import Iterable, Iterator, Sequence
 from contextlib import contextmanager
 from dataclasses import asdict, dataclass, field
 from pathlib import Path
 from typing import Any
 
+from lab.acts import Act
 from lab.errors import LabError
 from lab.files import PART, cause, read_bytes, read_text, write_whole
+from lab.kept import SUFFIX
+from lab.layout import Layout
+from lab.world import World
 
 MANIFEST = "chain.json"
 START = "start.world"
 ELEMENTS = "elements"
 COURSE = "course.csv"
+ACTS = "acts.txt"
 KINDS = [str, list, bool, int, str, list]
 COLUMNS = ["leg", "attempts", "events", "abandoned", "aeps"]
 
 
 @dataclass(frozen=True)
 class Begun:
-    """What a chain is begun with: it goes on with the same alone."""
+    """What a chain is begun with: it goes on with the same alone. `at` are the acts that were given then."""
 
     world: str
     elements: list[str]
@@ -36,22 +41,26 @@ class Begun:
 
 @dataclass(frozen=True)
 class Leg:
-    """A row of the course: a leg, and the atoms of each element at its end. Leg 0 is the start."""
+    """A row of the course: a leg, the atoms of each element at its end, and what is measured of them. Leg 0 is the start."""
 
     number: int
     attempts: int
     events: int
     abandoned: int
     counts: list[int]
+    measured: list[str] = field(default_factory=list)
 
 
 @dataclass
 class Course:
-    """The legs so far; `sites` is how many live sites the plane has."""
+    """The legs so far; `sites` is how many live sites the plane has, `measures` are the columns of what is measured."""
 
     elements: list[str]
     sites: int
     legs: list[Leg] = field(default_factory=list)
+    measures: list[str] = field(default_factory=list)
+    rows: list[str] = field(default_factory=list, repr=False)  # the text of the head and of the legs before
+    written_events: int = 0  # how many events these legs have
 
     @property
     def events(self) -> int:
@@ -60,15 +69,17 @@ class Course:
 
     def text(self) -> str:
         """The course as CSV."""
-        text = io.StringIO()
-        rows = csv.writer(text, lineterminator="\n")
-        rows.writerow([*COLUMNS, *self.elements])
-        events = 0
-        for leg in self.legs:
-            events += leg.events
-            aeps = f"{events / self.sites:.4f}"
-            rows.writerow([leg.number, leg.attempts, leg.events, leg.abandoned, aeps, *leg.counts])
-        return text.getvalue()
+        if not self.rows:
+            self.rows.append(row_of([*COLUMNS, *self.elements, *self.measures]))
+        for leg in self.legs[len(self.rows) - 1:]:
+            self.written_events += leg.events
+            aeps = f"{self.written_events / self.sites:.4f}"
+            self.rows.append(row_of([leg.number, leg.attempts, leg.events, leg.abandoned, aeps, *leg.counts, *leg.measured]))
+        return "".join(self.rows)
+
+    def summary(self, path: Path) -> str:
+        """What the chain has come to, in a line."""
+        return f"{path}: {len(self.legs) - 1} legs, {self.events} events, {self.events / self.sites:.4f} a site"
 
 
 @dataclass(frozen=True)
@@ -86,8 +97,24 @@ class Folder:
         return self.path / f"{leg:04}.atoms"
 
     def report(self, leg: int) -> Path:
-        """The report of a leg, if reports are kept."""
+        """The report of a leg, if reports are kept: in short, or packed by gzip as a whole, or not packed yet."""
+        return next((path for path in (self.kept(leg), self.packed(leg), self.raw(leg)) if path.exists()), self.kept(leg))
+
+    def done(self) -> int:
+        """How many legs are done, if the course is as the lab writes it; the audit judges the rest of it."""
+        return max(len(read_text(self.path / COURSE).splitlines()) - 2, 0)
+
+    def kept(self, leg: int) -> Path:
+        """The report of a leg without what follows from its world."""
+        return self.path / f"{leg:04}{SUFFIX}"
+
+    def packed(self, leg: int) -> Path:
+        """The whole report of a leg, packed by gzip."""
         return self.path / f"{leg:04}.report.gz"
+
+    def raw(self, leg: int) -> Path:
+        """The report of a leg as the program wrote it, until it is packed."""
+        return self.path / f"{leg:04}.report"
 
     @property
     def start(self) -> Path:
@@ -140,14 +167,36 @@ class Folder:
         copies = self.path / ELEMENTS
         write_whole(self.coming, json.dumps(asdict(begun), indent=2) + "\n")
         copies.mkdir(exist_ok=True)
-        for left in copies.iterdir():
-            left.unlink()
+        for left in (*copies.iterdir(), self.path / ACTS):
+            left.unlink(missing_ok=True)
         write_whole(self.start, read_bytes(world))
         for number, file in enumerate(files):
             write_whole(copies / f"{number:02}-{file.name}", read_bytes(file))
         write_whole(self.atoms(0), atoms)
+        if begun.at:
+            self.write_acts(begun.at)
         self.write_course(course)
         os.replace(self.coming, self.manifest)
+
+    def act_texts(self, begun: Begun) -> list[str]:
+        """The acts on record, in their order; if there is no record, those with which the chain was begun."""
+        record = self.path / ACTS
+        return read_text(record).splitlines() if record.exists() else begun.at
+
+    def acts(self, begun: Begun, world: World, layout: Layout) -> list[Act]:
+        """The acts on record, each read."""
+        record = self.path / ACTS
+        found = []
+        for number, text in enumerate(self.act_texts(begun), 1):
+            try:
+                found.append(Act.of(text, world, layout, begun.seed))
+            except LabError as error:
+                raise LabError(f"{record}:{number}: {error}") from error
+        return found
+
+    def write_acts(self, texts: Iterable[str]) -> None:
+        """Writes the record of the acts, one in a line."""
+        write_whole(self.path / ACTS, "".join(f"{text}\n" for text in texts))
 
     @contextmanager
     def held(self) -> Iterator[None]:
@@ -185,26 +234,35 @@ class Folder:
         """The legs that are done."""
         path = self.path / COURSE
         header, *rows = list(csv.reader(io.StringIO(read_text(path)))) or [[]]
-        if header != [*COLUMNS, *elements]:
+        first = len(COLUMNS) + len(elements)
+        if header[:first] != [*COLUMNS, *elements]:
             raise LabError(f"{path}:1: its columns are not those of this chain")
-        course = Course(elements, sites)
+        course = Course(elements, sites, measures=header[first:])
         for number, row in enumerate(rows):
-            course.legs.append(leg_of(row, number, len(elements), path))
+            course.legs.append(leg_of(row, number, course, path))
         if not rows or course.text() != read_text(path):
             raise LabError(f"{path}: not as the lab wrote it; take back what was changed")
         return course
 
 
-def leg_of(row: list[str], number: int, elements: int, path: Path) -> Leg:
+def row_of(cells: Sequence[object]) -> str:
+    """A row of CSV."""
+    text = io.StringIO()
+    csv.writer(text, lineterminator="\n").writerow(cells)
+    return text.getvalue()
+
+
+def leg_of(row: list[str], number: int, course: Course, path: Path) -> Leg:
     """The leg of a row."""
+    first = len(COLUMNS) + len(course.elements)
     try:
         leg, attempts, events, abandoned = map(int, row[:4])
-        counts = list(map(int, row[5:]))
+        counts = list(map(int, row[5:first]))
     except ValueError as error:
         raise LabError(f"{path}:{number + 2}: no row of a course") from error
-    if leg != number or len(counts) != elements:
+    if leg != number or len(row) != first + len(course.measures):
         raise LabError(f"{path}:{number + 2}: the row of leg {number} should stand here")
-    return Leg(leg, attempts, events, abandoned, counts)
+    return Leg(leg, attempts, events, abandoned, counts, row[first:])
 
 
 def digest(path: Path) -> str:
@@ -222,7 +280,7 @@ def refuse_other(folder: Folder, was: Begun, now: Begun, world: Path) -> None:
     if was.elements != now.elements:
         copies = folder.path / ELEMENTS
         raise LabError(f"{folder.path}: the chain was begun with other elements; its own are in {copies}")
-    for option in ("step", "seed", "keep", "at"):
+    for option in ("step", "seed", "keep"):
         old, new = getattr(was, option), getattr(now, option)
         if old != new:
             raise LabError(f"{folder.path}: the chain was begun with --{option} {said(old)}, not {said(new)}")
@@ -232,6 +290,4 @@ def said(value: object) -> str:
     """The value of an option in words."""
     if isinstance(value, bool):
         return "set" if value else "not set"
-    if isinstance(value, list):
-        return " ".join(value) or "not set"
     return str(value)

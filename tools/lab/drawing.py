@@ -1,16 +1,23 @@
 """Maps of the plane: drawings in letters, and patterns in Golly's RLE."""
+import gzip
 import re
+import sys
+import zlib
 from collections.abc import Iterator
 from dataclasses import dataclass
 from pathlib import Path
 
 from lab.errors import LabError
-from lab.files import read_text
+from lab.files import GZIP_MAGIC, read_bytes
 
-HEADER = re.compile(r"\s*x\s*=\s*(\d+)\s*,\s*y\s*=\s*(\d+).*")
+HEADER = re.compile(r"\s*x\s*=\s*(\d+)\s*,\s*y\s*=\s*(\d+)\s*(?:,\s*rule\s*=\s*(\S.*?)\s*|,.*)?")
 RUN = re.compile(r"\s*(?:(\d*)\s*([p-y]?[A-X]|[.bo$!])|(\d*\s*\S))")
 EMPTY_IN_RLE = (".", "b")
 EMPTY_IN_LETTERS = (".", " ")
+STANDARD_INPUT = Path("-")
+LIFE = ("b3/s23", "s23/b3", "23/3", "life")  # the names of the rule of the Game of Life
+# what a form that isn't read begins with, the endings of its files, and its name
+OTHER_FORMS = (("[M2]", (".mc",), "a macrocell file"), ("#Life 1.0", (".lif", ".life"), "a pattern in the form Life 1.05 or 1.06"))
 
 
 @dataclass(frozen=True)
@@ -24,22 +31,60 @@ class Mark:
 
 @dataclass(frozen=True)
 class Drawing:
-    """The symbols of a map that aren't empty, one by one, and which symbols are empty in it."""
+    """The symbols of a map that aren't empty, one by one, and which symbols are empty in it.
 
-    path: Path
+    `box` is how wide and high a pattern in RLE says that it is, and `rule` the rule that it names.
+    """
+
+    name: str
     empty: tuple[str, str]
     marks: Iterator[Mark]
+    box: tuple[int, int] | None = None
+    rule: str | None = None
 
     @staticmethod
     def read(path: Path) -> "Drawing":
-        """The map of a file: in RLE if it has the header of such a pattern, else in letters."""
-        lines = [line.removesuffix("\r") for line in read_text(path).split("\n")]
+        """The map of a file, or of standard input: in RLE if it has the header of such a pattern, else in letters."""
+        name = "standard input" if path == STANDARD_INPUT else str(path)
+        text = text_of(path, name)
+        lines = [line.removesuffix("\r") for line in text.split("\n")]
         for number, line in enumerate(lines):
-            if not line.startswith("#"):
-                if HEADER.fullmatch(line):
-                    return Drawing(path, EMPTY_IN_RLE, runs(path, lines[number + 1:]))
+            header = HEADER.fullmatch(line)
+            if header is not None:
+                marks = runs(name, lines[number + 1:])
+                return Drawing(name, EMPTY_IN_RLE, marks, (int(header[1]), int(header[2])), header[3])
+            if line.strip() and not line.startswith("#"):
                 break
-        return Drawing(path, EMPTY_IN_LETTERS, letters(lines))
+        refuse_other_forms(path, name, text)
+        return Drawing(name, EMPTY_IN_LETTERS, letters(lines))
+
+    def warnings(self, places: list[tuple[int, int]]) -> Iterator[str]:
+        """What a user should know of a map with symbols at these places."""
+        if self.rule is not None and self.rule.lower() not in LIFE:
+            yield f"the pattern is made for the rule {self.rule}, and not for B3/S23; its atoms do what their element says"
+        wide, high = self.box or (0, 0)
+        beyond = sum(x >= wide or y >= high for x, y in places)
+        if self.box is not None and beyond:
+            yield f"{beyond} of its cells lie beyond the {wide} columns and {high} rows of its first line; they are painted too"
+
+
+def text_of(path: Path, name: str) -> str:
+    """The text of a map, unpacked if it was packed by gzip, without a byte order mark."""
+    data = sys.stdin.buffer.read() if path == STANDARD_INPUT else read_bytes(path)
+    try:
+        return (gzip.decompress(data) if data.startswith(GZIP_MAGIC) else data).decode("utf-8-sig")
+    except (EOFError, zlib.error, gzip.BadGzipFile) as error:
+        raise LabError(f"{name}: the packed map is damaged or cut short") from error
+    except UnicodeDecodeError as error:
+        raise LabError(f"{name}: byte {error.start + 1} is no part of a text in UTF-8") from error
+
+
+def refuse_other_forms(path: Path, name: str, text: str) -> None:
+    """Refuses the other forms in which programs for the Game of Life keep patterns."""
+    suffix = Path(path.name.removesuffix(".gz")).suffix
+    for front, suffixes, form in OTHER_FORMS:
+        if text.startswith(front) or suffix in suffixes:
+            raise LabError(f"{name}: {form}, which is not read; open it in Golly and save it as RLE")
 
 
 def letters(lines: list[str]) -> Iterator[Mark]:
@@ -48,14 +93,14 @@ def letters(lines: list[str]) -> Iterator[Mark]:
         yield from (Mark(x, y, symbol) for x, symbol in enumerate(line) if symbol not in EMPTY_IN_LETTERS)
 
 
-def runs(path: Path, lines: list[str]) -> Iterator[Mark]:
+def runs(name: str, lines: list[str]) -> Iterator[Mark]:
     """The symbols of a pattern in RLE, which counts cells and rows; `!` ends it."""
     x = y = 0
     text = "\n".join(line for line in lines if not line.startswith("#"))
     for match in RUN.finditer(text):
         times, symbol = int(match[1] or 1), match[2]
         if symbol is None:
-            raise LabError(f"{path}: {match[3]} is no part of a pattern in RLE")
+            raise LabError(f"{name}: {match[3]} is no part of a pattern in RLE")
         if symbol == "!":
             return
         if symbol == "$":
@@ -64,4 +109,4 @@ def runs(path: Path, lines: list[str]) -> Iterator[Mark]:
         if symbol not in EMPTY_IN_RLE:
             yield from (Mark(x + at, y, symbol) for at in range(times))
         x += times
-    raise LabError(f"{path}: the pattern has no end: a `!` is missing")
+    raise LabError(f"{name}: the pattern has no end: a `!` is missing")

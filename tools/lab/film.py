@@ -3,33 +3,48 @@
 The page plays without a network: the plane with the borders of its tiles, the numbers of atoms over the
 events, where attempts were abandoned, and the members of the atom at any site. Colours and letters of the
 elements are those of \\color and \\symbol in the doc comments above them, as in \\color #0072b2 and \\symbol Fe.
+--color, or \\color-by in the comment, colours the atoms of an element by the value of a member instead.
+--count, --mean, --sum, --min and --max add curves to the page and columns to the CSV.
 
 In place of WORLD, REPORT and the element files you can give the folder of a chain. If the chain keeps no
 reports, the plane is known only at the ends of its legs, so these are the frames.
+
+With --failures each event is made again in Python, which takes longer: the page then has a red cross at each site
+where events failed, and the CSV a column `failed`. If the program makes an event otherwise than the lab, the status is 1.
 """
 import argparse
-import csv
-import io
 import sys
 import tempfile
-from collections import Counter
-from collections.abc import Iterator, Sequence
+from collections.abc import Iterator, Mapping
 from pathlib import Path
 
+from lab.drift import MIXED, greatest, plans, tiles_of, warning
 from lab.errors import LabError
+from lab.failure_plane import FailurePlane
 from lab.figure import plane_figure
 from lab.files import write_whole
 from lab.film_data import Packer
+from lab.film_measures import Curves
 from lab.film_page import page
 from lab.film_source import Source
-from lab.frames import Frame, frames
+from lab.film_table import Table
+from lab.frames import Frame, Reported, frames
+from lab.layout import Leaf
 from lab.marks import marks
+from lab.measures import add_measure_options
+from lab.movie import movie
 from lab.program import Program
 from lab.progress import Progress
 from lab.replays import Plane
+from lab.retraced import reported_legs, status_of
+from lab.stack_code import codes
+from lab.tints import tinted, tints
+from lab.words import take_words_anywhere
 
 FRAMES = 400
-USAGE = "./lab film [-h] [--frames F] (-o FILE.html | --svg K | --csv) (WORLD REPORT FILE.. | DIR)"
+PAGES = (".html", ".htm", ".xhtml")
+USAGE = """./lab film [-h] [--frames F] [--failures] [--color Element.member] [MEASURE..]
+       (-o FILE.html [--table FILE.csv] | --svg K | --svg-movie SECONDS | --csv) (WORLD REPORT FILE.. | DIR)"""
 
 
 def add_arguments(parser: argparse.ArgumentParser) -> None:
@@ -42,46 +57,78 @@ def add_arguments(parser: argparse.ArgumentParser) -> None:
                         help=f"how many frames follow the first, evenly spaced over the events (default {FRAMES})")
     parser.add_argument("-o", "--output", type=Path, metavar="FILE",
                         help="the file to write; without it SVG and CSV go to standard output")
+    parser.add_argument("--table", type=Path, metavar="FILE.csv",
+                        help="write the numbers of atoms of each frame beside the film, from the same replay")
     form = parser.add_mutually_exclusive_group()
     form.add_argument("--svg", type=int, metavar="K", help="write the plane after K events, as SVG")
+    form.add_argument("--svg-movie", type=float, metavar="SECONDS", help="write the film as one SVG that moves by itself")
     form.add_argument("--csv", action="store_true", help="write the numbers of atoms of each frame, as CSV")
+    parser.add_argument("--color", metavar="Element.member", action="append", default=[],
+                        help="colour the atoms of an element by the value of a member; may be given for several elements")
+    add_measure_options(parser)
+    parser.add_argument("--failures", action="store_true", help="find the events that failed, and show them")
     take_words_anywhere(parser)
-
-
-def take_words_anywhere(parser: argparse.ArgumentParser) -> None:
-    """Lets options stand between the words of a list, which argparse does only by this other function."""
-    plain = parser.parse_known_args
-
-    def parse(args: Sequence[str], namespace: argparse.Namespace | None) -> tuple[argparse.Namespace, list[str]]:
-        setattr(parser, "parse_known_args", plain)
-        return parser.parse_known_intermixed_args(args, namespace)
-
-    setattr(parser, "parse_known_args", parse)
 
 
 def run(arguments: argparse.Namespace) -> int:
     """Writes what is asked for."""
     if arguments.frames < 1:
         raise LabError(f"--frames {arguments.frames}: a film has at least one frame behind the first")
-    if arguments.output is None and arguments.svg is None and not arguments.csv:
+    if arguments.svg_movie is not None and not 0.1 <= arguments.svg_movie <= 3600:
+        raise LabError(f"--svg-movie {arguments.svg_movie:g}: a film takes from 0.1 to 3600 seconds")
+    if arguments.svg_movie is not None and arguments.color:
+        raise LabError("--color: a film as SVG colours atoms by their elements alone")
+    if arguments.output is None and arguments.svg is None and arguments.svg_movie is None and not arguments.csv:
         raise LabError("a film has to be written to a file: -o FILE.html")
-    if arguments.output is not None and not arguments.output.absolute().parent.is_dir():
-        raise LabError(f"{arguments.output}: there is no such folder to write to")
+    refuse_outputs(arguments)
+    if arguments.failures and (arguments.svg is not None or arguments.svg_movie is not None):
+        raise LabError("--failures goes with a film or with --csv")
+    return status_of(lambda: write(arguments))
+
+
+def write(arguments: argparse.Namespace) -> None:
+    """Makes what is asked for, and writes it."""
     program = Program.find()
     source = Source.of(program, arguments.words)
+    curves = Curves(arguments.measures or source.measures, source.layout)
+    leaves = tinted(arguments.color, source.layout, source.files)
     with tempfile.TemporaryDirectory() as folder:
         plane = Plane(program, source.files, Path(folder))
+        if arguments.failures:
+            reported_legs(source)
+            plane = FailurePlane(program, source.files, Path(folder), source.world, codes(program, source.files))
         if arguments.svg is not None:
-            text = figure_of(plane, source, arguments.svg)
+            text = figure_of(plane, source, arguments.svg, leaves)
+        elif arguments.svg_movie is not None:
+            text = movie(source.world, source.title, shown(plane, source, arguments.frames),
+                         marks(source.layout.elements, source.files), arguments.svg_movie)
         elif arguments.csv:
-            text = table_of(source, shown(plane, source, arguments.frames))
+            text = table_of(source, curves.watched(shown(plane, source, arguments.frames)), curves, arguments.failures)
         else:
-            text = page_of(source, shown(plane, source, arguments.frames))
+            films = curves.watched(shown(plane, source, arguments.frames))
+            if arguments.table is None:
+                text = page_of(source, films, curves, leaves, arguments.failures)
+            else:
+                table = Table(source, curves, arguments.failures)
+                text = page_of(source, table.noting(films), curves, leaves, arguments.failures)
+                write_whole(arguments.table, table.text())
     if arguments.output is None:
         sys.stdout.write(text)
     else:
         write_whole(arguments.output, text)
-    return 0
+
+
+def refuse_outputs(arguments: argparse.Namespace) -> None:
+    """Refuses files that can't be written, or whose names end as those of another form."""
+    for path in (arguments.output, arguments.table):
+        if path is not None and not path.absolute().parent.is_dir():
+            raise LabError(f"{path}: there is no such folder to write to")
+    is_page = arguments.svg is None and arguments.svg_movie is None and not arguments.csv
+    if is_page and arguments.output.suffix not in PAGES:
+        raise LabError(f"{arguments.output}: a film is a page for a browser, so its name has to end with .html; "
+                       "--svg K makes a picture, and --csv a table")
+    if arguments.table is not None and not is_page:
+        raise LabError("--table belongs to a film; --csv writes the table alone")
 
 
 def shown(plane: Plane, source: Source, count: int) -> Iterator[Frame]:
@@ -93,39 +140,43 @@ def shown(plane: Plane, source: Source, count: int) -> Iterator[Frame]:
     progress.end()
 
 
-def page_of(source: Source, films: Iterator[Frame]) -> str:
+def page_of(source: Source, films: Iterator[Frame], curves: Curves, leaves: Mapping[str, Leaf], has_failures: bool) -> str:
     """The film."""
     marked = marks(source.layout.elements, source.files)
-    packer = Packer(source.layout.elements)
+    packer = Packer(source.layout.elements, has_failures)
+    made = bytearray()
     for frame in films:
         packer.add(frame)
-    return page(source.title, source.world, source.layout, marked, packer, source.cut_moments)
+        made += frame.made
+    more = {"measures": curves.head(), "colorBy": [tint.head() for tint in tints(leaves, packer.atoms).values()]}
+    return page(source.title, source.world, source.layout, marked, packer, source.act_moments, told_drift(source, made), more)
 
 
-def table_of(source: Source, films: Iterator[Frame]) -> str:
-    """The counts of the elements in each frame, with the events and the abandoned attempts so far."""
-    text = io.StringIO()
-    out = csv.writer(text, lineterminator="\n")
-    elements = source.layout.elements
-    out.writerow(["frame", "events", "abandoned", "aeps", *elements])
-    cells: dict[int, str] = {}
-    counts: Counter[str] = Counter()
-    abandoned = 0
-    for number, frame in enumerate(films):
-        abandoned += frame.abandoned
-        counts.subtract(cells.get(site, "").partition(" ")[0] for site in frame.changes)
-        counts.update(atom.partition(" ")[0] for atom in frame.changes.values())
-        cells |= frame.changes
-        aeps = f"{frame.events / source.world.sites:.4f}"
-        out.writerow([number, frame.events, abandoned, aeps, *(counts[name] for name in elements)])
-    return text.getvalue()
+def table_of(source: Source, films: Iterator[Frame], curves: Curves, has_failures: bool) -> str:
+    """The counts of the elements in each frame."""
+    table, made = Table(source, curves, has_failures), bytearray()
+    for frame in table.noting(films):
+        made += frame.made
+    told_drift(source, made)
+    return table.text()
 
 
-def figure_of(plane: Plane, source: Source, moment: int) -> str:
+def told_drift(source: Source, made: bytes) -> float:
+    """The drift of the whole run, from the tile of each of its events; warns if its moments mix ages."""
+    drift = greatest(plans(source.world), made)
+    if drift > MIXED:
+        print(f"lab: warning: {source.title}: {warning(drift)}", file=sys.stderr)
+    return drift
+
+
+def figure_of(plane: Plane, source: Source, moment: int, leaves: Mapping[str, Leaf]) -> str:
     """The plane after so many events, as SVG."""
     if not 0 <= moment <= source.ends[-1]:
         raise LabError(f"--svg {moment}: there are {source.ends[-1]} events")
     leg, events = source.leg_at(moment)
     atoms = leg.atoms_after(plane, events)
+    if isinstance(leg, Reported) and leg.known is not None and 0 < events < leg.events:
+        told_drift(source, tiles_of(leg.known.journal.lines))
     caption = f"{source.title} after {moment:,} of {source.ends[-1]:,} events"
-    return plane_figure(source.world, atoms, marks(source.layout.elements, source.files), caption)
+    scales = tints(leaves, (line.split(" ", 2)[2] for line in atoms))
+    return plane_figure(source.world, atoms, marks(source.layout.elements, source.files), caption, scales)

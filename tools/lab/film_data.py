@@ -3,12 +3,12 @@
 Numbers are written seven bits a byte, the lowest first, each byte but the last with its top bit set. The bytes
 are: the atoms that come up, each its kind and nine bytes of state; the number of all changes; for each frame how
 many changes it has, their sites, and their atoms (numbered from 1 in the order above, 0 for none); for each frame
-how many sites have abandoned attempts, these sites, and how many at each. A site is told by its distance from the
-one before.
+how many sites have abandoned attempts, these sites, and how many at each; and the same of failed events, if the film has
+these. A site is told by its distance from the one before.
 """
 import base64
 import gzip
-from collections.abc import Sequence
+from collections.abc import Mapping, Sequence
 
 from lab.frames import Frame
 
@@ -16,13 +16,15 @@ from lab.frames import Frame
 class Packer:
     """Takes the frames of a film one after another."""
 
-    def __init__(self, elements: Sequence[str]) -> None:
+    def __init__(self, elements: Sequence[str], has_failures: bool = False) -> None:
         self.kinds = {name: kind for kind, name in enumerate(elements, 1)}
         self.atoms = {"": 0}
         self.atom_bytes = bytearray()
         self.changes = 0
         self.frame_bytes = bytearray()
         self.place_bytes = bytearray()
+        self.failure_bytes = bytearray()
+        self.failed: list[int] | None = [] if has_failures else None
         self.events: list[int] = []
         self.abandoned: list[int] = []
 
@@ -35,10 +37,10 @@ class Packer:
         put_sites(self.frame_bytes, sites)
         for site in sites:
             put(self.frame_bytes, self.atom(frame.changes[site]))
-        sites = sorted(frame.places)
-        put_sites(self.place_bytes, sites)
-        for site in sites:
-            put(self.place_bytes, frame.places[site])
+        put_counts(self.place_bytes, frame.places)
+        if self.failed is not None:
+            self.failed.append(frame.failed.total())
+            put_counts(self.failure_bytes, frame.failed)
 
     def atom(self, text: str) -> int:
         """The number of an atom; one that comes up for the first time is noted."""
@@ -56,8 +58,16 @@ class Packer:
         put(whole, len(self.atoms) - 1)
         whole += self.atom_bytes
         put(whole, self.changes)
-        whole += self.frame_bytes + self.place_bytes
+        whole += self.frame_bytes + self.place_bytes + self.failure_bytes
         return base64.b64encode(gzip.compress(whole, mtime=0)).decode()
+
+
+def put_counts(to: bytearray, counts: Mapping[int, int]) -> None:
+    """Writes how many sites there are, the sites, and the number of each."""
+    sites = sorted(counts)
+    put_sites(to, sites)
+    for site in sites:
+        put(to, counts[site])
 
 
 def put_sites(to: bytearray, sites: Sequence[int]) -> None:

@@ -5,40 +5,70 @@ from collections.abc import Mapping, Sequence
 from html import escape
 from pathlib import Path
 
+from lab.drift import MIXED, warning
 from lab.film_data import Packer
 from lab.layout import Layout
 from lab.marks import Mark
 from lab.world import World
 
 PAGE = Path(__file__).resolve().parent / "page"
-SCRIPTS = ("film.js", "atoms.js", "plane.js", "chart.js", "page.js")
+SCRIPTS = ("film.js", "atoms.js", "looks.js", "tints.js", "plane.js", "chart.js", "measures.js", "failures.js", "page.js",
+           "film_page.js")
+CURVES = "Click into the curves to go to that moment."
 
 
-def page(title: str, world: World, layout: Layout, marks: Sequence[Mark], packer: Packer, cuts: Sequence[int]) -> str:
-    """The page. `cuts` are the moments, in events, at which a leg of a chain begins."""
-    head = {
+def page(title: str, world: World, layout: Layout, marks: Sequence[Mark], packer: Packer,
+         acts: Sequence[tuple[int, str]], drift: float, more: Mapping[str, object]) -> str:
+    """The page. `acts` are what was done to the atoms of a chain, each with its moment, in events.
+
+    `drift` is how far tiles were apart at the worst moment, which the page tells if it is much; `more` are further parts
+    of the head.
+    """
+    told: dict[str, object] = {
+        **head(world, layout, marks),
+        "events": packer.events,
+        "abandoned": packer.abandoned,
+        "failed": packer.failed,
+        "acts": [{"events": moment, "text": text} for moment, text in acts],
+        "mixed": f"{warning(drift).capitalize()}." if drift > MIXED else "",
+        **more,
+    }
+    data = json.dumps(told, separators=(",", ":")).replace("<", "\\u003c")
+    scripts = "".join(part(name) for name in SCRIPTS)
+    return filled(part("frame.html"), {
+        "TITLE": escape(title),
+        "STYLE": f"<style>\n{part('page.css')}</style>",
+        "CONTROLS": part("film_controls.html"),
+        "KEYS": part("film_keys.html"),
+        "CURVES": CURVES,
+        "HANDS": "",
+        "DATA": f'<script type="application/json" id="head">{data}</script>\n'
+                f'<script type="text/plain" id="frames">{packer.packed()}</script>',
+        "SCRIPT": f"<script>\n{scripts}</script>",
+    })
+
+
+def part(name: str) -> str:
+    """A file of the page."""
+    return (PAGE / name).read_text()
+
+
+def head(world: World, layout: Layout, marks: Sequence[Mark]) -> dict[str, object]:
+    """What the page needs of the plane and the elements."""
+    return {
         "tiles": [world.tiles_x, world.tiles_y],
         "size": [world.width, world.height],
         "off": world.off,
         "liveSites": world.sites,
         "elements": [element(layout, mark) for mark in marks],
-        "events": packer.events,
-        "abandoned": packer.abandoned,
-        "cuts": cuts,
+        "colorBy": [{"element": mark.name, "member": mark.color_by} for mark in marks if mark.color_by],
     }
-    parts = {
-        "TITLE": escape(title),
-        "STYLE": (PAGE / "film.css").read_text(),
-        "HEAD": json.dumps(head, separators=(",", ":")).replace("<", "\\u003c"),
-        "FRAMES": packer.packed(),
-        "SCRIPT": "".join((PAGE / name).read_text() for name in SCRIPTS),
-    }
-    return filled((PAGE / "film.html").read_text(), parts)
 
 
 def element(layout: Layout, mark: Mark) -> dict[str, object]:
-    """What the page needs of an element."""
-    members = [{"name": it.name, "kind": it.kind, "first": it.first, "width": it.width} for it in layout.numbers(mark.name)]
+    """What the page needs of an element; least and greatest values are texts, since they may have 71 bits."""
+    members = [{"name": it.name, "kind": it.kind, "first": it.first, "width": it.width,
+                "least": str(it.least), "greatest": str(it.greatest)} for it in layout.numbers(mark.name)]
     return {"name": mark.name, "color": mark.color, "symbol": mark.symbol, "members": members}
 
 

@@ -2,10 +2,10 @@
 from collections.abc import Sequence
 from dataclasses import dataclass
 from itertools import accumulate
+from operator import itemgetter
 from pathlib import Path
 
 from lab.chain_folder import Folder
-from lab.chain_rule import Cut
 from lab.errors import LabError
 from lab.frames import Ended, Leg, Reported
 from lab.layout import Layout
@@ -16,14 +16,18 @@ from lab.world import World
 
 @dataclass(frozen=True)
 class Source:
-    """Runs that follow one another, with their elements. `cuts` are the legs, from 0, before which sites are cleared."""
+    """Runs that follow one another, with their elements. `acts` are what is done before legs, which count from 0.
+
+    `measures` are those of the course of a chain.
+    """
 
     title: str
     world: World
     layout: Layout
     files: Sequence[Path]
     legs: Sequence[Leg]
-    cuts: Sequence[int] = ()
+    acts: Sequence[tuple[int, str]] = ()
+    measures: Sequence[str] = ()
 
     @staticmethod
     def of(program: Program, words: Sequence[Path]) -> "Source":
@@ -31,7 +35,7 @@ class Source:
         if words[0].is_dir():
             return chain_source(program, words[0], words[1:])
         if len(words) < 3:
-            raise LabError("a film takes WORLD REPORT FILE.., or the folder DIR of a chain")
+            raise LabError("the words have to be WORLD REPORT FILE.., or the folder DIR of a chain")
         world, path, *files = words
         report = Report.read(path)
         leg = Reported(world, len(report.journal), path, report)
@@ -43,18 +47,19 @@ class Source:
         return list(accumulate((leg.events for leg in self.legs), initial=0))
 
     @property
-    def cut_moments(self) -> list[int]:
-        """The moments at which sites are cleared."""
-        return [self.ends[leg] for leg in self.cuts]
+    def act_moments(self) -> list[tuple[int, str]]:
+        """The moment of each act, and the act."""
+        ends = self.ends
+        return [(ends[leg], act) for leg, act in self.acts]
 
     def moments(self, frames: int) -> set[int]:
-        """The moments of so many frames, evenly spaced, and those at which sites are cleared."""
+        """The moments of so many frames, evenly spaced, and those of acts."""
         if any(isinstance(leg, Ended) for leg in self.legs):
             known = self.ends
             even = {known[at] for at in evenly(len(self.legs), frames)}
         else:
             even = set(evenly(self.ends[-1], frames))
-        return even | set(self.cut_moments)
+        return even | {moment for moment, _ in self.act_moments}
 
     def leg_at(self, moment: int) -> tuple[Leg, int]:
         """The leg in which a moment lies, and how many events of the leg are over then."""
@@ -74,11 +79,22 @@ def chain_source(program: Program, path: Path, files: Sequence[Path]) -> Source:
     begun = folder.begun()
     world = World.read(folder.start)
     layout = Layout.of(program, files or folder.files)
-    rows = folder.course(layout.elements, world.sites).legs[1:]
+    course = folder.course(layout.elements, world.sites)
+    rows = course.legs[1:]
     if not rows:
         raise LabError(f"{path}: the chain has no leg yet")
     legs = [Reported(folder.world(row.number), row.events, folder.report(row.number)) if begun.keep == "reports" else
             Ended(folder.world(row.number), row.events, folder.atoms(row.number), row.abandoned)
             for row in rows]
-    cuts = {Cut.of(text, world).leg - 1 for text in begun.at}
-    return Source(path.resolve().name, world, layout, files or folder.files, legs, sorted(cut for cut in cuts if cut < len(legs)))
+    acts = acts_by_leg(folder.act_texts(begun), len(legs))
+    return Source(path.resolve().name, world, layout, files or folder.files, legs, acts, course.measures)
+
+
+def acts_by_leg(texts: Sequence[str], legs: int) -> list[tuple[int, str]]:
+    """The acts on record before the legs there are, which count from 0; what only gives a leg its length is none."""
+    found = []
+    for text in texts:
+        leg, _, act = text.partition(":")
+        if not act.startswith("attempts:") and int(leg) <= legs:
+            found.append((int(leg) - 1, act))
+    return sorted(found, key=itemgetter(0))

@@ -6,9 +6,11 @@ from dataclasses import dataclass, field
 from pathlib import Path
 from typing import Protocol
 
+from lab.drift import tiles_of
 from lab.errors import LabError
 from lab.files import read_text
 from lab.outcome import atom_lines
+from lab.program import Program
 from lab.replays import Plane, call_on
 from lab.report import Report
 from lab.world import World
@@ -18,13 +20,16 @@ from lab.world import World
 class Frame:
     """A moment of a run: how many events lie before it, and what is new since the frame before.
 
-    A change is a site, numbered row by row, with its atom as `NAME STATE`, or with nothing.
+    A change is a site, numbered row by row, with its atom as `NAME STATE`, or with nothing. `made` has the tile of
+    each event since the frame before, as a byte, if the events are known.
     """
 
     events: int = 0
     changes: dict[int, str] = field(default_factory=dict)
     abandoned: int = 0
     places: Counter[int] = field(default_factory=Counter)  # how many attempts were given up at a site, if that is known
+    made: bytearray = field(default_factory=bytearray)
+    failed: Counter[int] = field(default_factory=Counter)  # how many events failed at a site, if the plane looks for that
 
 
 class Player(Protocol):
@@ -58,12 +63,16 @@ class Reported(Leg):
     known: Report | None = None
 
     def player(self, plane: Plane, world: World) -> Player:
-        """What plays the leg. Refuses a report whose events aren't those of its world, or don't lead to its atoms."""
+        """What plays the leg, whose report is checked first."""
+        return Played(plane, world, self.checked(plane.program, plane.files, plane.room))
+
+    def checked(self, program: Program, files: Sequence[Path], room: Path) -> Report:
+        """The report. Refuses one whose events aren't those of its world, or don't lead to its atoms."""
         report = self.known or Report.read(self.report)
-        lines = call_on(plane.program, self.report, plane.room, ["replay", self.world], plane.files)
+        lines = call_on(program, self.report, room, ["replay", self.world], files)
         if lines[2:] != [atom.text() for atom in report.atoms]:
             raise LabError(f"{self.report}: its atoms are not those to which its events lead from {self.world}")
-        return Played(plane, world, report)
+        return report
 
     def atoms_after(self, plane: Plane, events: int) -> list[str]:
         """The lines of the atoms, by `rewind`."""
@@ -102,6 +111,9 @@ class Played:
     def go(self, upto: int, frame: Frame) -> None:
         """Plays until so many events of the leg are over, into a frame."""
         frame.changes |= self.plane.play(self.records[self.at:upto])
+        frame.made += tiles_of(self.records[self.at:upto])
+        frame.failed.update(self.plane.failed)
+        self.plane.failed.clear()
         self.at = upto
         while self.given_up and self.given_up[-1][0] <= upto:
             frame.places[self.given_up.pop()[1]] += 1

@@ -110,18 +110,23 @@ class Layout:
             raise LabError(f"no file has an element {element}; there are {', '.join(self.leaves) or 'none'}")
         return self.leaves[element]
 
+    def leaf(self, element: str, name: str) -> Leaf:
+        """The number of that dotted name in the state of an element."""
+        leaves = {leaf.name: leaf for leaf in self.numbers(element)}
+        if name not in leaves:
+            raise LabError(f"{element} has no member {name}; it has {', '.join(leaves) or 'none'}")
+        return leaves[name]
+
     def decode(self, element: str, state: int) -> list[tuple[str, int]]:
         """The values of the members of an atom by their dotted names; `true` is 1."""
         return [(leaf.name, leaf.value(state)) for leaf in self.numbers(element)]
 
     def encode(self, element: str, values: Mapping[str, int]) -> int:
         """The state in which members have these values, and all others 0."""
-        leaves = {leaf.name: leaf for leaf in self.numbers(element)}
+        self.numbers(element)
         state = 0
         for name, value in values.items():
-            if name not in leaves:
-                raise LabError(f"{element} has no member {name}; it has {', '.join(leaves) or 'none'}")
-            leaf = leaves[name]
+            leaf = self.leaf(element, name)
             if not leaf.least <= value <= leaf.greatest:
                 raise LabError(f"{element}.{name} can't be {value}: it goes from {leaf.least} to {leaf.greatest}")
             state = leaf.put(state, value)

@@ -4,13 +4,17 @@ import importlib
 import os
 import signal
 import sys
+import tempfile
+from pathlib import Path
 from types import FrameType, ModuleType
 from typing import NoReturn
 
 from lab.errors import LabError
 from lab.files import cause
+from lab.words import settle
 
-VERBS = ("chain", "film", "sweep", "rates", "atoms", "paint")
+VERBS = ("check", "explain", "chain", "live", "film", "sweep", "rates", "events", "failures", "trace", "atoms", "paint", "scatter",
+         "unpack")
 EPILOG = """Bad input gets one line on standard error and status 2. Files are written whole or not at all.
 The lab calls the program that ./feast has built; the variable FEAST_PROGRAM names another one."""
 
@@ -35,7 +39,7 @@ def parser(modules: dict[str, ModuleType]) -> Parser:
     """What reads the words."""
     form = argparse.RawDescriptionHelpFormatter
     top = Parser(prog="./lab", formatter_class=form, epilog=EPILOG,
-                 description="Long runs, films, sweeps, rates and atoms, beside the program.")
+                 description="Long runs, a live window, films, sweeps, rates, atoms and checks, beside the program.")
     choice = top.add_subparsers(metavar="VERB", required=True)
     for verb, module in modules.items():
         text = module.__doc__ or ""
@@ -55,7 +59,10 @@ def main(words: list[str]) -> int:
     signal.signal(signal.SIGTERM, stop)
     try:
         arguments = parser(verbs(words)).parse_args(words)
-        status: int = arguments.run(arguments)
+        with tempfile.TemporaryDirectory() as room:
+            if getattr(arguments, "takes_pipes", True):
+                settle(arguments, Path(room))
+            status: int = arguments.run(arguments)
         sys.stdout.flush()
         return status
     except LabError as error:

@@ -6,9 +6,12 @@ A source gives them in the doc comment above the element, as Ulam's own sources 
         \\color #0072b2
         \\symbol Po */
     element Fence { .. }
+
+\\color-by names a member, by whose value the atoms are coloured in place of that: \\color-by dist.
 """
 from __future__ import annotations
 
+import math
 import re
 from collections.abc import Iterable, Iterator, Sequence
 from dataclasses import dataclass
@@ -21,8 +24,10 @@ from lab.files import read_text
 PALETTE = ("#0072b2", "#e69f00", "#009e73", "#d55e00", "#cc79a7", "#56b4e9", "#000000", "#f0e442")
 
 _TOKEN = re.compile(r"(?P<comment>/\*.*?\*/|//[^\n]*)|(?P<word>[A-Za-z_]\w*)|\S", re.S)
-_COMMAND = re.compile(r"\\(color|symbol)\b[ \t]*(\S*)")
+_COMMAND = re.compile(r"\\(color-by|color|symbol)(?![\w-])[ \t]*(\S*)")
 _COLOR = re.compile(r"#(?:[0-9a-fA-F]{3}){1,2}")
+_FORMS = {"color": (_COLOR, "#rgb or #rrggbb"), "symbol": (re.compile(r"\S{1,3}"), "one to three letters"),
+          "color-by": (re.compile(r"\w[\w.\[\]]*"), "the name of a member")}
 
 
 @dataclass(frozen=True)
@@ -32,6 +37,7 @@ class Mark:
     name: str
     color: str  # as #rrggbb
     symbol: str  # one to three letters
+    color_by: str = ""  # the member by whose value it is coloured instead
 
 
 def marks(names: Sequence[str], sources: Iterable[Path]) -> list[Mark]:
@@ -39,7 +45,7 @@ def marks(names: Sequence[str], sources: Iterable[Path]) -> list[Mark]:
     given = {name: told for path in sources for name, told in _given(path)}
     colors = _colors(names, {name: told["color"] for name, told in given.items() if "color" in told})
     symbols = _symbols(names, {name: told["symbol"] for name, told in given.items() if "symbol" in told})
-    return [Mark(name, colors[name], symbols[name]) for name in names]
+    return [Mark(name, colors[name], symbols[name], given.get(name, {}).get("color-by", "")) for name in names]
 
 
 def _given(path: Path) -> Iterator[tuple[str, dict[str, str]]]:
@@ -60,16 +66,15 @@ def _given(path: Path) -> Iterator[tuple[str, dict[str, str]]]:
 
 
 def _commands(path: Path, text: str, doc: re.Match[str] | None) -> dict[str, str]:
-    """The commands of a doc comment: `color`, as #rrggbb, and `symbol`."""
+    """The commands of a doc comment: `color`, as #rrggbb, `symbol` and `color-by`."""
     told: dict[str, str] = {}
     if doc is None:
         return told
     for command in _COMMAND.finditer(doc[0].removesuffix("*/")):
         name, value = command.groups()
-        fits = _COLOR.fullmatch(value) if name == "color" else 1 <= len(value) <= 3 and value.isprintable()
-        if not fits:
+        form, wanted = _FORMS[name]
+        if not form.fullmatch(value) or not value.isprintable():
             line = text.count("\n", 0, doc.start() + command.start()) + 1
-            wanted = "#rgb or #rrggbb" if name == "color" else "one to three letters"
             raise LabError(f"{path}:{line}: \\{name} takes {wanted}, not '{value}'")
         told[name] = _long(value) if name == "color" else value
     return told
@@ -108,7 +113,7 @@ def _candidates(name: str) -> Iterator[str]:
 def brightness(color: str) -> float:
     """How bright a colour is to the eye, from 0 to 1."""
     parts = [int(color[at:at + 2], 16) / 255 for at in (1, 3, 5)]
-    red, green, blue = (part / 12.92 if part <= 0.04 else ((part + 0.055) / 1.055) ** 2.4 for part in parts)
+    red, green, blue = (part / 12.92 if part <= 0.04 else math.pow((part + 0.055) / 1.055, 2.4) for part in parts)
     return 0.2126 * red + 0.7152 * green + 0.0722 * blue
 
 

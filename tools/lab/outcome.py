@@ -1,5 +1,4 @@
 """What a run came to, from the first and the counting lines of its report."""
-from collections import Counter
 from collections.abc import Iterable, Sequence
 from dataclasses import dataclass
 
@@ -41,5 +40,4 @@ def atoms_of(lines: Sequence[str]) -> str:
 
 def counts(atoms: str, elements: Iterable[str]) -> list[int]:
     """How many atoms each of the elements has."""
-    found = Counter(line.split(" ", 3)[2] for line in atom_lines(atoms))
-    return [found[element] for element in elements]
+    return [atoms.count(f" {element} ") for element in elements]

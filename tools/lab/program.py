@@ -1,6 +1,7 @@
 """The program that the lab calls."""
 import os
 import subprocess
+import tempfile
 from collections.abc import Sequence
 from dataclasses import dataclass
 from pathlib import Path
@@ -10,7 +11,10 @@ from first_call.sources import is_stale
 from lab.errors import LabError
 
 TOP = Path(__file__).resolve().parent.parent.parent
+SOURCES = TOP / "crates.txt"
 BUILT = TOP / "crates" / "feast" / "out" / "feast"
+# The program of a released folder, which has no sources.
+RELEASED = TOP / "bin" / "feast"
 INSTEAD = "FEAST_PROGRAM"
 QUIET = {7: "it could not write its output", 8: "it ran out of memory"}
 
@@ -39,12 +43,14 @@ class Program:
 
     @staticmethod
     def find() -> "Program":
-        """The program that `./feast` would run: the built one, unless FEAST_PROGRAM names another."""
+        """The program that `./feast` would run: the built or the released one, unless FEAST_PROGRAM names another."""
         instead = os.environ.get(INSTEAD)
         if instead:
             if not os.access(instead, os.X_OK):
                 raise LabError(f"{instead}: {INSTEAD} names it, and it is no program")
             return Program(Path(instead).resolve())
+        if not SOURCES.exists():
+            return Program(RELEASED)
         if not os.access(BUILT, os.X_OK):
             raise LabError(f"{BUILT}: the program is not built yet; run ./feast once, which builds it")
         if is_stale(TOP, BUILT):
@@ -53,11 +59,13 @@ class Program:
 
     def call(self, words: Sequence[str | Path], cwd: Path | None = None) -> Answer:
         """Calls the program on words; what it refuses is raised as its own line."""
-        done = subprocess.run([self.path, *words], cwd=cwd, stdin=subprocess.DEVNULL,
-                              stdout=subprocess.PIPE, check=False)
+        with tempfile.TemporaryFile() as output:  # no pipe, so that nothing waits for what other threads of the lab do
+            done = subprocess.run([self.path, *words], cwd=cwd, stdin=subprocess.DEVNULL, stdout=output, check=False)
+            output.seek(0)
+            written = output.read()
         if done.returncode != 0:
-            raise Refusal(reason(done.returncode, done.stdout))
-        return Answer(done.stdout)
+            raise Refusal(reason(done.returncode, written))
+        return Answer(written)
 
 
 def reason(status: int, output: bytes) -> str:

@@ -1,7 +1,8 @@
-"""How many events and abandoned attempts each site of a run had, as CSV, and a heat map of them.
+"""How many events and abandoned attempts each site of a run or a chain had, as CSV, and a heat map of them.
 
 A row is a site with its tile, or with --by tile a tile with the least, the mean and the greatest number of
-its sites. A site in the eight rows or columns along a border with another tile needs an edge for its events,
+its sites, and its drift: how far it was ahead of the slowest tile, at the worst moment of the run, as a part of its
+events. A site in the eight rows or columns along a border with another tile needs an edge for its events,
 and its attempts are abandoned if that is held, so on small tiles the rates are uneven.
 """
 import argparse
@@ -9,22 +10,30 @@ import csv
 import sys
 from collections.abc import Iterable, Iterator, Sequence
 from dataclasses import dataclass
+from functools import cached_property
 from pathlib import Path
 
+from lab.chain_folder import Folder
+from lab.drift import drifts, plans, tiles_of
 from lab.errors import LabError
 from lab.files import write_whole
 from lab.heat import heat_map
 from lab.report import Report
+from lab.words import take_words_anywhere
 from lab.world import World
 
 
 @dataclass(frozen=True)
 class Rates:
-    """For each site, numbered row by row, how many events and how many abandoned attempts it had."""
+    """For each site, numbered row by row, how many events and how many abandoned attempts it had.
+
+    `made` has the tile of each event in their order, as a byte.
+    """
 
     world: World
     events: list[int]
     abandoned: list[int]
+    made: bytes
 
     @staticmethod
     def of(world_path: Path, report_path: Path) -> "Rates":
@@ -42,7 +51,25 @@ class Rates:
         made = ((tile, x, y) for _, tile, _, x, y, _ in map(fields, report.journal.lines))
         given_up = ((tile, x, y) for tile, _, x, y, *_ in map(fields, report.abandoned.lines))
         return Rates(world, counts(world, report_path, first, made),
-                     counts(world, report_path, first + events + 1, given_up))
+                     counts(world, report_path, first + events + 1, given_up), tiles_of(report.journal.lines))
+
+    @staticmethod
+    def of_chain(folder: Folder) -> "Rates":
+        """The rates of all legs of a chain that keeps reports, together."""
+        if folder.begun().keep != "reports":
+            raise LabError(f"{folder.path}: the chain keeps no reports, so nothing is known of its sites")
+        legs = range(1, folder.done() + 1)
+        if not legs:
+            raise LabError(f"{folder.path}: the chain has no leg yet")
+        found = [Rates.of(folder.world(leg), folder.report(leg)) for leg in legs]
+        events, abandoned = ([sum(column) for column in zip(*lists, strict=True)]
+                             for lists in ([it.events for it in found], [it.abandoned for it in found]))
+        return Rates(found[0].world, events, abandoned, b"".join(it.made for it in found))
+
+    @cached_property
+    def drift(self) -> list[float]:
+        """For each tile how far it was ahead of the slowest."""
+        return drifts(plans(self.world), self.made)
 
     def live(self) -> list[int]:
         """The sites whose tile is on, row by row."""
@@ -61,21 +88,31 @@ class Rates:
 
 def add_arguments(parser: argparse.ArgumentParser) -> None:
     """The words of the verb."""
-    parser.add_argument("world", metavar="WORLD", type=Path, help="a world")
-    parser.add_argument("report", metavar="REPORT", type=Path, help="the report of its run, packed by gzip or not")
-    parser.add_argument("files", metavar="FILE", nargs="*", help="the element files of the run, which rates don't need")
+    parser.usage = "./lab rates [-h] [--by {site,tile}] [--svg MAP.svg] (WORLD REPORT [FILE..] | DIR)"
+    parser.add_argument("words", metavar="WORLD REPORT", nargs="+", type=Path,
+                        help="a world and the report of its run, packed by gzip or not; or DIR, the folder of a chain that "
+                             "keeps reports. The element files may be named too, and change nothing")
     parser.add_argument("--by", choices=("site", "tile"), default="site", help="what a row is of (default site)")
     parser.add_argument("--svg", metavar="MAP.svg", type=Path, help="write a heat map too, as SVG")
+    take_words_anywhere(parser)
 
 
 def run(arguments: argparse.Namespace) -> int:
     """Writes the rates to standard output."""
-    rates = Rates.of(arguments.world, arguments.report)
+    if arguments.svg is not None and arguments.svg.suffix != ".svg":
+        raise LabError(f"--svg {arguments.svg}: it takes the file of the map, whose name has to end with .svg")
+    world, *reports = arguments.words
+    if world.is_dir():
+        rates = Rates.of_chain(Folder(world))
+    elif reports:
+        rates = Rates.of(world, reports[0])
+    else:
+        raise LabError("rates take WORLD REPORT, or the folder DIR of a chain")
     if arguments.svg is not None:
         panels = {"events": rates.events}
         if any(rates.abandoned):
             panels["abandoned attempts"] = rates.abandoned
-        write_whole(arguments.svg, heat_map(rates.world, rates.live(), panels, arguments.world.name))
+        write_whole(arguments.svg, heat_map(rates.world, rates.live(), panels, world.resolve().name))
     out = csv.writer(sys.stdout, lineterminator="\n")
     out.writerows(site_rows(rates) if arguments.by == "site" else tile_rows(rates))
     return 0
@@ -108,9 +145,10 @@ def site_rows(rates: Rates) -> Iterator[Sequence[object]]:
 def tile_rows(rates: Rates) -> Iterator[Sequence[object]]:
     """A head and a row for each tile that is on."""
     yield ("tile", "sites", *(f"{what}_{name}" for what in ("events", "abandoned")
-                              for name in ("sum", "least", "mean", "greatest")))
+                              for name in ("sum", "least", "mean", "greatest")), "drift")
     for tile in rates.tiles():
         sites = list(rates.sites_of(tile))
         columns = [[of[site] for site in sites] for of in (rates.events, rates.abandoned)]
         yield tile, len(sites), *(number for column in columns for number in
-                                  (sum(column), min(column), f"{sum(column) / len(sites):.4f}", max(column)))
+                                  (sum(column), min(column), f"{sum(column) / len(sites):.4f}", max(column))), \
+            f"{rates.drift[tile]:.4f}"

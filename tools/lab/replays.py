@@ -11,7 +11,7 @@ from collections.abc import Iterable, Sequence
 from dataclasses import replace
 from pathlib import Path
 
-from lab.files import open_report
+from lab.kept import read_report
 from lab.program import Program, Refusal
 from lab.world import World
 
@@ -31,6 +31,7 @@ class Plane:
         self.room = room
         self.world = World(1, 1, 8, 8)
         self.blocks: defaultdict[Block, set[str]] = defaultdict(set)  # the atoms, as lines of a report
+        self.failed: Counter[int] = Counter()  # how many events failed at a site, if someone looks for that
 
     def begin(self, world: World) -> dict[int, str]:
         """Makes the plane that of the beginning of a world; gives back what changed."""
@@ -82,8 +83,7 @@ class Plane:
 def call_on(program: Program, report: Path, room: Path, words: Sequence[str | Path], files: Sequence[Path]) -> list[str]:
     """The lines that a call writes of a report, which may be packed, between the words and the files."""
     plain = room / "whole.report"
-    with open_report(report) as file:
-        plain.write_bytes(file.read())
+    plain.write_bytes(read_report(report))
     before, after = words[:2], words[2:]
     try:
         return program.call([*before, plain, *after, *files]).text.splitlines()

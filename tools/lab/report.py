@@ -6,12 +6,13 @@ from pathlib import Path
 from typing import Generic, NamedTuple, TypeVar, overload
 
 from lab.errors import LabError
-from lab.files import open_report
+from lab.kept import read_report
 from lab.world import NAME, NUMBER, Placed
 
 ATOM = re.compile(f"{NUMBER} {NUMBER} {NAME} [0-7][0-9a-f]{{17}}")
 RECORD = re.compile(f"{NUMBER} {NUMBER} {NUMBER} {NUMBER} {NUMBER} [0-9a-f]{{16}}")
 ABANDONED = re.compile(f"{NUMBER}(?: {NUMBER}){{6}}")
+REFUSAL = re.compile(rb"(?:[^\n]*: )?E\d\d [^\n]*\n?")
 
 Entry = TypeVar("Entry")
 
@@ -84,7 +85,7 @@ class Report:
 
     @staticmethod
     def read(path: Path) -> "Report":
-        """The report of a file, packed by gzip or not; each line is tested for its form."""
+        """The report of a file, packed by gzip or not, or kept by a chain; each line is tested for its form."""
         reader = Reader.of(path)
         report = reader.report(reader.atoms())
         reader.end()
@@ -119,9 +120,11 @@ class Reader:
 
     @staticmethod
     def of(path: Path) -> "Reader":
-        """What reads a file, packed by gzip or not."""
-        with open_report(path) as file:
-            data = file.read()
+        """What reads a file, packed by gzip or not, or kept by a chain."""
+        data = read_report(path)
+        if REFUSAL.fullmatch(data):
+            raise LabError(f"{path}: no report, but the line of a call that was refused: "
+                           f"{data.decode(errors='replace').strip()}")
         try:
             return Reader(path, data.decode("ascii").split("\n"))
         except UnicodeDecodeError as error:

@@ -1,161 +1,179 @@
-"""Runs over values of constants and over seeds, as CSV.
+"""Runs over values of constants, over numbers of the world, and over seeds, as CSV.
 
-Each --set names a constant of a class of the element files, and its values; every combination of them is
-run. A combination runs copies of the files in which the constants have its values.
-Each combination is run R times, with the seeds S, S + (tiles + 1), S + 2 * (tiles + 1) .. modulo 2^64,
-the same ones for each, where S is that of --seed or else of WORLD; the order of a stepped run is drawn
-from its seed + tiles. So no two tiles of two repetitions share a seed.
+Each --set names what is set, and its values, such as A,B,C or a range FIRST:LAST:STEP:
+  Element.constant  a constant of a class; the run has copies of the files with its value
+  attempts, size, tiles
+                    the numbers of the world's lines of these names; sizes are written as 16x16
+  fill.Element      a density: an empty site gets an atom of the element with this probability
+  NAME              if an act of --at has it in braces, as in --at '5:erase:{p}:0,0,8,8' --set p=0.1,0.2
+Every combination of the values is run R times, with the same seeds: S, S + L * (tiles + 1),
+S + 2 * L * (tiles + 1) .. modulo 2^64, where S is that of --seed or else of WORLD, and L is the number of legs.
+So no two tiles of two repetitions share a seed.
 
-A row has the values, the seed, the events and the abandoned attempts, aeps (the events per live site), and
-how many atoms of each element there are at the end. The rows come in the order of the values.
+A run is a single call, or with --legs a chain of that many, to which --at, --until and the measures belong as
+they do for the verb chain. A row has the values, the seed, with --legs the leg, the events and the abandoned
+attempts, aeps (the events per live site), how many atoms of each element there are at the end, and the
+measures. The rows come in the order of the values; with --legs each leg has one, and leg 0 is the start.
+
+Without a folder the rows go to standard output. --into DIR keeps the runs in a folder instead: sweep.json says
+how they are made, sweep.csv has the rows of all, and runs/NNNNN what each came to; with --keep reports that
+is a whole chain. A sweep that was stopped goes on if the same command is given again. For many machines,
+--plan DIR makes the folder alone, --task DIR I makes run I of it, and --gather DIR the table. A task may be made
+twice, at once or later: a run comes to its place whole, and the first one stays.
+
+--audit DIR audits each run, and tests that each is what the plan says and that the table has their rows. It
+writes `yes` or `no` with the first run at fault, and ends with 0 or 1.
 
 Runs on one thread are made side by side, one for each processor. Runs with a thread for each tile are
-made one after another.
+made one after another. --jobs says otherwise.
 """
 import argparse
 import csv
-import itertools
 import os
-import re
 import sys
 import tempfile
-from collections.abc import Iterator
+import threading
+from collections.abc import Iterator, Sequence
 from concurrent.futures import ThreadPoolExecutor
-from dataclasses import dataclass, replace
 from pathlib import Path
 
-from lab.constants import constants, with_values
+from lab.alone import Alone
 from lab.errors import LabError
 from lab.files import read_byte_text
 from lab.layout import Layout
-from lab.outcome import Outcome, counts
-from lab.program import Program, Refusal
+from lab.measures import add_measure_options, measures_of
+from lab.program import Program
 from lab.progress import Progress
-from lab.seeds import nth, of_order
-from lab.starting import drawn_world, first_atoms, first_seed
-from lab.world import World
-
-SETTING = re.compile(r"(?P<name>\w+\.\w+)=(?P<values>-?\w+(?:,-?\w+)*)")
+from lab.starting import drawn_world, first_seed
+from lab.sweep_check import check_runs
+from lab.sweep_gather import audit, gather
+from lab.sweep_plan import FORM, MOST_RUNS, Plan, Run, Sweep, sha, write_plan
+from lab.sweep_run import make_run, rows_of
+from lab.sweep_values import settings
+from lab.until import FORM as RULE_FORM
+from lab.until import Until
 
 
 def add_arguments(parser: argparse.ArgumentParser) -> None:
     """The words of the verb."""
-    parser.add_argument("--set", metavar="Element.constant=A,B,..", dest="sets", action="append", required=True,
-                        help="the values of a constant; may be given for several constants")
+    where = parser.add_mutually_exclusive_group()
+    where.add_argument("--into", metavar="DIR", type=Path, help="make the runs in a folder, or go on with them")
+    where.add_argument("--plan", metavar="DIR", type=Path, help="make the folder of a sweep, and no run")
+    alone = [
+        where.add_argument("--task", metavar=("DIR", "I"), nargs=2, action=Alone, help="make run I of a sweep that is planned"),
+        where.add_argument("--gather", metavar="DIR", type=Path, action=Alone, help="write sweep.csv, and name the runs that are missing"),
+        where.add_argument("--audit", metavar="DIR", type=Path, action=Alone, help="audit the runs of a sweep"),
+    ]
+    parser.add_argument("--set", metavar="NAME=A,B,..", dest="sets", action="append", default=[],
+                        help="values of what is set; may be given for several names")
     parser.add_argument("--repeat", metavar="R", type=int, default=1, help="how many runs each combination has")
+    parser.add_argument("--legs", metavar="N", type=int, help="chains of N legs, with a row for each leg")
     parser.add_argument("--step", action="store_true", help="stepped runs, on one thread; else each tile has a thread")
     parser.add_argument("--seed", metavar="S", type=int, help="the first seed")
-    parser.add_argument("world", metavar="WORLD", type=Path, help="a world that draws its attempts")
-    parser.add_argument("files", metavar="FILE", type=Path, nargs="+", help="the element files")
-
-
-@dataclass(frozen=True)
-class Job:
-    """A run: the values of its constants, its seed, and the folder with its elements."""
-
-    values: tuple[str, ...]
-    seed: int
-    folder: Path
-
-
-@dataclass(frozen=True)
-class Sweep:
-    """What is swept over."""
-
-    program: Program
-    world: World
-    verb: str
-    names: list[str]
-    files: list[Path]
-
-    @property
-    def copies(self) -> list[str]:
-        """The names of the copies of the element files, in the folder of a combination."""
-        return [f"{number:02}-{file.name}" for number, file in enumerate(self.files)]
-
-    def copy(self, texts: list[str], values: tuple[str, ...], folder: Path, world: Path) -> None:
-        """Writes the element files of a combination, and has the program read them with the world."""
-        folder.mkdir()
-        for name, text in zip(self.copies, texts, strict=True):
-            text = with_values(text, dict(zip(self.names, values, strict=True)))
-            (folder / name).write_text(text, encoding="latin-1", newline="")
-        try:
-            first_atoms(self.program, world.resolve(), self.copies, folder)
-        except Refusal as refusal:
-            told = ", ".join(f"{name}={value}" for name, value in zip(self.names, values, strict=True))
-            raise LabError(f"{self.original(str(refusal))} (with {told})") from refusal
-
-    def original(self, line: str) -> str:
-        """A refusal in which a copy is named as the file that it was made from."""
-        for name, file in zip(self.copies, self.files, strict=True):
-            if line.startswith(f"{name}:"):
-                return f"{file}{line[len(name):]}"
-        return line
-
-    def run(self, job: Job, elements: list[str]) -> list[str]:
-        """Makes a run, and gives its row."""
-        order = of_order(job.seed, self.world.tiles) if self.verb == "step" else []
-        path = job.folder / f"{job.seed}.world"
-        path.write_text(replace(self.world, seed=job.seed, order=order).text())
-        outcome = Outcome.of(self.program.call([self.verb, path.name, *self.copies], job.folder).output)
-        path.unlink()
-        aeps = f"{outcome.events / self.world.sites:.4f}"
-        numbers = [job.seed, outcome.events, outcome.abandoned]
-        return [*job.values, *map(str, numbers), aeps, *map(str, counts(outcome.atoms, elements))]
+    parser.add_argument("--at", metavar="LEG:ACT", action="append", default=[], help="do something to the plane before a leg, as in the verb chain")
+    parser.add_argument("--until", metavar="RULE", help=f"end a run after the first leg at whose end this holds: {RULE_FORM}")
+    parser.add_argument("--keep", choices=["none", "reports"], default="none", help="keep each run as a chain with its reports")
+    parser.add_argument("--jobs", metavar="N", type=int, help="how many runs are made side by side")
+    add_measure_options(parser)
+    needless = [parser.add_argument("world", metavar="WORLD", type=Path, help="a world that draws its attempts"),
+                parser.add_argument("files", metavar="FILE", type=Path, nargs="+", help="the element files")]
+    for action in alone:
+        setattr(action, "needless", needless)
 
 
 def run(arguments: argparse.Namespace) -> int:
-    """Writes the rows to standard output, when all combinations are known to be accepted."""
-    if arguments.repeat < 1:
-        raise LabError(f"--repeat {arguments.repeat}: each combination has at least one run")
-    program, world = Program.find(), drawn_world(arguments.world)
-    seed = first_seed(world, arguments.seed)
-    first_atoms(program, arguments.world, arguments.files)
-    texts = [read_byte_text(file) for file in arguments.files]
-    sets = settings(arguments.sets, texts)
-    sweep = Sweep(program, world, "step" if arguments.step else "run", list(sets), arguments.files)
-    elements = Layout.of(program, arguments.files).elements
-    seeds = [nth(seed, world.tiles, turn) for turn in range(arguments.repeat)]
+    """Does what is asked for with a sweep that is planned, or plans one and maybe makes its runs."""
+    if arguments.task is not None:
+        return task(Sweep(Path(arguments.task[0])), arguments.task[1])
+    if arguments.gather is not None:
+        return gather(Sweep(arguments.gather))
+    if arguments.audit is not None:
+        return audit(Sweep(arguments.audit))
+    folder = arguments.into or arguments.plan
+    if folder is None and arguments.keep != "none":
+        raise LabError(f"--keep {arguments.keep}: it takes a folder: --into DIR or --plan DIR")
+    plan = plan_of_words(arguments)
     with tempfile.TemporaryDirectory() as room:
-        jobs = []
-        for number, values in enumerate(itertools.product(*sets.values())):
-            folder = Path(room) / str(number)
-            sweep.copy(texts, values, folder, arguments.world)
-            jobs += [Job(values, seed, folder) for seed in seeds]
-        out = csv.writer(sys.stdout, lineterminator="\n")
-        out.writerow([*sweep.names, "seed", "events", "abandoned", "aeps", *elements])
-        for row in rows(sweep, jobs, elements):
-            out.writerow(row)
-            sys.stdout.flush()
+        sweep = Sweep(folder or Path(room) / "sweep")
+        if not sweep.is_planned:
+            check_runs(plan, arguments.world, arguments.files)
+        write_plan(sweep, plan, arguments.world, arguments.files)
+        if arguments.plan is not None:
+            print(f"{sweep.path}: {plan.runs} runs, 1-{plan.runs}")
+            return 0
+        jobs = jobs_of(arguments, sweep)
+        if arguments.into is None:
+            write_rows(sweep, jobs)
+            return 0
+        for _ in made(sweep, sweep.missing(), jobs):
+            pass
+        return gather(sweep)
+
+
+def plan_of_words(arguments: argparse.Namespace) -> Plan:
+    """The plan that the words ask for; refuses what no run could do."""
+    for option in ("repeat", "legs", "jobs"):
+        value = getattr(arguments, option)
+        if value is not None and value < 1:
+            raise LabError(f"--{option} {value}: it has to be at least 1")
+    program, world = Program.find(), drawn_world(arguments.world)
+    layout = Layout.of(program, arguments.files)
+    measures = [measure.name for measure in measures_of(arguments.measures, layout)]
+    if arguments.until is not None:
+        Until.of(arguments.until, layout)
+    texts = [read_byte_text(file) for file in arguments.files]
+    sets = settings(arguments.sets, texts, layout.elements, arguments.at)
+    plan = Plan(FORM, sha(arguments.world.read_bytes()), [sha(text.encode("latin-1")) for text in texts], sets, arguments.repeat,
+                first_seed(world, arguments.seed), arguments.legs, arguments.step, arguments.keep, arguments.at, arguments.until,
+                measures, [*layout.elements, *measures])
+    if plan.runs > MOST_RUNS:
+        raise LabError(f"the sweep would have {plan.runs} runs, at most {MOST_RUNS}")
+    return plan
+
+
+def task(sweep: Sweep, text: str) -> int:
+    """Makes one run."""
+    if not text.isdecimal():
+        raise LabError(f"--task {sweep.path} {text}: {text} is no number of a run")
+    wanted = sweep.run(int(text))
+    was_there = sweep.folder(wanted.number).is_dir()
+    make_run(sweep, wanted, threading.Event())
+    print(f"{sweep.folder(wanted.number)}: {'was there' if was_there else 'made'}")
     return 0
 
 
-def settings(options: list[str], texts: list[str]) -> dict[str, list[str]]:
-    """The constants that the options `--set` name, and their values."""
-    known = [constant.name for text in texts for constant in constants(text)]
-    found: dict[str, list[str]] = {}
-    for option in options:
-        match = SETTING.fullmatch(option)
-        if match is None:
-            raise LabError(f"--set {option}: it has to be Element.constant=A,B,.. with numbers or truth values")
-        name = match["name"]
-        if name not in known:
-            raise LabError(f"--set {option}: the files have no constant {name}; they have {', '.join(known) or 'none'}")
-        if name in found:
-            raise LabError(f"--set {name}: it is given twice")
-        found[name] = match["values"].split(",")
-    return found
+def jobs_of(arguments: argparse.Namespace, sweep: Sweep) -> int:
+    """How many runs are made side by side."""
+    is_one_thread = arguments.step or sweep.most_tiles == 1
+    jobs: int = arguments.jobs or (len(os.sched_getaffinity(0)) if is_one_thread else 1)
+    return jobs
 
 
-def rows(sweep: Sweep, jobs: list[Job], elements: list[str]) -> Iterator[list[str]]:
-    """The rows of the runs, in order, as soon as each and those before it are there."""
-    one_thread = sweep.verb == "step" or sweep.world.tiles == 1
-    progress = Progress(len(jobs))
-    pool = ThreadPoolExecutor(len(os.sched_getaffinity(0)) if one_thread else 1)
+def write_rows(sweep: Sweep, jobs: int) -> None:
+    """Makes all runs, and writes the rows of each to standard output as soon as those before it are there."""
+    out = csv.writer(sys.stdout, lineterminator="\n")
+    out.writerow(sweep.plan.head)
+    for done in made(sweep, range(1, sweep.plan.runs + 1), jobs):
+        out.writerows(rows_of(sweep, done))
+        sys.stdout.flush()
+
+
+def made(sweep: Sweep, numbers: Sequence[int], jobs: int) -> Iterator[Run]:
+    """Makes runs, and gives back each when it and those before it are over."""
+    progress, stopped = Progress(max(len(numbers), 1)), threading.Event()
+
+    def make(number: int) -> Run:
+        """Makes one run."""
+        wanted = sweep.run(number)
+        make_run(sweep, wanted, stopped)
+        return wanted
+
+    pool = ThreadPoolExecutor(jobs)
     try:
-        for done, row in enumerate(pool.map(lambda job: sweep.run(job, elements), jobs), 1):
-            yield row
-            progress.at(done, f"run {done} of {len(jobs)}")
+        for done, wanted in enumerate(pool.map(make, numbers), 1):
+            yield wanted
+            progress.at(done, f"run {done} of {len(numbers)}")
     finally:
+        stopped.set()
         pool.shutdown(cancel_futures=True)
         progress.end()

@@ -79,7 +79,7 @@ class World:
     attempts: int | None = None
     tries: list[Attempt] = field(default_factory=list)
     atoms: list[Placed] = field(default_factory=list)
-    order: int | list[int] = field(default_factory=list)
+    order: int | list[int] = field(default_factory=list[int])
 
     @staticmethod
     def read(path: Path) -> "World":

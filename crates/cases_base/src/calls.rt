@@ -4,11 +4,12 @@ ghost use Rattle.std.specs.Prelude.{◌≡◌, ◌≤◌, ◌+◌, length};
 
 use feast_base::text::{push, push_hex, push_number};
 use feast_base::{
-    CountLedger, FileShelf, Gate, LoadFault, MemShelf, MemSink, Name, NoLedger, OpenGate, Shelf,
-    Sink, Source, StdSink, Steps, Stop, is_type_name,
+    ClockGate, CountLedger, FileShelf, Gate, LoadFault, MemShelf, MemSink, Name, NoLedger,
+    OpenGate, Rest, Shelf, Sink, Source, StdSink, Steps, Stop, is_type_name,
 };
 use std::alloc::Global;
 use std::test::Fail;
+use std::time::Duration;
 use std::{fs, process};
 
 #[test]
@@ -169,9 +170,21 @@ fn texts_are_made_of_bytes_numbers_and_digits(rt: HostRuntime) -> Result<(), Fai
     Ok(())
 }
 
+/// How long a rest took, by the clock of its place.
+fn rested<R: Rest>(place: &R) -> Duration {
+    let begun = place.time();
+    place.rest(Duration::from_millis(2));
+    place.time().saturating_sub(begun)
+}
+
+/// Two gates let workers pass. One has a clock, by which a rest takes its time; the other has none.
 #[test]
-fn the_open_gate_lets_workers_pass() {
+fn open_gates_let_workers_pass(rt: HostRuntime) {
+    let gate = ClockGate { clock: &rt };
     OpenGate.reach(3, 0);
+    gate.reach(3, 0);
+    assert!(rt; rested(&OpenGate) == Duration::ZERO);
+    assert!(rt; rested(&gate) >= Duration::from_millis(2));
 }
 
 /// What a shelf answers for a file of six bytes, which it may load whole, for the same with a limit of

@@ -1,7 +1,7 @@
 //! When calls come to their gate, and with which numbers.
 
 use crate::calls::{gated, shelf};
-use feast_base::{Gate, MemSink};
+use feast_base::{Gate, MemSink, Rest};
 use feast_run::Status;
 use std::alloc::Global;
 use std::sync::atomic::{AtomicU64, Ordering};
@@ -89,6 +89,8 @@ impl Gate for OrderGate {
         }
     }
 }
+
+impl Rest for OrderGate {}
 
 /// How many attempts of each tile come to the gate in a call that is Done, if all come in order.
 fn came<R: Threads + Sync>(rt: &R, alloc: Global, text: &str) -> Result<Option<[u64; 4]>, Fail> {

@@ -4,6 +4,8 @@
 #![tactic(auto)]
 
 #[cfg(test)]
+mod abreast;
+#[cfg(test)]
 mod actors;
 #[cfg(test)]
 mod calls;

@@ -1,7 +1,7 @@
 //! Runs of several tiles whose workers a gate holds back, or nobody.
 
 use crate::calls::{gated, shelf};
-use feast_base::{Gate, MemSink, OpenGate};
+use feast_base::{Gate, MemSink, OpenGate, Rest};
 use feast_run::Status;
 use std::alloc::Global;
 use std::sync::atomic::{AtomicU64, Ordering};
@@ -60,6 +60,15 @@ size 16 16
 try 0 15 4 0000000000000000
 try 1 16 4 0000000000000000
 try 1 24 3 0000000000000000
+atom 15 4 Walker
+";
+
+/// Two tiles with many attempts each.
+const MANY: &str = "feast 1
+tiles 2 1
+size 16 16
+seed 7
+attempts 2000
 atom 15 4 Walker
 ";
 
@@ -146,6 +155,8 @@ impl Gate for KeepingGate<'_> {
         }
     }
 }
+
+impl Rest for KeepingGate<'_> {}
 
 /// What a call over these files appends. It has to be Done.
 fn shown<R: Threads + Sync, G: Gate>(
@@ -295,6 +306,21 @@ fn the_lower_tile_comes_second(rt: HostRuntime) -> Result<(), Fail> {
     let report =
         "feast 1\natoms 1\n16 4 Walker 000000000000000000\njournal 3\n1 1 0 16 4 0000000000000000\n2 0 0 15 4 0000000000000000\n2 1 1 24 3 0000000000000000\nabandoned 0\n";
     assert!(rt; meets(&rt, rt.alloc(), BORDER_THEN_ONE, &keeps, 3, Some(report))?);
+    Ok(())
+}
+
+/// The first attempt of either tile is held back until the other comes with its thousandth. So a gate may hold
+/// a tile back for long: a worker that waits without end for one that is far behind fails here.
+#[test]
+fn a_tile_is_held_back_for_long(rt: HostRuntime) -> Result<(), Fail> {
+    for tile in 0..2 {
+        let keeps = [Keep {
+            tile,
+            attempt: 0,
+            until: 999,
+        }];
+        assert!(rt; meets(&rt, rt.alloc(), MANY, &keeps, 4000, None)?, "{tile}");
+    }
     Ok(())
 }
 

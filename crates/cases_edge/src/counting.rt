@@ -14,6 +14,9 @@ const TRIES: u64 = 1000;
 /// How many rounds two threads have to meet in.
 const ROUNDS: u32 = 10_000;
 
+/// An end is refused fewer times in a row than this.
+const MOST_REFUSALS: u16 = 2000;
+
 /// How many tries follow the refusals.
 const FURTHER: u64 = 20;
 
@@ -129,7 +132,7 @@ fn two_threads_that_meet_count_each_hold(rt: HostRuntime) -> Result<(), Fail> {
 fn refused_and_then_free<A: Board, B: Board>(
     low: &mut A,
     high: &mut B,
-    refusals: u8,
+    refusals: u16,
 ) -> Option<(u64, u64)>
     requires low { IsUntouchedAt 0 (A.end low.old) }
     requires high { IsUntouchedAt 0 (B.end high.old) }
@@ -145,7 +148,7 @@ fn refused_and_then_free<A: Board, B: Board>(
 }
 
 /// The same for the two ends of a shared edge.
-fn tried(alloc: Global, refusals: u8) -> Result<Option<(u64, u64)>, Fail> {
+fn tried(alloc: Global, refusals: u16) -> Result<Option<(u64, u64)>, Fail> {
     let (edge, low, high) = Edge::new(alloc, 0, 1)?;
     let edges = Vec::from_array(alloc, [edge])?;
     let mut lower = SharedEnd::new(edges.as_slice(), Vec::from_array(alloc, [low])?, 0);
@@ -153,12 +156,13 @@ fn tried(alloc: Global, refusals: u8) -> Result<Option<(u64, u64)>, Fail> {
     Ok(refused_and_then_free(&mut lower, &mut higher, refusals))
 }
 
-/// An end that was refused, however often in a row, gets an edge that was given back at each further
+/// An end that was refused, once or many times in a row, gets an edge that was given back at each further
 /// try. A try that answers Busy by the holder which it found before, without a look at the lock, meets
-/// each contract, since that hold still lies between the holds of the refused end; it fails here.
+/// each contract, since that hold still lies between the holds of the refused end; it fails here, also
+/// if it does so only at every 256th try.
 #[test]
 fn a_refusal_is_no_older_than_its_try(rt: HostRuntime) -> Result<(), Fail> {
-    for refusals in [1, 2, 5] {
+    for refusals in 1..MOST_REFUSALS {
         let holds = tried(rt.alloc(), refusals)?;
         assert!(rt; holds == Some((0, FURTHER)), "{refusals} refusals");
     }

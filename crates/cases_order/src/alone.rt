@@ -6,7 +6,7 @@ use crate::rows::is_printed_as;
 use crate::running::run;
 use bit_field::Atom;
 use cell_grid::Behave;
-use feast_base::{Gate, NoMemory};
+use feast_base::{Gate, NoMemory, Rest};
 use serial_order::Outcome;
 use std::alloc::Global;
 use std::process::Abort;
@@ -49,6 +49,8 @@ impl Gate for Between<'_> {
         }
     }
 }
+
+impl Rest for Between<'_> {}
 
 /// One tile.
 const ALONE: Shape = Shape {

@@ -10,6 +10,10 @@ mod alone;
 #[cfg(test)]
 mod driving;
 #[cfg(test)]
+mod paces;
+#[cfg(test)]
+mod pauses;
+#[cfg(test)]
 mod plans;
 #[cfg(test)]
 mod rows;

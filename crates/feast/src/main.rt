@@ -1,12 +1,12 @@
 //! The program: its words, the files of the system, standard output, and its exit status.
 #![tactic(auto)]
 
-use feast_base::{FileShelf, OpenGate, StdSink};
+use feast_base::{ClockGate, FileShelf, StdSink};
 use feast_run::{Status, feast};
 use std::alloc::Global;
 use std::env::{Env, FillError};
 use std::process::ExitCode;
-use std::rt::Files;
+use std::rt::{Clock, Files};
 use std::thread::Threads;
 use std::{env, io};
 
@@ -54,11 +54,22 @@ fn words<R: Env>(rt: &R, alloc: Global) -> Result<Vec<String>, Status> {
     }
 }
 
-/// Calls `feast` over the files of the system and standard output.
-fn status<R: Threads + Sync + Files + Print>(rt: &R, alloc: Global, words: &[String]) -> Status {
+/// Calls `feast` over the files of the system and standard output. Workers rest by the clock.
+fn status<R: Threads + Sync + Files + Print + Clock>(
+    rt: &R,
+    alloc: Global,
+    words: &[String],
+) -> Status {
     let mut shelf = FileShelf::new(rt, alloc);
     let mut sink = StdSink::new(rt);
-    feast(rt, alloc, words, &mut shelf, &mut sink, &OpenGate)
+    feast(
+        rt,
+        alloc,
+        words,
+        &mut shelf,
+        &mut sink,
+        &ClockGate { clock: rt },
+    )
 }
 
 fn main(rt: HostRuntime) -> ExitCode {

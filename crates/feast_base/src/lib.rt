@@ -24,7 +24,7 @@ mod type_name;
 
 pub use edge_sizes::EdgeSizes;
 pub use file_shelf::{FileShelf, read_whole};
-pub use gate::{Gate, OpenGate};
+pub use gate::{ClockGate, Gate, OpenGate, Rest};
 pub use mem_shelf::MemShelf;
 pub use mem_sink::MemSink;
 pub use memory::NoMemory;

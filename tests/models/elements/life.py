@@ -49,7 +49,7 @@ def generations(world: World) -> list[set[tuple[int, int]]]:
 
 def is_life(world: World, plane: Plane) -> bool:
     """Whether each cell is what plain Life makes of it in its generation, and was that before."""
-    alive = [set(), *generations(world)]
+    alive: list[set[tuple[int, int]]] = [set(), *generations(world)]
     for x, y, atom in plane.sites():
         now = atom.get(*GENERATION) + 1
         if atom.get(*ALIVE) != ((x, y) in alive[now]) or atom.get(*BEFORE) != ((x, y) in alive[now - 1]):

@@ -12,9 +12,33 @@ function valueOf(state, { kind, first, width }) {
   return bits.toString();
 }
 
+/** The value of a member as a number, which is near it if it has more than 53 bits; the state begins at a byte. */
+function numberOf(bytes, start, { kind, first, width }) {
+  let value = 0;
+  let ones = 0;
+  for (let bit = first + 1; bit <= first + width; bit++) {
+    const one = (bytes[start + (bit >> 3)] >> (7 - (bit & 7))) & 1;
+    value = 2 * value + one;
+    ones += one;
+  }
+  if (kind === 'Unary') return ones;
+  const isNegative = kind === 'Int' && (bytes[start + ((first + 1) >> 3)] >> (7 - ((first + 1) & 7))) & 1;
+  return isNegative ? value - 2 ** width : value;
+}
+
+/** The tile that owns a site. */
+function tileOf({ tiles, size }, column, row) {
+  return Math.floor(row / size[1]) * tiles[0] + Math.floor(column / size[0]);
+}
+
 /** A number as a reader wants it, with a comma between thousands. */
 function spelled(number) {
   return number.toLocaleString('en-US');
+}
+
+/** A number of things, whose name is that of one. */
+function numbered(number, name) {
+  return `${spelled(number)} ${name}${number === 1 ? '' : 's'}`;
 }
 
 /** An HTML element with a text. */
@@ -27,8 +51,8 @@ function made(name, text, className = '') {
 
 /** The part of the page that shows one site: its place, its atom and the members of it. */
 class SiteView {
-  constructor(film, place) {
-    this.film = film;
+  constructor(source, place) {
+    this.source = source;
     this.place = place;
   }
 
@@ -38,22 +62,20 @@ class SiteView {
   }
 
   told(site) {
-    const { film } = this;
-    const column = site % film.columns;
-    const row = Math.floor(site / film.columns);
-    const tile = film.tileOf(column, row);
-    const off = film.head.off.includes(tile) ? ', which is off' : '';
-    const atom = film.cells[site];
+    const { head, columns } = this.source;
+    const column = site % columns;
+    const row = Math.floor(site / columns);
+    const tile = tileOf(head, column, row);
+    const off = head.off.includes(tile) ? ', which is off' : '';
+    const kind = this.source.kindAt(site);
     const where = made('p', `Column ${column}, row ${row}, in tile ${tile}${off}: `);
-    where.append(made('strong', atom === 0 ? 'Empty' : film.head.elements[film.kinds[atom] - 1].name));
-    return atom === 0 ? [where] : [where, this.membersOf(atom)];
+    where.append(made('strong', kind === 0 ? 'Empty' : head.elements[kind - 1].name));
+    return kind === 0 ? [where] : [where, this.membersOf(head.elements[kind - 1], stateOf(this.source.stateAt(site)))];
   }
 
-  membersOf(atom) {
-    const bytes = this.film.states[atom];
-    const state = stateOf(bytes);
+  membersOf(element, state) {
     const list = document.createElement('dl');
-    for (const member of this.film.head.elements[this.film.kinds[atom] - 1].members) {
+    for (const member of element.members) {
       list.append(made('dt', member.name), made('dd', valueOf(state, member)));
     }
     list.append(made('dt', 'whole state'), made('dd', state.toString(16).padStart(18, '0')));

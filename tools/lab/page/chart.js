@@ -6,17 +6,20 @@ function stepOf(length, parts) {
 
 /** The curves of the counts over the events, with a cursor at the frame that is shown. */
 class ChartView {
-  constructor(canvas, film) {
+  constructor(canvas, source, looks) {
     this.canvas = canvas;
     this.pen = canvas.getContext('2d');
-    this.film = film;
-    this.most = film.greatest();
-    this.events = Math.max(1, film.head.events[film.last]);
+    this.source = source;
+    this.looks = looks;
     this.curves = new OffscreenCanvas(1, 1);
   }
 
-  /** Takes the width that the page has, and draws the curves, which stay as they are from frame to frame. */
+  /** Takes the width that the page has, and draws the curves, which stay as they are while there are no new points. */
   fit() {
+    const { points } = this.source;
+    const shown = this.source.head.elements.map((_, i) => !this.looks.hidden.has(i + 1));
+    this.most = points.reduce((most, { counts }) => Math.max(most, ...counts.filter((_, i) => shown[i])), 1);
+    this.events = Math.max(1, points[points.length - 1].events);
     this.scale = window.devicePixelRatio;
     const width = this.canvas.parentElement.clientWidth;
     const height = 170;
@@ -30,10 +33,10 @@ class ChartView {
     this.top = 10 * this.scale;
     this.bottom = this.canvas.height - 38 * this.scale;
     const pen = this.curves.getContext('2d');
-    pen.fillStyle = '#fff';
+    pen.fillStyle = this.looks.theme.ground;
     pen.fillRect(0, 0, this.canvas.width, this.canvas.height);
     this.drawAxes(pen);
-    this.film.head.elements.forEach((element, i) => this.drawCurve(pen, element, i));
+    this.source.head.elements.forEach((element, i) => shown[i] && this.drawCurve(pen, element, i));
     this.drawSymbols(pen);
   }
 
@@ -48,8 +51,8 @@ class ChartView {
   drawAxes(pen) {
     const { scale } = this;
     pen.font = `${12 * scale}px system-ui, sans-serif`;
-    pen.fillStyle = '#4a5560';
-    pen.strokeStyle = '#e0e2e4';
+    pen.fillStyle = this.looks.theme.soft;
+    pen.strokeStyle = this.looks.theme.axis;
     pen.lineWidth = scale;
     pen.textBaseline = 'middle';
     pen.textAlign = 'right';
@@ -66,21 +69,19 @@ class ChartView {
       pen.fillText(spelled(events), this.xOf(events), this.bottom + 6 * scale);
     }
     pen.fillText('events', (this.left + this.right) / 2, this.bottom + 21 * scale);
-    pen.strokeStyle = '#59636d';
+    pen.strokeStyle = this.looks.theme.edge;
     pen.setLineDash([4 * scale, 4 * scale]);
-    for (const events of this.film.head.cuts) pen.strokeRect(this.xOf(events), this.top, 0, this.bottom - this.top);
+    for (const { events } of this.source.acts) pen.strokeRect(this.xOf(events), this.top, 0, this.bottom - this.top);
     pen.setLineDash([]);
   }
 
-  /** One curve, in the colour of its element; a bright one gets a dark edge. */
+  /** One curve, in the colour of its element; one that is as bright as the ground gets an edge. */
   drawCurve(pen, element, index) {
     pen.beginPath();
-    this.film.counts.forEach((counts, frame) => {
-      pen.lineTo(this.xOf(this.film.head.events[frame]), this.yOf(counts[index]));
-    });
+    for (const { events, counts } of this.source.points) pen.lineTo(this.xOf(events), this.yOf(counts[index]));
     pen.lineJoin = 'round';
-    if (brightness(element.color) > 0.6) {
-      pen.strokeStyle = '#59636d';
+    if (this.isFaint(element.color)) {
+      pen.strokeStyle = this.looks.theme.edge;
       pen.lineWidth = 4 * this.scale;
       pen.stroke();
     }
@@ -89,11 +90,17 @@ class ChartView {
     pen.stroke();
   }
 
+  /** Whether a curve of a colour can hardly be told from the ground. */
+  isFaint(color) {
+    return this.looks.dark.matches ? brightness(color) < 0.1 : brightness(color) > 0.6;
+  }
+
   /** The symbol of each element at the end of its curve; none stands over another. */
   drawSymbols(pen) {
     const { scale } = this;
-    const last = this.film.counts[this.film.last];
-    const ends = this.film.head.elements.map((element, i) => ({ symbol: element.symbol, y: this.yOf(last[i]) }));
+    const last = this.source.points[this.source.points.length - 1].counts;
+    const ends = this.source.head.elements.map((element, i) => ({ symbol: element.symbol, y: this.yOf(last[i]), kind: i + 1 }))
+      .filter(({ kind }) => !this.looks.hidden.has(kind));
     ends.sort((one, other) => one.y - other.y);
     const high = 13 * scale;
     for (let i = 1; i < ends.length; i++) ends[i].y = Math.max(ends[i].y, ends[i - 1].y + high);
@@ -102,26 +109,27 @@ class ChartView {
     pen.font = `600 ${12 * scale}px system-ui, sans-serif`;
     pen.textAlign = 'left';
     pen.textBaseline = 'middle';
-    pen.fillStyle = '#1b1f24';
+    pen.fillStyle = this.looks.theme.ink;
     for (const end of ends) pen.fillText(end.symbol, this.right + 5 * scale, end.y);
   }
 
   draw() {
     const { pen, scale } = this;
     pen.drawImage(this.curves, 0, 0);
-    pen.fillStyle = '#1b1f24';
-    pen.fillRect(this.xOf(this.film.head.events[this.film.frame]) - scale, this.top, 2 * scale, this.bottom - this.top);
+    pen.fillStyle = this.looks.theme.ink;
+    const { events } = this.source.points[this.source.now];
+    pen.fillRect(this.xOf(events) - scale, this.top, 2 * scale, this.bottom - this.top);
   }
 
-  /** The frame that is nearest to where a click was. */
-  frameAt(event) {
+  /** The point of the curves that is nearest to where a click was. */
+  pointAt(event) {
     const box = this.canvas.getBoundingClientRect();
     const x = ((event.clientX - box.left) / box.width) * this.canvas.width;
     const wanted = ((x - this.left) / (this.right - this.left)) * this.events;
-    const { events } = this.film.head;
+    const { points } = this.source;
     let nearest = 0;
-    events.forEach((count, frame) => {
-      if (Math.abs(count - wanted) < Math.abs(events[nearest] - wanted)) nearest = frame;
+    points.forEach(({ events }, i) => {
+      if (Math.abs(events - wanted) < Math.abs(points[nearest].events - wanted)) nearest = i;
     });
     return nearest;
   }

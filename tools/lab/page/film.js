@@ -50,10 +50,12 @@ class Film {
     this.columns = head.tiles[0] * head.size[0];
     this.rows = head.tiles[1] * head.size[1];
     this.last = head.events.length - 1;
+    this.acts = head.acts;
     const reader = new Reader(bytes);
     this.readAtoms(reader);
     this.readFrames(reader);
     this.readPlaces(reader);
+    this.failures = readFailures(head, reader);
     this.playThrough();
   }
 
@@ -83,18 +85,18 @@ class Film {
   }
 
   readPlaces(reader) {
-    this.places = [];
+    this.allPlaces = [];
     for (let frame = 0; frame <= this.last; frame++) {
       const sites = new Uint32Array(reader.number());
       reader.sites(sites, 0, sites.length);
-      this.places.push({ sites, counts: Array.from(sites, () => reader.number()) });
+      this.allPlaces.push({ sites, counts: Array.from(sites, () => reader.number()) });
     }
   }
 
   /** Plays all frames once: notes what each change replaced, and the counts of each frame. */
   playThrough() {
     this.cells = new Uint32Array(this.columns * this.rows);
-    this.counts = [];
+    this.points = [];
     const counts = new Uint32Array(this.head.elements.length + 1);
     for (let frame = 0; frame <= this.last; frame++) {
       for (let i = this.starts[frame]; i < this.starts[frame + 1]; i++) {
@@ -104,7 +106,7 @@ class Film {
         counts[this.kinds[this.after[i]]]++;
         this.cells[site] = this.after[i];
       }
-      this.counts.push(counts.slice(1));
+      this.points.push({ events: this.head.events[frame], counts: counts.slice(1) });
     }
     this.frame = this.last;
     this.goTo(0);
@@ -122,15 +124,52 @@ class Film {
     }
   }
 
-  /** The greatest number of atoms that any element has in any frame. */
-  greatest() {
-    return this.counts.reduce((most, counts) => Math.max(most, ...counts), 1);
+  /** The number of the point of the curves that is shown. */
+  get now() {
+    return this.frame;
   }
 
-  /** The tile that owns a site. */
-  tileOf(column, row) {
-    const [across] = this.head.tiles;
-    const [width, height] = this.head.size;
-    return Math.floor(row / height) * across + Math.floor(column / width);
+  /** The sites where attempts were abandoned since the frame before, and how many at each. */
+  get places() {
+    return this.allPlaces[this.frame];
+  }
+
+  /** The sites where events failed since the frame before; null if that isn't known. */
+  get failed() {
+    return this.failures === null ? null : this.failures[this.frame].sites;
+  }
+
+  /** What is said of the events that failed. */
+  get failedText() {
+    const { failed } = this.head;
+    const all = failed.reduce((sum, count) => sum + count, 0);
+    return `${numbered(failed[this.frame], 'event')} failed since the frame before, ${spelled(all)} in all`;
+  }
+
+  /** The element at a site, counted from 1; 0 for none. */
+  kindAt(site) {
+    return this.kinds[this.cells[site]];
+  }
+
+  /** The nine bytes of the state at a site. */
+  stateAt(site) {
+    return this.states[this.cells[site]];
+  }
+
+  /** The value of a member at a site, as a number. */
+  numberAt(site, member) {
+    return numberOf(this.states[this.cells[site]], 0, member);
+  }
+
+  /** The least and the greatest value that a member of an element has in the film. */
+  rangeOf(kind, member) {
+    let [least, greatest] = [Infinity, -Infinity];
+    for (let atom = 1; atom < this.kinds.length; atom++) {
+      if (this.kinds[atom] !== kind) continue;
+      const value = numberOf(this.states[atom], 0, member);
+      least = Math.min(least, value);
+      greatest = Math.max(greatest, value);
+    }
+    return [least, greatest];
   }
 }

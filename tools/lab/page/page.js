@@ -1,83 +1,151 @@
-/** The page as a whole: which frame and which site are shown, and what the controls do. */
+const STILL = 4; // points by which a mouse may move in a click
+
+/** The page as far as a film and a chain at work share it: the plane, its looks, the curves, the elements and a site. */
 class Page {
-  constructor(film) {
-    this.film = film;
+  constructor(source) {
+    this.source = source;
     this.chosen = null;
-    this.timer = null;
-    this.plane = new PlaneView(this.part('plane'), film);
-    this.chart = new ChartView(this.part('chart'), film);
-    this.site = new SiteView(film, this.part('site'));
-    this.part('slider').max = film.last;
-    this.part('column').max = film.columns - 1;
-    this.part('row').max = film.rows - 1;
-    this.part('plane').setAttribute('aria-label', `Plane of ${film.columns} by ${film.rows} sites`);
-    this.abandoned = film.head.abandoned.reduce((sum, count) => sum + count, 0);
-    this.part('abandoned-choice').hidden = this.abandoned === 0;
-    this.part('cuts').hidden = film.head.cuts.length === 0;
-    this.part('about').textContent = this.aboutText();
-    this.counts = film.head.elements.map((element) => this.addElement(element));
+    this.drag = null;
+    this.looks = new Looks(source);
+    this.plane = new PlaneView(this.part('plane'), source, this.looks);
+    this.chart = new ChartView(this.part('chart'), source, this.looks);
+    this.site = new SiteView(source, this.part('site'));
+    this.part('column').max = source.columns - 1;
+    this.part('row').max = source.rows - 1;
+    this.part('plane').setAttribute('aria-label', `Plane of ${source.columns} by ${source.rows} sites`);
+    this.counts = source.head.elements.map((element, i) => this.addElement(element, i + 1));
+    this.offerColors();
     this.listen();
-    this.fit();
   }
 
   part(id) {
     return document.getElementById(id);
   }
 
-  aboutText() {
-    const { head, last } = this.film;
-    const [across, down] = head.tiles;
-    const tiles = across * down === 1 ? 'one tile' : `${across} by ${down} tiles, each`;
-    const gaveUp = this.abandoned === 0 ? '' : ` and ${spelled(this.abandoned)} abandoned attempts`;
-    return `A run of ${spelled(head.events[last])} events${gaveUp} on ${tiles} of ${head.size[0]} by ${head.size[1]} sites.`;
+  /** The tiles of the plane in words. */
+  tilesText() {
+    const { tiles, size } = this.source.head;
+    const count = tiles[0] * tiles[1] === 1 ? 'one tile' : `${tiles[0]} by ${tiles[1]} tiles, each`;
+    return `${count} of ${size[0]} by ${size[1]} sites`;
   }
 
   /** A row of the table of elements; gives back where its count is to be written. */
-  addElement(element) {
+  addElement(element, kind) {
     const row = this.part('elements').tBodies[0].insertRow();
     const mark = made('span', element.symbol, 'mark');
     mark.style.background = element.color;
     mark.style.color = inkOn(element.color);
-    row.insertCell().append(mark);
+    const box = made('input', '');
+    box.type = 'checkbox';
+    box.checked = true;
+    box.setAttribute('aria-label', `Show ${element.name}`);
+    box.addEventListener('change', () => this.showElement(kind, box.checked));
+    const label = made('label', '', 'shown');
+    label.append(box, mark);
+    row.insertCell().append(label);
     row.append(made('td', element.name));
     return row.appendChild(made('td', '', 'count'));
   }
 
+  showElement(kind, isShown) {
+    if (isShown) this.looks.hidden.delete(kind);
+    else this.looks.hidden.add(kind);
+    this.fit();
+  }
+
+  /** Offers what atoms can be coloured by. */
+  offerColors() {
+    const select = this.part('color-by');
+    for (const [choice, text] of this.looks.choices()) select.append(new Option(text, choice));
+    this.part('color-choice').hidden = select.options.length < 2;
+    select.value = this.looks.choice;
+  }
+
+  on(id, what, act) {
+    this.part(id).addEventListener(what, act);
+  }
+
   listen() {
-    const on = (id, what, act) => this.part(id).addEventListener(what, act);
-    on('play', 'click', () => this.toggle());
-    on('back', 'click', () => this.step(-1));
-    on('on', 'click', () => this.step(1));
-    on('slider', 'input', () => this.pauseAt(Number(this.part('slider').value)));
-    on('speed', 'change', () => this.timer !== null && this.play());
-    on('abandoned', 'change', () => this.show());
-    on('column', 'input', () => this.chooseTyped());
-    on('row', 'input', () => this.chooseTyped());
-    on('plane', 'click', (event) => this.choose(this.plane.siteAt(event)));
-    on('plane', 'focus', () => this.choose(this.chosen ?? 0));
-    on('chart', 'click', (event) => this.pauseAt(this.chart.frameAt(event)));
+    for (const [id, look] of [['abandoned', 'showsAbandoned'], ['borders', 'showsBorders'], ['letters', 'showsLetters']]) {
+      this.on(id, 'change', () => {
+        this.looks[look] = this.part(id).checked;
+        this.show();
+      });
+    }
+    this.on('color-by', 'change', () => {
+      this.looks.colorBy(this.part('color-by').value);
+      this.show();
+    });
+    for (const [id, times] of [['nearer', 2], ['farther', 0.5], ['whole', 0]]) this.on(id, 'click', () => this.zoom(times));
+    this.on('column', 'input', () => this.chooseTyped());
+    this.on('row', 'input', () => this.chooseTyped());
+    this.on('plane', 'focus', () => this.choose(this.chosen ?? 0));
+    this.on('plane', 'wheel', (event) => this.wheel(event));
+    this.on('plane', 'pointerdown', (event) => this.grasp(event));
+    this.on('plane', 'pointermove', (event) => this.move(event));
+    this.on('plane', 'pointerup', (event) => this.release(event));
+    this.on('plane', 'pointercancel', () => (this.drag = null));
     document.addEventListener('keydown', (event) => this.press(event));
     window.addEventListener('resize', () => this.fit());
+    this.looks.dark.addEventListener('change', () => this.fit());
+  }
+
+  zoom(times, x, y) {
+    this.plane.zoomBy(times, x, y);
+    this.show();
+  }
+
+  wheel(event) {
+    event.preventDefault();
+    this.zoom(2 ** (-Math.sign(event.deltaY) / 2), ...this.plane.pointAt(event));
+  }
+
+  grasp(event) {
+    if (event.button > 1) return;
+    this.part('plane').setPointerCapture(event.pointerId);
+    this.drag = { x: event.clientX, y: event.clientY, moved: false, from: this.plane.siteAt(event) };
+  }
+
+  move(event) {
+    const { drag } = this;
+    if (drag === null) return;
+    const [x, y] = [event.clientX - drag.x, event.clientY - drag.y];
+    if (!drag.moved && Math.hypot(x, y) < STILL) return;
+    Object.assign(drag, { moved: true, x: event.clientX, y: event.clientY });
+    const scale = window.devicePixelRatio;
+    this.plane.pan(x * scale, y * scale);
+    this.show();
+  }
+
+  release(event) {
+    const { drag } = this;
+    this.drag = null;
+    if (drag !== null && !drag.moved) this.choose(this.plane.siteAt(event));
   }
 
   /** The keys, but where a field or a button has its own use for them. */
   press(event) {
     const { target, key } = event;
-    if (event.ctrlKey || event.altKey || event.metaKey || target.matches('input[type="number"], select')) return;
-    const steps = { ArrowLeft: -1, ArrowRight: 1, Home: -this.film.last, End: this.film.last };
-    if (event.shiftKey && target === this.part('plane')) {
-      if (!this.walk(key)) return;
-    } else if (key === ' ' && !target.matches('button, input[type="checkbox"]')) this.toggle();
-    else if (key in steps && !event.shiftKey) this.step(steps[key]);
-    else return;
-    event.preventDefault();
+    if (event.ctrlKey || event.altKey || event.metaKey || target.matches('input:not([type="checkbox"], [type="range"]), select, textarea')) return;
+    const times = { '+': 2, '-': 0.5, 0: 0 }[key];
+    if (event.shiftKey && target === this.part('plane') && this.walk(key)) event.preventDefault();
+    else if (times !== undefined) this.zoom(times);
+    else if (key === ' ' && !target.matches('button, input')) {
+      this.toggle();
+      event.preventDefault();
+    } else if (!event.shiftKey && this.pressed(key)) event.preventDefault();
+  }
+
+  /** What the page does on a key of its own; whether it is one. */
+  pressed() {
+    return false;
   }
 
   /** Moves the chosen site by a key; whether it is one that does. */
   walk(key) {
     const way = { ArrowLeft: [-1, 0], ArrowRight: [1, 0], ArrowUp: [0, -1], ArrowDown: [0, 1] }[key];
     if (way === undefined) return false;
-    const { columns, rows } = this.film;
+    const { columns, rows } = this.source;
     const site = this.chosen ?? 0;
     const column = Math.min(columns - 1, Math.max(0, (site % columns) + way[0]));
     const row = Math.min(rows - 1, Math.max(0, Math.floor(site / columns) + way[1]));
@@ -88,8 +156,8 @@ class Page {
   choose(site) {
     if (site === null) return;
     this.chosen = site;
-    this.part('column').value = site % this.film.columns;
-    this.part('row').value = Math.floor(site / this.film.columns);
+    this.part('column').value = site % this.source.columns;
+    this.part('row').value = Math.floor(site / this.source.columns);
     this.show();
   }
 
@@ -97,43 +165,8 @@ class Page {
   chooseTyped() {
     const [column, row] = [this.part('column'), this.part('row')];
     if (column.value === '' || row.value === '' || !column.checkValidity() || !row.checkValidity()) return;
-    this.chosen = Number(row.value) * this.film.columns + Number(column.value);
+    this.chosen = Number(row.value) * this.source.columns + Number(column.value);
     this.show();
-  }
-
-  toggle() {
-    if (this.timer !== null) this.pause();
-    else {
-      if (this.film.frame === this.film.last) this.film.goTo(0);
-      this.play();
-    }
-  }
-
-  play() {
-    clearInterval(this.timer);
-    this.timer = setInterval(() => this.tick(), 1000 / Number(this.part('speed').value));
-    this.show();
-  }
-
-  tick() {
-    if (this.film.frame < this.film.last) this.film.goTo(this.film.frame + 1);
-    if (this.film.frame === this.film.last) this.pause();
-    else this.show();
-  }
-
-  pause() {
-    clearInterval(this.timer);
-    this.timer = null;
-    this.show();
-  }
-
-  pauseAt(frame) {
-    this.film.goTo(Math.min(this.film.last, Math.max(0, frame)));
-    this.pause();
-  }
-
-  step(frames) {
-    this.pauseAt(this.film.frame + frames);
   }
 
   /** Makes everything as big as the window lets it be. */
@@ -143,37 +176,15 @@ class Page {
     this.show();
   }
 
-  /** Shows the frame at which the film is. */
+  /** Shows the plane and what is said about it. */
   show() {
-    const { film } = this;
-    const { frame, last, head } = film;
-    const [events, all] = [head.events[frame], head.events[last]];
-    const eachSite = (events / head.liveSites).toFixed(2);
-    const moment = `Frame ${frame} of ${last}: after ${spelled(events)} of ${spelled(all)} events (${eachSite} for each site)`;
-    this.part('moment').textContent = moment;
-    this.part('slider').value = frame;
-    this.part('slider').setAttribute('aria-valuetext', moment);
-    this.part('play').textContent = this.timer === null ? 'Play' : 'Pause';
-    this.part('abandoned-label').textContent = `${spelled(head.abandoned[frame])} attempts abandoned since the frame before`;
-    this.counts.forEach((cell, i) => (cell.textContent = spelled(film.counts[frame][i])));
+    const { source, looks } = this;
+    const { counts } = source.points[source.now];
+    this.counts.forEach((cell, i) => (cell.textContent = spelled(counts[i])));
     this.site.show(this.chosen);
-    this.plane.draw(this.chosen, this.part('abandoned').checked);
+    this.plane.draw(this.chosen);
     this.chart.draw();
+    this.part('cuts').hidden = source.acts.length === 0;
+    this.part('scales').replaceChildren(...Array.from(looks.tints.values(), (tint) => tint.legend()));
   }
 }
-
-/** Unpacks the film and shows its first frame, or says why it can't. */
-async function begin() {
-  const fault = document.getElementById('fault');
-  try {
-    const head = JSON.parse(document.getElementById('head').textContent);
-    const film = new Film(head, await unpack(document.getElementById('frames').textContent));
-    document.getElementById('film').hidden = false;
-    new Page(film);
-  } catch (cause) {
-    fault.hidden = false;
-    fault.textContent = `This browser can't show the film (it takes Chrome 85, Firefox 113, Safari 16.4 or later): ${cause}`;
-  }
-}
-
-begin();

@@ -1,0 +1,3 @@
+" Element files and worlds of feast.
+autocmd BufNewFile,BufRead *.ulam setfiletype ulam
+autocmd BufNewFile,BufRead *.world setfiletype feastworld

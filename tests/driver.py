@@ -1,0 +1,224 @@
+#!/usr/bin/env python3
+"""Tries the tests of the repository: driver.py [-k WORD].. [--program FILE] [--times N] [--list] [PART..].
+
+The parts, in the order in which they are begun:
+
+  lab         the lab
+  pages       the pages: links, paths, files, commands and what they write
+  first_call  the first call of ./feast, on a toolchain that only pretends
+  cases       the cases of tests/cases
+  tables      the tables of tests/tables
+  errors      the examples of docs/errors.md
+  audits      audits of the reports of the cases
+  edits       each crate has its edits that the check must refuse, and each can be applied
+  sources     what scripts find in the sources: answers of NoMemory, libraries, statements, clauses
+  python      what a type checker and a linter find in Python (mypy and flake8, where they are there)
+  release     tools/release, and the released folder used without the kit
+  editors     the files for editors: colours of each token, places of refusals
+  hostile     the quick part of hostile use
+
+Some parts are tried side by side, if there are processors for it; hostile use, which also looks at times, is tried by
+itself at the end.
+
+A check is named PART/NAME. `-k` chooses those whose names have the word in them, or match it if it has a `*`; it may be
+given several times. The program is the built one, or the one that FEAST_PROGRAM names. The last line counts all
+checks; the status is 1 if one failed.
+"""
+from __future__ import annotations
+
+import argparse
+import concurrent.futures
+import importlib.util
+import multiprocessing
+import os
+import signal
+import sys
+import time
+from dataclasses import dataclass, replace
+from pathlib import Path
+from types import ModuleType
+from typing import Iterator, Optional, Sequence
+
+HERE = Path(__file__).resolve().parent
+TOP = HERE.parent
+sys.dont_write_bytecode = True
+# (a file and a package of tools are called `lab` and `first_call` here too: tools goes first, and parts have other names)
+sys.path[0:0] = [str(TOP / "tools"), str(HERE)]
+
+from checks import Choice, Outcome, tried  # noqa: E402
+from lab.errors import LabError  # noqa: E402
+from lab.program import Program  # noqa: E402
+
+
+@dataclass(frozen=True)
+class Part:
+    """A part of the tests: its file, whether it wants the program, whether several of its checks may be tried at once,
+    and whether it has to be tried by itself. The file has `checks`, which gives the checks of the part for a program."""
+
+    file: str
+    wants_program: bool = True
+    aside: bool = False
+    alone: bool = False
+
+
+PARTS = {
+    "lab": Part("lab.py"),
+    "pages": Part("pages.py"),
+    "first_call": Part("first_call.py", wants_program=False, aside=True),
+    "cases": Part("run.py", aside=True),
+    "tables": Part("tables.py", aside=True),
+    "errors": Part("errors.py", aside=True),
+    "audits": Part("audits.py", aside=True),
+    "edits": Part("edits.py", wants_program=False),
+    "sources": Part("sources.py", wants_program=False, aside=True),
+    "python": Part("python_code.py", wants_program=False),
+    "release": Part("release.py", aside=True),
+    "editors": Part("editors.py", wants_program=False, aside=True),
+    "hostile": Part("hostile.py", alone=True),
+}
+# How many parts are tried side by side at most.
+SIDE_BY_SIDE = 3
+
+
+def module_of(part: str) -> ModuleType:
+    """The module of a part, under a name that no other module has."""
+    spec = importlib.util.spec_from_file_location(f"part_{part}", HERE / PARTS[part].file)
+    assert spec is not None and spec.loader is not None
+    module = importlib.util.module_from_spec(spec)
+    sys.modules[spec.name] = module
+    spec.loader.exec_module(module)
+    return module
+
+
+def outcomes_of(part: str, program: Optional[Path], choice: Choice, is_list: bool = False) -> list[Outcome]:
+    """Tries the chosen checks of a part, in this process; their names alone, if that is asked for."""
+    signal.signal(signal.SIGINT, signal.default_int_handler)
+    if program:
+        os.environ["FEAST_PROGRAM"] = str(program)
+    front = f"part_{part}."
+    checks = module_of(part).checks(program)
+    chosen = [test for test in checks if choice.takes(part, test.id().removeprefix(front))]
+    outcomes = [Outcome(test.id(), 0.0) for test in chosen] if is_list else tried(chosen, PARTS[part].aside)
+    return [replace(outcome, name=outcome.name.removeprefix(front)) for outcome in outcomes]
+
+
+def timed(part: str, program: Optional[Path], choice: Choice, is_list: bool) -> tuple[list[Outcome], float]:
+    """The same, with how many seconds that took."""
+    start = time.monotonic()
+    return outcomes_of(part, program, choice, is_list), time.monotonic() - start
+
+
+Tried = tuple[str, list[Outcome], float]
+
+
+def apart(parts: Sequence[str], program: Optional[Path], choice: Choice, is_list: bool) -> Iterator[Tried]:
+    """Tries parts, each in a process of its own, since modules of several parts have one name; gives each with its
+    outcomes and its seconds as soon as it is over. Those that have to be tried by themselves come last."""
+    most = max(min(len(os.sched_getaffinity(0)) - 1, SIDE_BY_SIDE), 1)
+    alone = [part for part in parts if PARTS[part].alone]
+    for group, lanes in (([part for part in parts if part not in alone], most), (alone, 1)):
+        context = multiprocessing.get_context("spawn")
+        with concurrent.futures.ProcessPoolExecutor(lanes, context, max_tasks_per_child=1) as pool:
+            begun = {pool.submit(timed, part, program, choice, is_list): part for part in group}
+            for done in concurrent.futures.as_completed(begun):
+                yield begun[done], *done.result()
+
+
+def told(part: str, outcomes: Sequence[Outcome], seconds: float) -> None:
+    """Prints what is wrong in a part, and a line of what was tried."""
+    for outcome in outcomes:
+        if outcome.fault:
+            print(f"FAILED {part}/{outcome.name}: {outcome.fault}")
+    print(f"{part}: {counted(outcomes)}, in {seconds:.0f} s", flush=True)
+
+
+def counted(outcomes: Sequence[Outcome]) -> str:
+    """How many checks passed, failed and were left out, with each reason once."""
+    failed = sum(bool(it.fault) for it in outcomes)
+    left_out = [it.left_out for it in outcomes if it.left_out and not it.fault]
+    reasons = f", {len(left_out)} left out ({'; '.join(sorted(set(left_out)))})" if left_out else ""
+    return f"{len(outcomes) - failed - len(left_out)} passed, {failed} failed{reasons}"
+
+
+def slowest(found: Sequence[tuple[str, Outcome]], most: int) -> None:
+    """Prints the checks that took longest."""
+    for part, outcome in sorted(found, key=lambda it: -it[1].seconds)[:most]:
+        print(f"{outcome.seconds:8.2f} s  {part}/{outcome.name}")
+
+
+def parser() -> argparse.ArgumentParser:
+    """The words of the command."""
+    made = argparse.ArgumentParser(description=__doc__, formatter_class=argparse.RawDescriptionHelpFormatter)
+    made.add_argument("parts", metavar="PART", nargs="*", help="these parts alone")
+    made.add_argument("-k", dest="words", metavar="WORD", action="append", default=[], help="the checks with this word")
+    made.add_argument("--program", type=Path, metavar="FILE", help="this program, in place of the built one")
+    made.add_argument("--without-program", action="store_true", help="the parts that want no program")
+    made.add_argument("--times", type=int, default=0, metavar="N", help="at the end, the N checks that took longest")
+    made.add_argument("--list", action="store_true", help="the names of the checks, which are not tried")
+    return made
+
+
+def program_for(given: Optional[Path], parts: Sequence[str]) -> Optional[Path]:
+    """The program for these parts, None if they want none. LabError if there is none, or it is older than a source."""
+    if not any(PARTS[part].wants_program for part in parts):
+        return None
+    if given:
+        os.environ["FEAST_PROGRAM"] = str(given.resolve())
+    return Program.find().path
+
+
+def main() -> int:
+    """The command: the status is 1 if a check failed or none was chosen, and 2 for words that it doesn't know."""
+    words = parser()
+    given = words.parse_args()
+    parts = given.parts or [part for part in PARTS if not (given.without_program and PARTS[part].wants_program)]
+    lost = sorted(set(parts) - set(PARTS))
+    if lost:
+        words.error(f"there is no part {', '.join(lost)}")
+    try:
+        program = program_for(given.program, parts)
+    except LabError as fault:
+        print(f"driver.py: {fault}", file=sys.stderr)
+        return 1
+    return run(parts, program, given)
+
+
+def run(parts: Sequence[str], program: Optional[Path], given: argparse.Namespace) -> int:
+    """Tries parts, and prints what came of them."""
+    begin = time.monotonic()
+    found: list[tuple[str, Outcome]] = []
+    for part, outcomes, seconds in apart(parts, program, Choice(words=tuple(given.words)), given.list):
+        found += [(part, outcome) for outcome in outcomes]
+        if given.list:
+            print(*(f"{part}/{outcome.name}" for outcome in outcomes), sep="\n")
+        elif outcomes:
+            told(part, outcomes, seconds)
+    if given.list:
+        return 0
+    slowest(found, given.times)
+    everything = [outcome for _, outcome in found]
+    print(f"in all: {counted(everything)}, in {time.monotonic() - begin:.0f} s")
+    return 1 if not found or any(outcome.fault for outcome in everything) else 0
+
+
+def only(part: str) -> int:
+    """The command of a script that tries one part: [PROGRAM] [NAME..], where a NAME chooses the check of that name and
+    those whose names begin with it and a `/` or a `.`."""
+    made = argparse.ArgumentParser(description=sys.modules["__main__"].__doc__,
+                                   formatter_class=argparse.RawDescriptionHelpFormatter)
+    if PARTS[part].wants_program:
+        made.add_argument("program", metavar="PROGRAM", type=Path, nargs="?", help="the program; else the built one")
+    made.add_argument("names", metavar="NAME", nargs="*", help="these checks alone")
+    given = made.parse_args()
+    try:
+        program = program_for(getattr(given, "program", None), [part])
+    except LabError as fault:
+        made.error(str(fault))
+    start = time.monotonic()
+    outcomes = outcomes_of(part, program, Choice(names=tuple(given.names)))
+    told(part, outcomes, time.monotonic() - start)
+    return 1 if not outcomes or any(outcome.fault for outcome in outcomes) else 0
+
+
+if __name__ == "__main__":
+    sys.exit(main())

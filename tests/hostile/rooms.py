@@ -1,0 +1,127 @@
+"""How much address space calls need, against a stated formula.
+
+A call has all its memory when it writes its answer: a pipe that is full keeps it there, and the system tells the most
+address space that it has had. That must be what the formula says, to a tenth, so room that is asked for twice is seen.
+In a tenth more than the formula says the call ends well, and in a quarter less it ends for want of memory and has
+put nothing. Runs of several tiles are left out, since each of their threads has a stack.
+"""
+from __future__ import annotations
+
+import os
+import pathlib
+import re
+import subprocess
+import time
+from typing import Iterator, NamedTuple, Optional
+
+from bench import DONE, MEMORY, Bench, Limits
+from jobs import PACKED, WALKER
+
+KIB = 1024
+# In how much address space the program begins, in kibibytes.
+BEGIN = 3252
+# How many attempts the worlds have, over all tiles; the second one is for the long run.
+FEW, MANY = 20_000, 1_000_000
+# What planes of 64 tiles of 8 by 8 sites take that are run with tiles, in kibibytes.
+TILES = 20_900
+# What a generated world takes, in kibibytes.
+GENERATED = 6_184
+
+
+class Room(NamedTuple):
+    """A call by its words, how much it needs beyond the beginning, in kibibytes, how many bytes for each thing that it
+    has, and how many things these are."""
+
+    words: list[str]
+    fixed: int
+    each: float
+    things: int
+
+    def due(self) -> float:
+        """The address space that it needs, in kibibytes."""
+        return BEGIN + self.fixed + self.each * self.things / KIB
+
+
+def full_pipe() -> tuple[int, int]:
+    """A pipe that takes nothing more: its two ends."""
+    end, out = os.pipe()
+    os.set_blocking(out, False)
+    try:
+        while os.write(out, bytes(4096)):
+            pass
+    except BlockingIOError:
+        os.set_blocking(out, True)
+    return end, out
+
+
+def is_writing(process: int) -> bool:
+    """Whether a process waits in a write to its standard output."""
+    try:
+        return pathlib.Path(f"/proc/{process}/syscall").read_text().startswith("1 0x1 ")
+    except OSError:
+        return False
+
+
+def most_space(bench: Bench, words: list[str], seconds: float) -> Optional[int]:
+    """The most address space that a call has had when it writes, in kibibytes; None if it writes nothing."""
+    end, out = full_pipe()
+    child = subprocess.Popen([bench.program, *words], cwd=bench.folder, stdin=subprocess.DEVNULL, stdout=out)
+    os.close(out)
+    last = time.monotonic() + seconds
+    while not is_writing(child.pid) and child.poll() is None and time.monotonic() < last:
+        time.sleep(0.005)
+    status = pathlib.Path(f"/proc/{child.pid}/status").read_text() if child.poll() is None else ""
+    child.kill()
+    child.wait()
+    os.close(end)
+    found = re.search(r"VmPeak:\s+(\d+) kB", status)
+    return int(found[1]) if found else None
+
+
+def has_room(bench: Bench, room: Room) -> None:
+    """A call needs what its formula says, and has enough in a little more, and too little in less."""
+    name, due = " ".join(room.words), room.due()
+    most = most_space(bench, room.words, 600)
+    bench.say(most is not None and abs(most - due) <= due / 10, f"{name}: address space", f"{most} KiB, not {due:.0f}")
+    for part, status in ((1.1, DONE), (0.75, MEMORY)):
+        answer = bench.call(room.words, Limits(space=int(due * part) * KIB), seconds=600)
+        out = b"" if status == MEMORY else None
+        bench.expect(f"{name} in {part} of its space", answer, status, out)
+    bench.note(f"{name}: {most} KiB of address space, by the formula {due:.0f}")
+
+
+def heirs(count: int, swaps: int) -> bytes:
+    """Elements that have a long `behave` of their base."""
+    body = b"quark B { EventWindow ew; Void behave() { " + b"ew.swap(0, 4); " * swaps + b"} }\n"
+    return body + b"".join(b"element E%d : B { }\n" % k for k in range(count))
+
+
+def rooms_of(attempts: int) -> Iterator[Room]:
+    """The calls over worlds with so many attempts, on one tile and on 64, and their reports."""
+    whole, parts = attempts, attempts // 64 * 64
+    yield Room(["run", "one", "e"], 0, 87.5, whole)
+    yield Room(["runpack", "one", "c"], 0, 87.5, whole)
+    yield Room(["step", "one", "e"], 0, 107, whole)
+    yield Room(["steppack", "one", "c"], 0, 107, whole)
+    yield Room(["step", "many", "e"], TILES, 72, parts)
+    for world, count in (("one", whole), ("many", parts)):
+        yield Room(["audit", world, f"{world}.report", "e"], 0, 140, count)
+        yield Room(["replay", world, f"{world}.report", "e"], 0, 94, count)
+        yield Room(["rewind", world, f"{world}.report", "10", "e"], 0, 765, count)
+
+
+def rooms(bench: Bench) -> None:
+    """Each of these calls, and those that write code."""
+    bench.write("e", WALKER)
+    bench.write("c", PACKED)
+    bench.write("long", heirs(10, 2000))
+    attempts = MANY if bench.long else FEW
+    for name, tiles, own in (("one", "1 1", attempts), ("many", "8 8", attempts // 64)):
+        bench.write(name, f"feast 1\ntiles {tiles}\nsize 8 8\nseed 1\nattempts {own}\n".encode())
+        bench.call(["step", name, "e"], seconds=600)
+        bench.output.rename(bench.at(f"{name}.report"))
+    for room in rooms_of(attempts):
+        has_room(bench, room)
+    for verb in ("check", "code", "pack"):
+        has_room(bench, Room([verb, "long"], 0, 1805, 20_000))
+    has_room(bench, Room(["gen", "5"], GENERATED, 0, 0))

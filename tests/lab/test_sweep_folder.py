@@ -1,0 +1,414 @@
+"""Sweeps in a folder: chains of legs, what is set, and runs that are made by many and gathered."""
+import csv
+import fcntl
+import io
+import json
+import os
+import random
+import shutil
+import signal
+import subprocess
+import sys
+import time
+from collections import Counter
+from pathlib import Path
+
+from calls import EXAMPLES, TOP, LabCase, Word, around, feast, here, lab, program
+
+WORLD = """feast 1
+tiles 2 1
+size 8 8
+seed 3
+attempts 400
+atom 4 4 Regulator
+atom 11 4 Regulator
+"""
+SOURCE = (EXAMPLES / "regulator.ulam").read_text()
+BIRTH = "--set=Regulator.regulator_birth=5,40"
+HERE = Path(__file__).resolve().parent
+
+
+def contents(folder: Path) -> dict[str, bytes]:
+    """All files below a folder."""
+    return {str(path.relative_to(folder)): path.read_bytes() for path in folder.rglob("*") if path.is_file()}
+
+
+class FolderCase(LabCase):
+    """A small world, and a folder `out` for a sweep."""
+
+    def setUp(self) -> None:
+        super().setUp()
+        self.world = self.file("w", WORLD)
+        self.elements = self.file("regulator.ulam", SOURCE)
+        self.out = self.room / "out"
+
+    def words(self, *more: Word) -> list[Word]:
+        """The words of a sweep of stepped runs."""
+        return ["sweep", "--step", *more, self.world, self.elements]
+
+    def rows(self, text: str | None = None) -> list[dict[str, str]]:
+        """The rows of a table: that of the folder, unless another is given."""
+        return list(csv.DictReader(io.StringIO((self.out / "sweep.csv").read_text() if text is None else text)))
+
+    def chained(self, seed: int, birth: str, *options: Word, world: str = WORLD) -> list[dict[str, str]]:
+        """The course of a chain of elements that were changed by hand."""
+        hand = self.file("hand.ulam", SOURCE.replace("regulator_birth = 40", f"regulator_birth = {birth}"))
+        chain = self.room / "by-hand"
+        self.passes("chain", chain, "--step", "--seed", str(seed), *options, self.file("hand.world", world), hand)
+        rows = self.rows((chain / "course.csv").read_text())
+        shutil.rmtree(chain)
+        return rows
+
+
+class Folders(FolderCase):
+    """What a sweep of chains has."""
+
+    def test_legs(self) -> None:
+        """The rows of a run are those of a chain with its values and its seed; no two legs share a seed."""
+        options = ["--legs", "3", "--sum", "Regulator.part"]
+        self.elements = self.file("regulator.ulam", SOURCE.replace("Random random;", "Random random; Unsigned(3) part;", 1))
+        told = self.passes(*self.words(BIRTH, "--repeat", "2", *options, "--at", "2:clear:0,0,8,8"))
+        rows = self.rows(told)
+        self.assertEqual(list(rows[0]), ["Regulator.regulator_birth", "seed", "leg", "events", "abandoned", "aeps",
+                                         "Regulator", "Resource", "sum(Regulator.part)"])
+        expected = []
+        for birth in ("5", "40"):
+            for seed in (3, 3 + 3 * 3):
+                for row in self.chained(seed, birth, "--legs", "3", "--at", "2:clear:0,0,8,8"):
+                    del row["attempts"]
+                    expected.append({"Regulator.regulator_birth": birth, "seed": str(seed), **row, "sum(Regulator.part)": "0"})
+        self.assertEqual(rows, expected)
+        self.assertEqual(self.passes(*self.words(BIRTH, "--repeat", "2", *options, "--at", "2:clear:0,0,8,8", "--into", self.out)),
+                         f"{self.out / 'sweep.csv'}: 4 of 4 runs\n")
+        self.assertEqual([{"run": str(1 + at // 4), **row} for at, row in enumerate(rows)], self.rows())
+        self.assertEqual(sorted(it.name for it in self.out.iterdir()), ["elements", "runs", "start.world", "sweep.csv", "sweep.json"])
+        plan = json.loads((self.out / "sweep.json").read_text())
+        self.assertEqual((plan["sets"], plan["repeat"], plan["seed"], plan["legs"], plan["step"], plan["at"]),
+                         ({"Regulator.regulator_birth": ["5", "40"]}, 2, 3, 3, True, ["2:clear:0,0,8,8"]))
+
+    def test_seeds_alone(self) -> None:
+        """Without --set there are runs over seeds alone."""
+        rows = self.rows(self.passes(*self.words("--repeat", "3")))
+        self.assertEqual([row["seed"] for row in rows], ["3", "6", "9"])
+        for row in rows:
+            last = self.chained(int(row["seed"]), "40", "--legs", "1")[-1]
+            self.assertEqual(list(row.values())[1:], [last[name] for name in list(row)[1:]])
+
+    def test_until(self) -> None:
+        """A run is over after the first leg at whose end the rule holds."""
+        rows = self.rows(self.passes(*self.words("--repeat", "3", "--legs", "6", "--until", "Atoms.Regulator>2")))
+        for seed in ("3", "21", "39"):
+            course = self.chained(int(seed), "40", "--legs", "6")
+            end = next((at for at, row in enumerate(course) if int(row["Regulator"]) > 2), 6)
+            self.assertEqual([row["leg"] for row in rows if row["seed"] == seed], [str(leg) for leg in range(end + 1)])
+        self.assertTrue(3 * 2 < len(rows) < 3 * 7)
+
+    def test_acts(self) -> None:
+        """A name in braces in an act takes the values that are set."""
+        rows = self.rows(self.passes(*self.words("--legs", "2", "--set", "wide=1,16", "--at", "2:clear:0,0,{wide},8")))
+        self.assertEqual(list(rows[0])[0], "wide")
+        for wide in ("1", "16"):
+            found = [row["Regulator"] for row in rows if row["wide"] == wide]
+            self.assertEqual(found, [row["Regulator"] for row in self.chained(3, "40", "--legs", "2", "--at", f"2:clear:0,0,{wide},8")])
+        self.assertEqual(rows[-1]["Regulator"], "0")
+        rows = self.rows(self.passes(*self.words("--legs", "2", "--set", "p=0:1:1", "--at", "2:erase:{p}:0,0,16,8", "--repeat", "2")))
+        for p, seed in (("0", "3"), ("0", "9"), ("1", "3"), ("1", "9")):
+            found = [row["Regulator"] for row in rows if (row["p"], row["seed"]) == (p, seed)]
+            course = self.chained(int(seed), "40", "--legs", "2", "--at", f"2:erase:{p}:0,0,16,8")
+            self.assertEqual(found, [row["Regulator"] for row in course])
+        self.assertNotEqual(rows[2]["Regulator"], rows[-1]["Regulator"])
+
+    def test_world(self) -> None:
+        """Attempts, the size of a tile and the number of tiles are set as in the world."""
+        rows = self.rows(self.passes(*self.words("--set", "attempts=100:300:200", "--set", "size=8x8,16x9", "--set", "tiles=2x1,3x2",
+                                                 "--repeat", "2")))
+        self.assertEqual(len(rows), 16)
+        for row in rows:
+            text = WORLD.replace("attempts 400", f"attempts {row['attempts']}")
+            text = text.replace("size 8 8", "size " + row["size"].replace("x", " "))
+            text = text.replace("tiles 2 1", "tiles " + row["tiles"].replace("x", " "))
+            last = self.chained(int(row["seed"]), "40", "--legs", "1", world=text)[-1]
+            self.assertEqual(list(row.values())[4:], [last[name] for name in list(row)[4:]])
+        self.assertEqual({row["seed"] for row in rows}, {"3", str(3 + 3 * 2 + 1)})
+
+    def test_fill(self) -> None:
+        """A density fills the empty sites of each run by its own seed."""
+        off = WORLD.replace("feast 1", "feast 2").replace("size 8 8", "size 8 8\noff 1").replace("atom 11 4 Regulator\n", "")
+        self.world = self.file("w", off)
+        rows = self.rows(self.passes(*self.words("--legs", "1", "--set", "fill.Regulator=0.2", "--set", "fill.Resource=0:0.5:0.5",
+                                                 "--repeat", "2")))
+        starts = [row for row in rows if row["leg"] == "0"]
+        for row in starts:
+            draw = random.Random(int(row["seed"]))
+            numbers = {(x, y): draw.random() for y in range(8) for x in range(16)}
+            free = [number for (x, y), number in numbers.items() if x < 8 and (x, y) != (4, 4)]
+            more = float(row["fill.Resource"])
+            counts = Counter("Regulator" if it < 0.2 else "Resource" if it - 0.2 < more else "" for it in free)
+            self.assertEqual((int(row["Regulator"]), int(row["Resource"])), (1 + counts["Regulator"], counts["Resource"]))
+        self.assertEqual([row["fill.Resource"] for row in starts], ["0.0"] * 2 + ["0.5"] * 2)
+        self.assertNotEqual(starts[0]["Regulator"], starts[1]["Regulator"])
+
+    def test_ranges(self) -> None:
+        for said, values in [("5:9:2", "5,7,9"), ("5:10:2", "5,7,9"), ("9:5:-4", "9,5"), ("7:9", "7,8,9"), ("7:7", "7"),
+                             ("3,20:40:20,0x5", "3,20,40,0x5")]:
+            told = self.passes(*self.words("--set", f"Regulator.regulator_birth={said}"))
+            self.assertEqual(",".join(row["Regulator.regulator_birth"] for row in self.rows(told)), values)
+        for said in ("9:5", "5:9:0", "5:9:-1", "5:9:1:1", "5:", ":9", "0:1000000"):
+            self.refused(f"--set Regulator.regulator_birth={said}: ", *self.words("--set", f"Regulator.regulator_birth={said}"))
+
+    def test_refused(self) -> None:
+        for said, says in [
+            ("attempts=x", "--set attempts=x: it is no number of attempts"), ("attempts=500001", "a tile may have up to 500000"),
+            ("size=8", "--set size=8: it has to be AxB, both from 8 to 64"), ("size=7x8", "size=7x8: it has to be"),
+            ("tiles=1x1", "--set tiles=1x1: atoms of the world lie outside of 8 by 8 sites"), ("tiles=9x1", "both from 1 to 8"),
+            ("fill.Regulator=1.5", "a density is from 0 to 1"), ("fill.Regulator=-1", "a density is from 0 to 1"),
+            ("fill.Nobody=0.5", "the files have no constant fill.Nobody"), ("p=1", "the files have no constant p"),
+        ]:
+            self.refused(says, *self.words("--set", said))
+        self.refused("the densities come to 1.1", *self.words("--set", "fill.Regulator=0.6", "--set", "fill.Resource=0.5"))
+        self.refused("--at 1:clear:0,0,{p},1: p has no values", *self.words("--at", "1:clear:0,0,{p},1"))
+        self.refused("--at 1:clear:0,0,17,1: ", *self.words("--at", "1:clear:0,0,17,1"))
+        self.refused("--at 2:clear:0,0,1,1: a run has 1 legs", *self.words("--at", "2:clear:0,0,1,1"))
+        self.refused("--at 4:clear:0,0,1,1: a run has 3 legs", *self.words("--legs", "3", "--at", "{k}:clear:0,0,1,1", "--set", "k=2:4"))
+        self.refused("--keep reports: it takes a folder", *self.words("--keep", "reports"))
+        self.refused("--until Atoms.Nobody=0: no file", *self.words("--until", "Atoms.Nobody=0"))
+        self.refused("not allowed with argument", *self.words("--into", self.out, "--plan", self.out))
+        self.file("out", "a file")
+        self.refused("out: can't be the folder of a sweep: file exists", *self.words("--into", self.out))
+
+
+class GoingOn(FolderCase):
+    """Sweeps that are stopped, and go on."""
+
+    OPTIONS = [BIRTH, "--repeat", "2", "--legs", "2", "--keep", "reports", "--jobs", "1"]
+
+    def test_killed(self) -> None:
+        """A sweep that is killed goes on, makes no run again, and ends byte for byte as one that wasn't."""
+        self.passes(*self.words(*self.OPTIONS, "--into", self.out))
+        expected = contents(self.out)
+        shutil.rmtree(self.out)
+        done = 0
+        for turn, number in enumerate((signal.SIGKILL, signal.SIGTERM, signal.SIGINT), 1):
+            log = self.room / "log"
+            killing = self.file("killing", f"#!/bin/sh\ncase $1 in step) echo >>{log}; [ $(wc -l <{log}) -eq {3 * turn} ] && "
+                                           f"{{ kill -{int(number)} $PPID; sleep 0.3; }} ;; esac\nexec {program()} \"$@\"\n")
+            killing.chmod(0o755)
+            stopped = lab(*self.words(*self.OPTIONS, "--into", self.out), instead=killing)
+            self.assertEqual(stopped.returncode, -9 if number == signal.SIGKILL else 128 + number, stopped.stderr)
+            there = len([it for it in (self.out / "runs").iterdir() if it.suffix != ".part"]) if (self.out / "runs").exists() else 0
+            self.assertTrue(done <= there < 4)
+            done = there
+        self.passes(*self.words(*self.OPTIONS, "--into", self.out))
+        self.assertEqual({name: data for name, data in contents(self.out).items() if ".part" not in name}, expected)
+
+    def test_another_sweep(self) -> None:
+        """A folder takes no other sweep than its own."""
+        self.passes(*self.words(BIRTH, "--into", self.out))
+        self.refused("planned with other sets", *self.words("--into", self.out))
+        self.refused("planned with other repeat: 1, not 2", *self.words(BIRTH, "--repeat", "2", "--into", self.out))
+        self.refused("planned with other legs: null, not 1", *self.words(BIRTH, "--legs", "1", "--plan", self.out))
+        self.refused("planned with other step", "sweep", BIRTH, "--into", self.out, self.world, self.elements)
+        self.refused("planned with other world;", "sweep", "--step", BIRTH, "--into", self.out,
+                     self.file("other", WORLD + "# other\n"), self.elements)
+        (self.room / "mine").mkdir()
+        self.file("mine/notes", "mine")
+        self.refused("no sweep was planned there, and it has other files, such as notes", *self.words("--into", self.room / "mine"))
+
+
+class Tasks(FolderCase):
+    """Runs that are made one by one, by whoever, and gathered."""
+
+    OPTIONS = [BIRTH, "--repeat", "3", "--legs", "2"]
+
+    def setUp(self) -> None:
+        super().setUp()
+        self.assertEqual(self.passes(*self.words(*self.OPTIONS, "--plan", self.out)), f"{self.out}: 6 runs, 1-6\n")
+
+    def whole(self) -> str:
+        """The table of the same sweep that was made by one call."""
+        folder = self.room / "whole"
+        self.passes(*self.words(*self.OPTIONS, "--into", folder))
+        return (folder / "sweep.csv").read_text()
+
+    def gathered(self, missing: str) -> None:
+        """Gathers, and tries which runs are told as missing."""
+        done = here("sweep", "--gather", self.out)
+        self.assertEqual((done.status, done.said), (1 if missing else 0, ""))
+        self.assertEqual(done.wrote.partition("\n")[2], f"missing: {missing}\n" if missing else "")
+
+    def test_any_order(self) -> None:
+        """Tasks in any order and twice come to the same table, and what is missing is named."""
+        self.passes(*self.words(*self.OPTIONS, "--plan", self.out))
+        self.gathered("1-6")
+        for number, missing in [(5, "1-4,6"), (2, "1,3-4,6"), (5, "1,3-4,6"), (6, "1,3-4"), (1, "3-4"), (3, "4"), (4, "")]:
+            self.passes("sweep", "--task", self.out, str(number))
+            self.gathered(missing)
+        self.assertEqual((self.out / "sweep.csv").read_text(), self.whole())
+
+    def test_twice_at_once(self) -> None:
+        """A task that eight make at once is there once, and whole."""
+        words: list[Word] = [TOP / "lab", "sweep", "--task", self.out, "3"]
+        makers = [subprocess.Popen(words, env=around(), stdout=subprocess.PIPE, stderr=subprocess.PIPE) for _ in range(8)]
+        self.assertEqual([(maker.communicate()[1], maker.returncode) for maker in makers], [(b"", 0)] * 8)
+        self.assertEqual([it.name for it in (self.out / "runs").iterdir()], ["00003"])
+        self.gathered("1-2,4-6")
+        self.assertEqual([row["run"] for row in self.rows()], ["3"] * 3)
+
+    def test_first_stays(self) -> None:
+        """A run with threads isn't replaced by another that comes later, though they differ."""
+        threads = self.room / "threads"
+        self.passes("sweep", "--legs", "2", "--plan", threads, self.world, self.elements)
+        slow = self.file("slow", f"#!/bin/sh\nif [ $1 = run ]; then touch {self.room}/begun; "
+                                 f"while [ ! -e {self.room}/gate ]; do sleep 0.05; done; fi\nexec {program()} \"$@\"\n")
+        slow.chmod(0o755)
+        late = subprocess.Popen([TOP / "lab", "sweep", "--task", threads, "1"], env=around(slow), stdout=subprocess.PIPE)
+        while late.poll() is None and not (self.room / "begun").exists():
+            time.sleep(0.05)
+        self.passes("sweep", "--task", threads, "1")
+        course = threads / "runs" / "00001" / "course.csv"
+        course.write_text(course.read_text() + "# the first\n")
+        self.file("gate", "")
+        late.communicate()
+        self.assertEqual(late.returncode, 0)
+        self.assertIn("# the first", course.read_text())
+        self.assertEqual([it.name for it in (threads / "runs").iterdir()], ["00001"])
+
+    def test_killed_at_each_step(self) -> None:
+        """Whenever a maker is killed before its last rename, the run isn't there, and a later maker isn't disturbed."""
+        expected = self.whole().splitlines()[1:4]
+        for number in range(1, 30):
+            dying: list[Word] = [sys.executable, HERE / "dying.py", str(number), "sweep", "--task", self.out, "1"]
+            killed = subprocess.run(dying, capture_output=True, env=around(), check=False)
+            if killed.returncode == 0:
+                break
+            self.assertEqual(killed.returncode, -signal.SIGKILL)
+            self.gathered("1-6")
+        self.assertGreater(number, 5)
+        self.assertEqual((self.out / "sweep.csv").read_text().splitlines()[1:], [])
+        self.gathered("2-6")
+        self.assertEqual((self.out / "sweep.csv").read_text().splitlines()[1:], expected)
+
+    def test_dead_node(self) -> None:
+        """What a node left half written beside a run is no run, and stays out of the table."""
+        half = self.out / "runs" / "00002.node7.123.abcdef00.part"
+        half.mkdir(parents=True)
+        (half / "course.csv").write_text("leg,attempts\n0,")
+        (self.out / "sweep.csv.part").write_text("run,")
+        self.gathered("1-6")
+        self.passes("sweep", "--task", self.out, "2")
+        self.gathered("1,3-6")
+        self.assertEqual([row["run"] for row in self.rows()], ["2"] * 3)
+
+    def test_full_disk(self) -> None:
+        """A disk that is full is told in a line; the run isn't there, and is made once there is room."""
+        words = f"ulimit -f 1; exec {TOP / 'lab'} sweep --task {self.out} 4"
+        world = "".join(f"atom {x} {y} Resource\n" for y in range(8) for x in range(16) if (x, y) not in ((4, 4), (11, 4)))
+        shutil.rmtree(self.out)
+        self.world = self.file("w", WORLD + world)
+        self.passes(*self.words(*self.OPTIONS, "--plan", self.out))
+        done = subprocess.run(["sh", "-c", words], capture_output=True, text=True, env=around(), check=False)
+        self.assertEqual((done.returncode, done.stdout), (2, ""))
+        self.assertRegex(done.stderr, r"\Alab: [^\n]*can't be written: file too large\n\Z")
+        self.gathered("1-6")
+        self.passes("sweep", "--task", self.out, "4")
+        self.gathered("1-3,5-6")
+
+    def test_missing_program(self) -> None:
+        """A node without the program makes nothing, and says so; so does one whose program fails in the midst."""
+        done = lab("sweep", "--task", self.out, "1", instead=self.room / "none")
+        self.assertEqual((done.returncode, done.stdout), (2, ""))
+        self.assertIn("none: FEAST_PROGRAM names it, and it is no program", done.stderr)
+        failing = self.file("failing", f"#!/bin/sh\ncase $2 in */0002.world) exit 8 ;; esac\nexec {program()} \"$@\"\n")
+        failing.chmod(0o755)
+        done = lab("sweep", "--task", self.out, "1", instead=failing)
+        self.assertEqual((done.returncode, done.stdout), (2, ""))
+        self.assertIn("it ran out of memory", done.stderr)
+        self.gathered("1-6")
+
+    def test_refused(self) -> None:
+        for number in ("0", "7", "100000"):
+            self.refused(f"the sweep has the runs 1 to 6, and no run {number}", "sweep", "--task", self.out, number)
+        for number in ("-1", "x", "1.5"):
+            self.refused(f"{number} is no number of a run", "sweep", "--task", self.out, number)
+        for verb in ("--gather", "--audit"):
+            self.refused("no sweep was planned there: it has no file sweep.json", "sweep", verb, self.room)
+        self.refused("can't be audited: it was planned without --keep reports", "sweep", "--audit", self.out)
+        self.refused("expected 2 arguments", "sweep", "--task", self.out)
+        kept = contents(self.out)
+        for name, old, new, says in [
+            ("sweep.json", "feast sweep 1", "feast sweep 2", "the plan has the form 'feast sweep 2', and this lab makes those of"),
+            ("sweep.json", "{", "", "sweep.json: no plan of a sweep"),
+            ("sweep.json", '"form"', '"from"', "sweep.json: no plan of a sweep"),
+            ("sweep.json", '"repeat"', '"repeats"', "sweep.json: not as the lab wrote it"),
+            ("sweep.json", '"repeat": 3', '"repeat":  3', "sweep.json: not as the lab wrote it"),
+            ("sweep.json", '"repeat": 3', '"repeat": "3"', "sweep.json: not as the lab wrote it"),
+            ("sweep.json", '"step": true', '"step": 1', "sweep.json: not as the lab wrote it"),
+            ("start.world", "400", "401", "start.world: not as it was when the sweep was planned"),
+            ("elements/00-regulator.ulam", "40", "41", "00-regulator.ulam: not as it was when the sweep was planned"),
+        ]:
+            (self.out / name).write_bytes(kept[name].replace(old.encode(), new.encode(), 1))
+            self.refused(says, "sweep", "--task", self.out, "1")
+            self.refused(says, "sweep", "--gather", self.out)
+            (self.out / name).write_bytes(kept[name])
+
+    def test_foreign_run(self) -> None:
+        """A run of another sweep, or of another number, is not counted."""
+        self.passes("sweep", "--task", self.out, "1")
+        shutil.copytree(self.out / "runs" / "00001", self.out / "runs" / "00002")
+        self.refused("00002/run.json: the run was made for another plan, or for another number", "sweep", "--gather", self.out)
+        shutil.rmtree(self.out / "runs" / "00002")
+        course = self.out / "runs" / "00001" / "course.csv"
+        course.write_text(course.read_text().replace("leg,", "log,"))
+        self.refused("00001/course.csv: not the course of a run of this sweep", "sweep", "--gather", self.out)
+
+    def test_two_gatherings(self) -> None:
+        self.passes("sweep", "--task", self.out, "1")
+        handle = os.open(self.out, os.O_RDONLY)
+        self.addCleanup(os.close, handle)
+        fcntl.flock(handle, fcntl.LOCK_EX)
+        self.refused("another call of the lab is gathering this sweep", "sweep", "--gather", self.out)
+        fcntl.flock(handle, fcntl.LOCK_UN)
+        self.gathered("2-6")
+
+
+class Audits(FolderCase):
+    """What the audit of a sweep finds."""
+
+    def test_audit(self) -> None:
+        self.passes(*self.words(BIRTH, "--set", "fill.Resource=0.1", "--legs", "2", "--keep", "reports", "--into", self.out))
+        self.assertEqual(self.passes("sweep", "--audit", self.out), "yes\n")
+        kept = contents(self.out)
+        other = self.room / "other"
+        self.passes(*self.words(BIRTH, "--set", "fill.Resource=0.2", "--legs", "2", "--keep", "reports", "--into", other))
+        swapped = contents(other / "runs" / "00002")
+        rows = kept["sweep.csv"].decode()
+        for changes, says in [
+            ({"sweep.csv": rows.replace("\n2,", "\n3,", 1).encode()}, "no sweep.csv: its rows are not those of the runs\n"),
+            ({"runs/00001/0002.atoms": kept["runs/00001/0001.atoms"]}, "no run 1: it is not the chain that the plan says"),
+            ({"runs/00002/0001.kept.gz": kept["runs/00002/0002.kept.gz"]}, "no run 2: leg 1: "),
+            ({f"runs/00002/{name}": data for name, data in swapped.items()
+              if name != "run.json" and kept[f"runs/00002/{name}"] != data},
+             "no run 2: it is not the chain that the plan says"),
+            ({"runs/00002/course.csv": b"".join(kept["runs/00002/course.csv"].splitlines(True)[:-1])},
+             "no run 2: it has not the legs that the plan says"),
+        ]:
+            for name, data in changes.items():
+                self.assertNotEqual(kept.get(name), data, name)
+                (self.out / name).write_bytes(data)
+            done = here("sweep", "--audit", self.out)
+            self.assertEqual((done.status, done.said), (1, ""), says)
+            self.assertTrue(done.wrote.startswith(says), done.wrote)
+            for name in changes:
+                (self.out / name).write_bytes(kept[name])
+        self.assertEqual(contents(self.out), kept)
+        shutil.rmtree(self.out / "runs" / "00002")
+        self.refused("can't be audited yet: it lacks the runs 2", "sweep", "--audit", self.out)
+
+    def test_kept_chains(self) -> None:
+        """A kept run is a chain: it can be audited and filmed by itself."""
+        self.passes(*self.words("--repeat", "2", "--legs", "2", "--keep", "reports", "--until", "Atoms.Regulator>500", "--into", self.out))
+        self.assertEqual(self.passes("chain", "--audit", self.out / "runs" / "00002"), "yes\n")
+        self.passes("film", self.out / "runs" / "00002", "-o", self.room / "film.html")
+        report = self.passes("unpack", self.out / "runs" / "00001" / "0001.kept.gz")
+        self.assertEqual(report, feast("step", self.out / "runs" / "00001" / "0001.world", self.elements))
+        self.assertEqual(self.passes("sweep", "--audit", self.out), "yes\n")

@@ -1,0 +1,35 @@
+#!/usr/bin/env python3
+"""What scripts find in the sources: sources.py [NAME..]. Each script can be called by itself too, and then says more."""
+from __future__ import annotations
+
+import subprocess
+import sys
+from functools import partial
+from pathlib import Path
+from typing import Iterator, Optional
+
+sys.dont_write_bytecode = True
+from checks import Check  # noqa: E402
+
+HERE = Path(__file__).resolve().parent
+# The scripts, with the most that they are to find.
+SCRIPTS = (("memory",), ("waits",), ("uses",), ("statements", "--most", "5"), ("readable", "--long", "5"))
+
+
+def fault(script: str, *options: str) -> Optional[str]:
+    """What a script finds, if that is too much."""
+    done = subprocess.run([sys.executable, "-B", HERE / f"{script}.py", *options], stdin=subprocess.DEVNULL,
+                          stdout=subprocess.PIPE, stderr=subprocess.STDOUT, text=True, check=False)
+    return done.stdout if done.returncode else None
+
+
+def checks(_: object) -> Iterator[Check]:
+    """A check for each script."""
+    for script, *options in SCRIPTS:
+        yield Check(script, partial(fault, script, *options))
+
+
+if __name__ == "__main__":
+    from driver import only
+
+    sys.exit(only("sources"))

@@ -1,0 +1,84 @@
+#!/usr/bin/env python3
+"""Tests that nothing waits at an edge, as far as one can see it in the code: waits.py
+
+No contract counts the looks at a word or the turns of a loop, and a test could see them only by the clock. So this
+looks at the code of crates/*/src, tests and benches apart, for two things. What lets time go by (`spin_loop`,
+`yield_now`, `sleep` and `park`) stands only where a worker pauses or waits for others between two attempts, and where
+gates rest: in the functions of PAUSES. And what takes an edge, uses it or gives it back makes one step on its words
+and has no loop: each function of STEPS.
+"""
+from __future__ import annotations
+
+import argparse
+import pathlib
+import re
+import sys
+from typing import Iterator
+
+sys.dont_write_bytecode = True
+from rust_code import TOP, Code, line_of, shown, sources  # noqa: E402
+
+# What lets time go by.
+PAUSE = re.compile(r"\b(spin_loop|yield_now|sleep\w*|park\w*)\s*\(")
+# Where that may stand: files, with their functions.
+PAUSES = {
+    "feast_base/src/gate.rt": ["rest"],
+    "tile_threads/src/backoff.rt": ["after_attempt"],
+    "tile_threads/src/stride.rt": ["wait"],
+}
+# The steps on an edge's words, and the calls that come to them.
+STEP = re.compile(r"\.\s*(compare_exchange\w*|load|store|swap|fetch_\w+|try_take|read|write|give|give_back)\s*(?:::<\w+>)?\s*\(")
+# For a file and a function, the one step that it makes.
+STEPS = {
+    "edge_lock/src/edge.rt": {"try_take": "compare_exchange", "read": "load", "write": "store", "give": "store"},
+    "edge_lock/src/shared_end.rt": {
+        "try_take": "try_take",
+        "read": "read",
+        "write": "write",
+        "give": "give",
+        "give_back": "give",
+    },
+    "tile_core/src/state.rt": {"lock": "try_take", "give": "give", "back": "give_back"},
+}
+LOOP = re.compile(r"\b(for|while|loop)\b")
+
+
+def pauses(path: pathlib.Path, code: Code) -> Iterator[str]:
+    """The places of a file where time goes by that isn't a worker's pause."""
+    functions = list(code.functions())
+    allowed = set(PAUSES.get(shown(path), []))
+    for pause in PAUSE.finditer(code.text):
+        if not allowed & {it.name for it in functions if it.body < pause.start() < it.end}:
+            yield f"{shown(path)}:{line_of(code.text, pause.start())}: `{pause[1]}` where nothing may wait"
+
+
+def steps(path: pathlib.Path, code: Code) -> Iterator[str]:
+    """The functions of a file that don't make their one step, or have a loop."""
+    wanted = STEPS.get(shown(path), {})
+    found = [it for it in code.functions() if it.name in wanted]
+    for name in sorted(set(wanted) - {it.name for it in found}):
+        yield f"{shown(path)}: there is no `{name}`"
+    for function in found:
+        body = code.text[function.body : function.end]
+        made = STEP.findall(body)
+        if made != [wanted[function.name]]:
+            yield f"{shown(path)}: `{function.name}` makes the steps {made}, not one `{wanted[function.name]}`"
+        if LOOP.search(body):
+            yield f"{shown(path)}: `{function.name}` has a loop"
+
+
+def main() -> int:
+    """The command."""
+    argparse.ArgumentParser(description="Tests that nothing waits at an edge, as far as one can see it in the code.").parse_args()
+    files = [path for path in sources("src", ".rt") if not shown(path).startswith(("cases_", "bench_"))]
+    faults = [f"{name}: there is no such file" for name in STEPS if not (TOP / "crates" / name).is_file()]
+    for path in files:
+        code = Code(path.read_text())
+        faults += [*pauses(path, code), *steps(path, code)]
+    checked = sum(map(len, STEPS.values()))
+    print("\n".join([*faults, f"{len(files)} files, {checked} functions that make one step, {len(faults)} faults in what waits"]))
+    return 1 if faults else 0
+
+
+if __name__ == "__main__":
+    sys.exit(main())

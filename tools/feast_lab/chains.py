@@ -1,0 +1,82 @@
+"""Chains, as `./lab chain` makes them."""
+from functools import cached_property
+from pathlib import Path
+from tempfile import TemporaryDirectory
+from typing import Any
+
+from lab.chain_audit import Chain as Audited
+from lab.chain_folder import Folder
+from lab.errors import LabError
+from lab.film_source import Source, chain_source
+from lab.kept import read_report
+
+from feast_lab import arrays, sources
+from feast_lab.films import Film
+from feast_lab.runs import Run, found
+
+
+class Chain:
+    """The chain of a folder, as far as it is made."""
+
+    def __init__(self, folder: str | Path, *, program: str | Path | None = None) -> None:
+        self.folder = Folder(Path(folder))
+        self.begun = self.folder.begun()
+        self.program = found(program)
+
+    @cached_property
+    def source(self) -> Source:
+        """Its legs, as a film takes them."""
+        return chain_source(self.program, self.folder.path, [])
+
+    def __len__(self) -> int:
+        return len(self.source.legs)
+
+    @cached_property
+    def course(self) -> Any:
+        """The rows of `course.csv`: an array with leg, attempts, events, abandoned, aeps, the elements and what is measured.
+
+        Without NumPy it is a list of dicts. A measure that a leg has no number for is NaN, or None in a dict.
+        """
+        elements, sites = self.source.layout.elements, self.source.world.sites
+        course = self.folder.course(elements, sites)
+        rows: list[arrays.Row] = []
+        events = 0
+        for leg in course.legs:
+            events += leg.events
+            own = {"leg": leg.number, "attempts": leg.attempts, "events": leg.events, "abandoned": leg.abandoned,
+                   "aeps": events / sites}
+            measured = [float(number) if number else None for number in leg.measured]
+            rows.append(own | dict(zip(elements, leg.counts, strict=True)) | dict(zip(course.measures, measured, strict=True)))
+        names = ["leg", "attempts", "events", "abandoned", "aeps", *elements, *course.measures]
+        kinds = [*["u4"] * len(elements), *["f8"] * len(course.measures)]
+        return arrays.columns(rows, names, ["u4", "u8", "u8", "u8", "f8", *kinds])
+
+    def frame(self) -> Any:
+        """The course as a frame of pandas."""
+        return arrays.frame(self.course)
+
+    def leg(self, number: int) -> Run:
+        """The run of a leg, counted from 1, if the chain keeps reports."""
+        if self.begun.keep != "reports":
+            raise LabError(f"{self.folder.path}: the chain keeps no reports")
+        if not 1 <= number <= len(self):
+            raise LabError(f"leg({number}): the chain has the legs 1 to {len(self)}")
+        report = read_report(self.folder.report(number))
+        world = self.folder.world(number).resolve()
+        return Run(self.program, world, [file.resolve() for file in self.folder.files], report, TemporaryDirectory())
+
+    def counts(self, every: int) -> Any:
+        """How many atoms each element had after every so many events of all legs; see `Run.counts`."""
+        return sources.counts(self.program, self.source, every)
+
+    def audit(self) -> str:
+        """`yes`, or `no` with the first leg at fault, as `./lab chain --audit` says."""
+        if self.begun.keep != "reports":
+            raise LabError(f"{self.folder.path}: the chain can't be audited: it was begun without --keep reports")
+        chain = Audited.of(self.program, self.folder, self.begun)
+        fault = next(chain.faults(range(len(chain.course.legs))), None)
+        return "yes" if fault is None else f"no {fault}"
+
+    def film(self, frames: int = 400) -> Film:
+        """The film of the chain."""
+        return sources.film(self.program, self.source, frames)

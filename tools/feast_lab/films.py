@@ -1,0 +1,22 @@
+"""Films that a notebook shows."""
+from dataclasses import dataclass
+from html import escape
+from pathlib import Path
+
+from lab.files import write_whole
+
+
+@dataclass(frozen=True)
+class Film:
+    """A film as one page of HTML."""
+
+    html: str
+
+    def save(self, path: str | Path) -> None:
+        """Writes the page to a file, whole or not at all."""
+        write_whole(Path(path), self.html)
+
+    def _repr_html_(self) -> str:
+        """The page in a frame of its own, so that its styles and scripts don't touch those of the notebook."""
+        return (f'<iframe srcdoc="{escape(self.html)}" style="width: 100%; height: 900px; border: 0" '
+                'title="A film of a run"></iframe>')

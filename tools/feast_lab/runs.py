@@ -1,0 +1,175 @@
+"""Runs: made here, or read from a report."""
+from collections.abc import Mapping, Sequence
+from functools import cached_property
+from pathlib import Path
+from tempfile import TemporaryDirectory
+from typing import Any
+
+from lab.constants import constants, with_values
+from lab.drift import greatest, plans, tiles_of
+from lab.errors import LabError
+from lab.files import read_byte_text, write_whole
+from lab.film_source import Source
+from lab.frames import Reported
+from lab.kept import read_report
+from lab.layout import Layout
+from lab.outcome import ABANDONED, JOURNAL, Outcome, atom_lines
+from lab.program import Program
+from lab.report import Reader
+from lab.world import World
+
+from feast_lab import arrays, sources
+from feast_lab.films import Film
+from feast_lab.moments import Moment
+
+Paths = Sequence[str | Path]
+
+
+class Run:
+    """A run of a world with element files: its events, its abandoned attempts, and its atoms at any moment."""
+
+    def __init__(self, program: Program, world: Path, files: Sequence[Path], report: bytes, room: TemporaryDirectory[str]) -> None:
+        self.program = program
+        self.path = world
+        self.files = list(files)
+        self.bytes = report
+        self._room = room  # the folder of copies, which goes away with the run
+        self.world = World.read(world)
+        self.layout = Layout.of(program, self.files)
+        self.outcome = Outcome.of(report)
+
+    def part(self, head: bytes, until: int | None = None) -> bytes:
+        """The lines of the report behind the line that counts them."""
+        first = self.bytes.index(b"\n", self.bytes.rindex(head) + 1) + 1
+        return self.bytes[first:until]
+
+    @cached_property
+    def events(self) -> Any:
+        """The events: an array with the fields stamp, tile, attempt, x, y and seed, or a list of dicts."""
+        return arrays.events(self.part(JOURNAL, self.bytes.rindex(ABANDONED) + 1))
+
+    @cached_property
+    def abandoned(self) -> Any:
+        """The abandoned attempts: an array with tile, attempt, x, y, edge, holder and holder_attempt, or a list of dicts."""
+        return arrays.abandoned(self.part(ABANDONED))
+
+    @property
+    def atoms(self) -> Any:
+        """The atoms at the end: an array with x, y, element, state and the members, or a list of dicts."""
+        return self.at(self.outcome.events).atoms
+
+    @cached_property
+    def drift(self) -> float:
+        """How far the tiles were apart at the worst moment, as a part of their events; see `./lab rates`."""
+        journal = self.part(JOURNAL, self.bytes.rindex(ABANDONED) + 1).decode().splitlines()
+        return greatest(plans(self.world), tiles_of(journal))
+
+    def frame(self, name: str) -> Any:
+        """`events`, `abandoned` or `atoms` as a frame of pandas."""
+        if name not in ("events", "abandoned", "atoms"):
+            raise LabError(f"a run has no {name}; it has events, abandoned and atoms")
+        return self.at(self.outcome.events).frame() if name == "atoms" else arrays.frame(getattr(self, name))
+
+    def at(self, events: int) -> Moment:
+        """The plane after so many events."""
+        last = self.outcome.events
+        if not 0 <= events <= last:
+            raise LabError(f"at({events}): there are {last} events")
+        if events == last:
+            lines = atom_lines(self.outcome.atoms)
+        else:
+            words: list[str | Path] = ["rewind", self.path, self._report(), str(events), *self.files]
+            lines = self.program.call(words).text.splitlines()[2:]
+        return Moment(self.path.name, self.world, self.layout, self.files, events, lines)
+
+    def grid(self, name: str) -> Any:
+        """The values of a member `Element.member` at the end, by row and column."""
+        return self.at(self.outcome.events).grid(name)
+
+    def counts(self, every: int) -> Any:
+        """How many atoms each element had after every so many events; a row has events, abandoned, aeps and the elements."""
+        return sources.counts(self.program, self._source(), every)
+
+    def audit(self) -> str:
+        """What the program's audit says of the report: `yes`, or `no` and why."""
+        return self.program.call(["audit", self.path, self._report(), *self.files]).text.strip()
+
+    def film(self, frames: int = 400) -> Film:
+        """The film of the run."""
+        return sources.film(self.program, self._source(), frames)
+
+    def save(self, path: str | Path) -> None:
+        """Writes the report to a file, whole or not at all."""
+        write_whole(Path(path), self.bytes)
+
+    def _report(self) -> Path:
+        """The report as a file of the run's own folder."""
+        path = Path(self._room.name) / "report"
+        if not path.exists():
+            write_whole(path, self.bytes)
+        return path
+
+    def _source(self) -> Source:
+        """What films are made of."""
+        leg = Reported(self.path, self.outcome.events, self._report())
+        return Source(self.path.name, self.world, self.layout, self.files, [leg])
+
+
+def run(world: str | Path, elements: Paths, *, step: bool = False, set: Mapping[str, object] | None = None,
+        program: str | Path | None = None) -> Run:
+    """Makes a run.
+
+    `world` is a file, or the text of one, which has several lines. With `step` the run is made on one thread, in the
+    order that the world says. `set` gives constants, `Element.constant`, other values. `program` is the built program;
+    without it the one that `./lab` would call.
+    """
+    room: TemporaryDirectory[str] = TemporaryDirectory()
+    called = found(program)
+    path = world_file(world, Path(room.name))
+    files = [Path(file).resolve() for file in elements]
+    if set:
+        files = with_constants(files, set, Path(room.name))
+    report = called.call(["step" if step else "run", path, *files]).output
+    return Run(called, path, files, report, room)
+
+
+def read(world: str | Path, report: str | Path, elements: Paths, *, program: str | Path | None = None) -> Run:
+    """The run of a report, which may be packed by gzip or kept by a chain; its form is tested."""
+    data = read_report(Path(report))
+    try:
+        reader = Reader(Path(report), data.decode("ascii").split("\n"))
+    except UnicodeDecodeError as error:
+        raise LabError(f"{report}: byte {error.start + 1} is no part of a report") from error
+    reader.report(reader.atoms())
+    reader.end()
+    room: TemporaryDirectory[str] = TemporaryDirectory()
+    return Run(found(program), Path(world).resolve(), [Path(file).resolve() for file in elements], data, room)
+
+
+def found(program: str | Path | None) -> Program:
+    """The program that is named, or the one that the lab finds."""
+    return Program.find() if program is None else Program(Path(program).resolve())
+
+
+def world_file(world: str | Path, room: Path) -> Path:
+    """The file of a world, which may be given as its text."""
+    if isinstance(world, str) and "\n" in world:
+        path = room / "world"
+        path.write_text(world)
+        return path
+    return Path(world).resolve()
+
+
+def with_constants(files: Sequence[Path], values: Mapping[str, object], room: Path) -> list[Path]:
+    """Copies of element files in which constants have other values."""
+    texts = [read_byte_text(file) for file in files]
+    known = [constant.name for text in texts for constant in constants(text)]
+    for name in values:
+        if name not in known:
+            raise LabError(f"set: the files have no constant {name}; they have {', '.join(known) or 'none'}")
+    told = {name: str(value).lower() if isinstance(value, bool) else str(value) for name, value in values.items()}
+    copies = []
+    for number, (file, text) in enumerate(zip(files, texts, strict=True)):
+        copies.append(room / f"{number:02}-{file.name}")
+        copies[-1].write_text(with_values(text, told), encoding="latin-1", newline="")
+    return copies

@@ -1,0 +1,54 @@
+"""What runs and chains have in common: counts over the events, and films."""
+from collections import Counter
+from collections.abc import Iterator
+from pathlib import Path
+from tempfile import TemporaryDirectory
+from typing import Any
+
+from lab.errors import LabError
+from lab.film import page_of
+from lab.film_measures import Curves
+from lab.film_source import Source
+from lab.frames import Frame, frames
+from lab.program import Program
+from lab.replays import Plane
+from lab.tints import tinted
+
+from feast_lab import arrays
+from feast_lab.films import Film
+
+
+def played(program: Program, source: Source, moments: set[int]) -> Iterator[Frame]:
+    """The frames of some moments, counted in events."""
+    with TemporaryDirectory() as room:
+        yield from frames(Plane(program, source.files, Path(room)), source.legs, moments)
+
+
+def counts(program: Program, source: Source, every: int) -> Any:
+    """The atoms of each element at the start and after every so many events, and at the end, as an array or a list.
+
+    A row has `events`, `abandoned` and `aeps` so far, and a number for each element.
+    """
+    if every < 1:
+        raise LabError(f"counts(every={every}): the distance is at least one event")
+    last, elements = source.ends[-1], source.layout.elements
+    now: Counter[str] = Counter()
+    cells: dict[int, str] = {}
+    rows, abandoned = [], 0
+    for frame in played(program, source, {*range(0, last, every), last}):
+        now.subtract(cells.get(site, "").partition(" ")[0] for site in frame.changes)
+        now.update(atom.partition(" ")[0] for atom in frame.changes.values())
+        cells |= frame.changes
+        abandoned += frame.abandoned
+        rows.append({"events": frame.events, "abandoned": abandoned, "aeps": frame.events / source.world.sites,
+                     **{element: now[element] for element in elements}})
+    return arrays.columns(rows, ["events", "abandoned", "aeps", *elements], ["u8", "u8", "f8", *["u4"] * len(elements)])
+
+
+def film(program: Program, source: Source, count: int) -> Film:
+    """The film of so many frames behind the first."""
+    if count < 1:
+        raise LabError(f"film({count}): a film has at least one frame behind the first")
+    curves = Curves(source.measures, source.layout)
+    films = curves.watched(played(program, source, source.moments(count)))
+    return Film(page_of(source, films, curves, tinted([], source.layout, source.files), has_failures=False))

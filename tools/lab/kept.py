@@ -1,0 +1,163 @@
+"""Reports as a chain keeps them: without what follows from the world.
+
+The world of a leg says which tile attempts what, where, and with which seed. So of an event a kept report has its
+stamp alone, as the difference from that of the tile's event before; which attempts were events is known from those
+that were abandoned. A digest of the whole report stands with it: when the report is made again from the world, and
+is another than the one that the leg wrote, that is found. What is kept is a text, packed by gzip:
+
+    feast kept 1
+    digest SHA-256 of the report
+    atoms N
+    the lines of the atoms, as the report has them
+    tile T EVENTS ABANDONED        for each tile that is on, with its two lists behind it:
+    the differences of its stamps, `DxN` for N equal ones
+    a line for each abandoned attempt: how far it is from the one before, edge, holder, and the holder's attempt
+"""
+import gzip
+import hashlib
+from collections import defaultdict
+from collections.abc import Iterator, Sequence
+from itertools import accumulate, groupby, pairwise
+from pathlib import Path
+
+from lab.draws import words
+from lab.errors import LabError
+from lab.files import open_report
+from lab.outcome import ABANDONED, JOURNAL
+from lab.seeds import MODULUS
+from lab.world import World
+
+FRONT = "feast kept 1\n"
+PACKING = 6
+SUFFIX = ".kept.gz"
+
+
+class AnotherReport(LabError):
+    """What was kept doesn't lead back to the report that was kept."""
+
+
+def pack(report: bytes, world: World) -> bytes:
+    """A report of a world that draws its attempts, to be kept. Raises ValueError or LookupError if it isn't in the form of one."""
+    journal, abandoned = report.index(JOURNAL) + 1, report.rindex(ABANDONED) + 1
+    on = [tile for tile in range(world.tiles) if tile not in world.off]
+    events = report[journal:abandoned].decode("ascii").splitlines()
+    given_up = report[abandoned:].decode("ascii").splitlines()[1:]
+    stamps = stamps_of(events[1:], on)
+    lost: dict[int, list[list[int]]] = defaultdict(list)
+    for line in given_up:
+        tile, attempt, _, _, edge, holder, held = map(int, line.split(" "))
+        lost[tile].append([attempt, edge, holder, held])
+    lines = [f"digest {hashlib.sha256(report).hexdigest()}\n", report[report.index(b"\n") + 1:journal].decode("ascii")]
+    for tile in on:
+        lines.append(f"tile {tile} {len(stamps[tile])} {len(lost[tile])}\n{runs(stamps[tile])}\n")
+        before = -1
+        for attempt, edge, holder, held in lost[tile]:
+            lines.append(f"{attempt - before} {edge} {holder} {held - attempt}\n")
+            before = attempt
+    return gzip.compress((FRONT + "".join(lines)).encode(), PACKING, mtime=0)
+
+
+def stamps_of(events: Sequence[str], on: Sequence[int]) -> dict[int, list[int]]:
+    """The stamps of the events of each tile. A tile without neighbours stamps its events 1, 2, 3 and so on."""
+    if len(on) == 1:
+        return {on[0]: list(range(1, len(events) + 1))}
+    texts: dict[str, list[str]] = {str(tile): [] for tile in on}
+    for line in events:
+        stamp, tile, _ = line.split(" ", 2)
+        texts[tile].append(stamp)
+    return {int(tile): list(map(int, stamps)) for tile, stamps in texts.items()}
+
+
+def runs(stamps: Sequence[int]) -> str:
+    """The differences of numbers, equal ones together."""
+    groups = ((way, sum(1 for _ in group)) for way, group in groupby(later - stamp for stamp, later in pairwise([0, *stamps])))
+    return " ".join(f"{way}x{count}" if count > 1 else str(way) for way, count in groups)
+
+
+def stamps_from(text: str) -> list[int]:
+    """The numbers of which these are the differences."""
+    ways: list[int] = []
+    for run in text.split():
+        way, _, count = run.partition("x")
+        ways += [int(way)] * int(count or 1)
+    return list(accumulate(ways))
+
+
+def read_report(path: Path) -> bytes:
+    """The bytes of a report, packed by gzip or not, or kept by a chain, with the leg's world beside it."""
+    with open_report(path) as file:
+        data = file.read()
+    if not data.startswith(FRONT.encode()):
+        return data
+    world = path.with_name(path.name.partition(".")[0] + ".world")
+    if not world.exists():
+        raise LabError(f"{path}: a kept report is read with the world of its leg, and {world} is not there")
+    try:
+        return unpacked(data.decode("ascii"), World.read(world))
+    except (ValueError, LookupError) as error:
+        raise AnotherReport(f"{path}: it is damaged, or its world is another") from error
+
+
+def unpacked(text: str, world: World) -> bytes:
+    """The report that was kept. Raises ValueError or LookupError if there is none that leads to this text."""
+    head, *lines = text.removeprefix(FRONT).splitlines()
+    count = int(lines[0].removeprefix("atoms "))
+    made = Made(world)
+    at = count + 1
+    while at < len(lines):
+        at = made.take(lines, at)
+    report = "".join(f"{line}\n" for line in ["feast 1", *lines[:count + 1], *made.lines()]).encode()
+    if head != f"digest {hashlib.sha256(report).hexdigest()}":
+        raise ValueError("another digest")
+    return report
+
+
+class Made:
+    """The events and the abandoned attempts of a report that is made again, tile by tile."""
+
+    def __init__(self, world: World) -> None:
+        on = [tile for tile in range(world.tiles) if tile not in world.off]
+        drawn = words([((world.seed or 0) + tile) % MODULUS for tile in on], 2 * (world.attempts or 0))
+        self.drawn = dict(zip(on, drawn, strict=True))
+        self.world = world
+        self.order: list[int] = []  # of each event its stamp and its tile, as one number
+        self.events: list[str] = []
+        self.abandoned: list[str] = []
+
+    def take(self, lines: Sequence[str], at: int) -> int:
+        """Takes a tile whose part begins at a line; gives back where the next one begins."""
+        tile, events, count = map(int, lines[at].removeprefix("tile ").split(" "))
+        stamps = stamps_from(lines[at + 1])
+        end = at + 2 + count
+        world, stream = self.world, self.drawn[tile]
+        across, down = tile % world.tiles_x * world.width, tile // world.tiles_x * world.height
+        sites = [f"{across + x} {down + y}" for y in range(world.height) for x in range(world.width)]
+        places = [sites[word % len(sites)] for word in stream[::2]]
+        attempts = self.given_up(tile, places, lines[at + 2:end])
+        if not len(stamps) == len(attempts) == events:
+            raise ValueError("other attempts")
+        seeds = stream[1::2]
+        self.order += [stamp << 6 | tile for stamp in stamps]
+        self.events += [f"{stamp} {tile} {attempt} {places[attempt]} {seeds[attempt]:016x}"
+                        for stamp, attempt in zip(stamps, attempts, strict=True)]
+        return end
+
+    def given_up(self, tile: int, places: Sequence[str], lines: Sequence[str]) -> list[int]:
+        """Notes the abandoned attempts of a tile; gives back those that were events."""
+        attempt, lost = -1, set()
+        for line in lines:
+            way, edge, holder, held = map(int, line.split(" "))
+            attempt += way
+            lost.add(attempt)
+            self.abandoned.append(f"{tile} {attempt} {places[attempt]} {edge} {holder} {held + attempt}")
+        return [attempt for attempt in range(len(places)) if attempt not in lost] if lost else list(range(len(places)))
+
+    def lines(self) -> Iterator[str]:
+        """The journal, in its order, and the abandoned attempts."""
+        yield f"journal {len(self.events)}"
+        if len(self.drawn) == 1:
+            yield from self.events
+        else:
+            yield from (self.events[at] for at in sorted(range(len(self.order)), key=self.order.__getitem__))
+        yield f"abandoned {len(self.abandoned)}"
+        yield from self.abandoned

@@ -1,0 +1,45 @@
+"""How the legs of a chain are made, and their files."""
+from collections.abc import Sequence
+from dataclasses import dataclass
+
+from lab.chain_folder import Begun, Folder, Leg
+from lab.chain_rule import Rule
+from lab.files import read_text, write_whole
+from lab.layout import Layout
+from lab.measures import Measure, measured
+from lab.outcome import Outcome, atom_lines, counts
+from lab.program import Program
+
+
+@dataclass(frozen=True)
+class Maker:
+    """Makes the legs of a chain, and measures what they leave."""
+
+    program: Program
+    folder: Folder
+    begun: Begun
+    rule: Rule
+    layout: Layout
+    measures: Sequence[Measure] = ()
+
+    def atoms_before(self, number: int) -> Sequence[str]:
+        """The lines of the atoms with which a leg begins."""
+        return self.rule.before(number, atom_lines(read_text(self.folder.atoms(number - 1))))
+
+    def report(self, number: int, atoms: Sequence[str]) -> bytes:
+        """The report of a leg that begins with these atoms; its world is written first."""
+        world = self.folder.world(number)
+        write_whole(world, self.rule.world_of(number, atoms))
+        return self.program.call(["step" if self.begun.step else "run", world, *self.folder.files]).output
+
+    def written(self, number: int, report: bytes) -> Leg:
+        """The leg of a report, when its files are written. It is done once its row stands in the course.
+
+        A report that is to be kept is written as it is, and a Keeper packs it.
+        """
+        outcome = Outcome.of(report)
+        if self.begun.keep == "reports":
+            write_whole(self.folder.raw(number), report)
+        write_whole(self.folder.atoms(number), outcome.atoms)
+        return Leg(number, self.rule.attempts(number), outcome.events, outcome.abandoned,
+                   counts(outcome.atoms, self.layout.elements), measured(self.measures, outcome.atoms))

@@ -1,0 +1,52 @@
+"""What the released folder has, and its checksums."""
+from __future__ import annotations
+
+import shutil
+from pathlib import Path
+
+from releasing.record import Record, digest
+from releasing.tree import ReleaseError, unpack
+
+# What users get of the commit. (The lab and the launcher use several folders of tools.)
+PATHS = [
+    "README.md", "CHANGELOG.md", "CITATION.cff", "CONTRIBUTING.md", "LICENSE-APACHE", "LICENSE-MIT", "SECURITY.md",
+    "VERSION", "docs", "editors", "examples", "feast", "lab", "tools", "work",
+]
+PROGRAM = "bin/feast"
+# The kit's crates of which parts are in the program, and which have licences.
+PARTS = ("arrayvec", "indexmap", "itoa", "rand_core", "rand_xoshiro", "thiserror")
+LICENCES = ("LICENSE*", "COPYRIGHT*")
+
+
+def fill(folder: Path, top: Path, program: Path, kit: Path, record: Record) -> None:
+    """Fills a folder with all that users get, the checksums last."""
+    unpack(top, PATHS, folder)
+    placed = folder / PROGRAM
+    placed.parent.mkdir()
+    shutil.copyfile(program, placed)
+    placed.chmod(0o755)
+    copy_licences(kit, folder / "licences")
+    (folder / "KIT").write_text(told(record))
+    (folder / "SHA256SUMS").write_text(checksums(folder))
+
+
+def told(record: Record) -> str:
+    """Where the program comes from, in three lines."""
+    return f"commit {record.commit}\nproved with {record.kit}\nSHA-256 of {PROGRAM} {record.program}\n"
+
+
+def copy_licences(kit: Path, folder: Path) -> None:
+    """Copies the licences of the kit's parts. ReleaseError if the kit has none of one."""
+    for part in PARTS:
+        found = [path for form in LICENCES for path in sorted((kit / "rattle" / part).glob(form))]
+        if not found:
+            raise ReleaseError(f"{kit / 'rattle' / part}: there is no licence of this part of the program")
+        (folder / part).mkdir(parents=True)
+        for path in found:
+            shutil.copyfile(path, folder / part / path.name)
+
+
+def checksums(folder: Path) -> str:
+    """The SHA-256 of each file of a folder, as `sha256sum -c` reads them."""
+    files = sorted(path for path in folder.rglob("*") if path.is_file() and not path.is_symlink())
+    return "".join(f"{digest(path)}  {path.relative_to(folder)}\n" for path in files)
