@@ -2,8 +2,7 @@
 
 use crate::codes::{Which, made};
 use bit_field::Atom;
-use event_machine::Machine;
-use feast_base::{CountLedger, NoLedger, Steps};
+use event_machine::{CountLedger, Machine, NoLedger, Steps};
 use stack_code::Code;
 use std::alloc::Global;
 use std::io;

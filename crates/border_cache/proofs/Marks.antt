@@ -8,7 +8,7 @@ use Rattle.std.specs.Prelude.{slice_index_or}
 use Rattle.std.specs.Int.{bit_at, w64, trailing_zeros}
 use Rattle.std.proofs.lemmas.Nat.Bits.{bit_at-lt, bit_at-zero, bit_at-trailing_zeros}
 use Rattle.list_laws.proofs.Numbers.{less_or_same}
-use Rattle.feast_base.specs.Edges.{news_register, news_words}
+use Rattle.edge_lock.specs.Edges.{news_register, news_words}
 use Rattle.edge_lock.specs.declared.history.Access.{Access}
 use Rattle.edge_lock.specs.declared.history.Access.TheVariants.{Read, Write}
 use Rattle.edge_lock.specs.History.{found_value}

@@ -2,7 +2,7 @@
 use Rattle.std.proofs.Common.{◌≡◌, ◌≢◌, ℕ, zero, suc, ◌+◌, ◌*◌, ◌/◌, ◌-◌, ◌<◌, ◌≤◌, Bool, true, false, true≢false, List, ◌++◌, sym, ap, ◌∙◌, subst, arith, inl, inr, ⊎_elim, Option, Some, None}
 use Rattle.list_laws.proofs.Options.{none_from}
 use Rattle.edge_lock.proofs.HistoryLaws.{found_stays}
-use Rattle.feast_base.specs.Edges.{news_register, news_words}
+use Rattle.edge_lock.specs.Edges.{news_register, news_words}
 use Rattle.edge_lock.specs.declared.history.Access.{Access}
 use Rattle.edge_lock.specs.History.{found_value}
 use Rattle.border_cache.specs.Accesses.{last_write, is_read}

@@ -7,7 +7,7 @@ use Rattle.std.specs.List.{list_all}
 use Rattle.std.proofs.lemmas.Bool.Decides.{nat_tests}
 use Rattle.std.proofs.lemmas.Nat.Bits.{bit_at-lt, bit_at-zero, bit_at_and, bit_at-trailing_zeros}
 use Rattle.list_laws.proofs.Tests.{both}
-use Rattle.feast_base.specs.Edges.{news_register, news_words}
+use Rattle.edge_lock.specs.Edges.{news_register, news_words}
 use Rattle.std.proofs.lemmas.List.{get_or-set_same, get_or-set_other, append-nil}
 use Rattle.edge_lock.proofs.HistoryLaws.{found_stays}
 use Rattle.list_laws.proofs.Numbers.{less_or_same}

@@ -4,7 +4,7 @@ use Rattle.std.proofs.Common.{◌≢◌}
 use Rattle.std.specs.Int.{bit_at}
 use Rattle.std.proofs.Common.{true, false}
 use Rattle.edge_lock.specs.History.{IsAllowed}
-use Rattle.feast_base.specs.Edges.{news_register}
+use Rattle.edge_lock.specs.Edges.{news_register}
 use Rattle.std.specs.Prelude.{bit_and, bit_or}
 use Rattle.std.specs.Int.{bit_not, w64}
 use Rattle.border_cache.specs.Published.{IsWithMask}

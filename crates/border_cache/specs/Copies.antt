@@ -1,6 +1,6 @@
 -- A tile's copy of the sites that it holds, and what the calls do to it.
 use Rattle.std.specs.Prelude.{ℕ, ◌≡◌, ◌+◌, ◌-◌, ◌*◌, ◌/◌, ◌%◌, ◌<◌, ◌≤◌, if◌then◌else◌, true, false, List, length, slice_index_or, Option, Some, None}
-use Rattle.feast_base.specs.Edges.{registers_of}
+use Rattle.edge_lock.specs.Edges.{registers_of}
 use Rattle.bit_field.specs.Atom.{AtomValue, empty_atom}
 use Rattle.window_sites.specs.Inner.{inner_place}
 use Rattle.window_sites.specs.Window.{WindowValue, atom_at}

@@ -1,7 +1,7 @@
 -- What a refresh reads on one edge.
 use Rattle.std.specs.Prelude.{ℕ, ◌≡◌, ◌≢◌, ◌+◌, ◌*◌, ◌/◌, ◌%◌, ◌<◌, ◌≤◌, length, slice_index_or, bit_and, ◌==◌, ◌⊎◌, Bool, true, false, if◌then◌else◌, List, [], ◌∷◌, Option, Some, None}
 use Rattle.std.specs.Int.{bit_at}
-use Rattle.feast_base.specs.Edges.{news_register}
+use Rattle.edge_lock.specs.Edges.{news_register}
 use Rattle.edge_lock.specs.declared.history.Access.{Access}
 use Rattle.edge_lock.specs.declared.history.Access.TheVariants.{Read}
 use Rattle.edge_lock.specs.History.{found_value}

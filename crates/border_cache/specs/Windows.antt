@@ -3,7 +3,7 @@ use Rattle.std.specs.Prelude.{ℕ, ◌≡◌, ◌+◌, ◌-◌, ◌*◌, ◌<◌
 use Rattle.edge_lock.specs.declared.history.Access.{Access}
 use Rattle.border_cache.specs.Published.{IsPublish}
 use Rattle.edge_lock.specs.EndLists.{EndLists, known_value, IsHeld}
-use Rattle.feast_base.specs.Edges.{registers_of}
+use Rattle.edge_lock.specs.Edges.{registers_of}
 use Rattle.window_sites.specs.Window.{WindowValue, IsWindow, atom_at, live_at}
 use Rattle.window_sites.specs.Sites.{offset_of, shifted}
 use Rattle.tile_map.specs.declared.span.Area.{Area}

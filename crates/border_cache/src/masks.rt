@@ -10,7 +10,7 @@ ghost use Rattle.border_cache.specs.Published.{IsWithMask};
 use crate::row_runs::run_of;
 use tile_map::Area;
 
-// Sets the bit of a place.
+/// Sets the bit of a place.
 fn set_place(masks: &mut [u64], place: Option<u32>)
     requires count { length masks.old ≡ 9 }
     requires place { IsPlace 576 place }
@@ -21,8 +21,8 @@ fn set_place(masks: &mut [u64], place: Option<u32>)
     }
 }
 
-// The bits of all these places. Two tiles share at most 576 sites, so an end has at most nine news
-// words.
+/// The bits of all these places. Two tiles share at most 576 sites, so an end has at most nine news
+/// words.
 pub(crate) fn masks(places: &[Option<u32>]) -> [u64; 9]
     requires places { (n : ℕ) → n < length places.now → IsPlace 576 (nth_place places.now n) }
     ensures masks { AreMasks (nth_place places.now) (length places.now) result }
@@ -35,7 +35,7 @@ pub(crate) fn masks(places: &[Option<u32>]) -> [u64; 9]
     masks
 }
 
-// The lowest bits of a word, `count` of them.
+/// The lowest bits of a word, `count` of them.
 fn ones(count: u32) -> u64
     requires { count < 64 }
     ensures { result ≡ 2 ^ count - 1 }
@@ -43,8 +43,8 @@ fn ones(count: u32) -> u64
     (1u64 << count) - 1
 }
 
-// Sets the bits of the places from `start` up to `end` and without it. So few lie in one word, or
-// in one and the next.
+/// Sets the bits of the places from `start` up to `end` and without it. So few lie in one word, or
+/// in one and the next.
 pub(crate) fn set_run(masks: &mut [u64], start: u32, end: u32)
     requires count { length masks.old ≡ 9 }
     requires some { start < end }
@@ -62,8 +62,8 @@ pub(crate) fn set_run(masks: &mut [u64], start: u32, end: u32)
     }
 }
 
-// Sets the bits of row `j` of the window at a site, by their places in an area. The sites of a row
-// that the area has are one run of places.
+/// Sets the bits of row `j` of the window at a site, by their places in an area. The sites of a row
+/// that the area has are one run of places.
 fn set_row(masks: &mut [u64], area: Area, x: u32, y: u32, j: u32)
     requires count { length masks.old ≡ 9 }
     requires small { IsSmall area }
@@ -78,7 +78,7 @@ fn set_row(masks: &mut [u64], area: Area, x: u32, y: u32, j: u32)
     }
 }
 
-// The bits of the sites of the window at a site, by their places in an area.
+/// The bits of the sites of the window at a site, by their places in an area.
 pub(crate) fn masks_at(area: Area, x: u32, y: u32) -> [u64; 9]
     requires small { IsSmall area }
     requires few { length (sites_in area) ≤ 576 }
@@ -94,14 +94,14 @@ pub(crate) fn masks_at(area: Area, x: u32, y: u32) -> [u64; 9]
     masks
 }
 
-// The word with the bits of a mask set or cleared.
+/// The word with the bits of a mask set or cleared.
 pub(crate) fn with_mask(word: u64, mask: u64, bit: bool) -> u64
     ensures { IsWithMask word mask bit result }
 {
     if bit { word | mask } else { word & !mask }
 }
 
-// Whether no bit of these words is set.
+/// Whether no bit of these words is set.
 pub(crate) fn are_clear(words: &[u64]) -> bool
     ensures { result ≡ list_all (λ w. w == 0) words.now }
 {

@@ -1,6 +1,6 @@
 //! The cells and news bits of one edge, through a board.
 ghost use Rattle.std.specs.Prelude.{◌≡◌, ◌+◌, ◌*◌, ◌<◌, ◌≤◌, ◌^◌, length};
-ghost use Rattle.feast_base.specs.Edges.{registers_of, news_words, news_register};
+ghost use Rattle.edge_lock.specs.Edges.{registers_of, news_words, news_register};
 ghost use Rattle.edge_lock.specs.EndLists.{IsHeld};
 ghost use Rattle.edge_lock.specs.EndValues.{SameEnd};
 ghost use Rattle.border_cache.specs.Accesses.{AddsSome};
@@ -11,7 +11,7 @@ use crate::cell::Cell;
 use crate::masks::with_mask;
 use edge_lock::Board;
 
-// The register of a news word of an end.
+/// The register of a news word of an end.
 fn news_word(sites: u32, end: u32, word: u32) -> u32
     requires fits { registers_of sites < 2 ^ 32 }
     requires end { end < 2 }
@@ -24,7 +24,7 @@ fn news_word(sites: u32, end: u32, word: u32) -> u32
     first + word
 }
 
-// Reads a news word of an end, unless a mask has no bits: those of its bits that the mask has.
+/// Reads a news word of an end, unless a mask has no bits: those of its bits that the mask has.
 fn read_word<D: Board>(board: &mut D, edge: u32, sites: u32, end: u32, word: u32, mask: u64) -> u64
     requires fits { registers_of sites < 2 ^ 32 }
     requires registers { (D.end board.old).registers edge ≡ registers_of sites }
@@ -41,7 +41,7 @@ fn read_word<D: Board>(board: &mut D, edge: u32, sites: u32, end: u32, word: u32
     board.read(edge, news_word(sites, end, word)) & mask
 }
 
-// Reads which of the places of these masks are news for the end.
+/// Reads which of the places of these masks are news for the end.
 pub(crate) fn read_news<D: Board>(
     board: &mut D,
     edge: u32,
@@ -69,7 +69,7 @@ pub(crate) fn read_news<D: Board>(
     news
 }
 
-// Reads the cell of a place, if its bit is set.
+/// Reads the cell of a place, if its bit is set.
 pub(crate) fn read_site<D: Board>(
     board: &mut D,
     edge: u32,
@@ -96,7 +96,7 @@ pub(crate) fn read_site<D: Board>(
     Some(Cell::from_words(low, high))
 }
 
-// Sets or clears the bits of a mask in a news word of an end.
+/// Sets or clears the bits of a mask in a news word of an end.
 fn put_word<D: Board>(
     board: &mut D,
     edge: u32,
@@ -123,7 +123,7 @@ fn put_word<D: Board>(
     board.write(edge, register, with_mask(old, mask, bit));
 }
 
-// Sets or clears the bits of these masks in the news words of an end.
+/// Sets or clears the bits of these masks in the news words of an end.
 pub(crate) fn put_bits<D: Board>(
     board: &mut D,
     edge: u32,
@@ -148,7 +148,7 @@ pub(crate) fn put_bits<D: Board>(
     }
 }
 
-// Writes a cell at its place.
+/// Writes a cell at its place.
 pub(crate) fn put_cell<D: Board>(board: &mut D, edge: u32, sites: u32, place: u32, cell: Cell)
     requires fits { registers_of sites < 2 ^ 32 }
     requires registers { (D.end board.old).registers edge ≡ registers_of sites }

@@ -2,7 +2,7 @@
 //! there as news for the other end alone.
 ghost use Rattle.std.specs.Prelude.{◌≡◌, ◌*◌, ◌<◌, ◌≤◌, ℕ, length, All, Some};
 ghost use Rattle.std.specs.List.Sorted.{IsStrictlyIncreasing};
-ghost use Rattle.feast_base.specs.Edges.{registers_of};
+ghost use Rattle.edge_lock.specs.Edges.{registers_of};
 ghost use Rattle.tile_map.specs.Plane.{site, IsMap};
 ghost use Rattle.tile_map.specs.Edges.{pairs_of};
 ghost use Rattle.tile_map.specs.Tables.{IsSharedArea};
@@ -23,7 +23,7 @@ use crate::row_runs::{Run, run_of};
 use edge_lock::Board;
 use tile_map::{Area, Map, Needs};
 
-// Writes the cells of a run at their places.
+/// Writes the cells of a run at their places.
 fn put_run<D: Board>(cache: &Cache, run: Run, edge: u32, sites: u32, board: &mut D)
     requires run { IsSharedRun cache.now edge run }
     requires sites { sites ≡ sites_on cache.now.map edge }
@@ -40,8 +40,8 @@ fn put_run<D: Board>(cache: &Cache, run: Run, edge: u32, sites: u32, board: &mut
     }
 }
 
-// Writes the cells of row `j` of a window to an edge whose shared sites are an area, and sets the
-// bits of their places.
+/// Writes the cells of row `j` of a window to an edge whose shared sites are an area, and sets the
+/// bits of their places.
 fn put_row<D: Board>(
     cache: &Cache,
     area: Area,
@@ -75,8 +75,8 @@ fn put_row<D: Board>(
     }
 }
 
-// Writes the cells of a window to an edge whose shared sites are an area, row by row, and gives the
-// bits of their places.
+/// Writes the cells of a window to an edge whose shared sites are an area, row by row, and gives the
+/// bits of their places.
 fn put_rows<D: Board>(
     cache: &Cache,
     area: Area,
@@ -108,7 +108,7 @@ fn put_rows<D: Board>(
     masks
 }
 
-// Writes the cell of site `n` of a window to an edge, if the edge shares the site.
+/// Writes the cell of site `n` of a window to an edge, if the edge shares the site.
 fn put_site<D: Board>(
     cache: &Cache,
     map: &Map,
@@ -141,7 +141,7 @@ fn put_site<D: Board>(
     }
 }
 
-// Writes the cells of a window to an edge, each at the place that is looked up for its site.
+/// Writes the cells of a window to an edge, each at the place that is looked up for its site.
 fn put_sites<D: Board>(
     cache: &Cache,
     map: &Map,
@@ -170,7 +170,7 @@ fn put_sites<D: Board>(
     }
 }
 
-// Writes the cells of a window to an edge, and gives the bits of their places.
+/// Writes the cells of a window to an edge, and gives the bits of their places.
 fn put_window<D: Board>(
     cache: &Cache,
     map: &Map,
@@ -206,7 +206,7 @@ fn put_window<D: Board>(
     }
 }
 
-// Writes the cells of a window to an edge, and marks them as news for the other end alone.
+/// Writes the cells of a window to an edge, and marks them as news for the other end alone.
 fn publish_on<D: Board>(cache: &Cache, map: &Map, x: u32, y: u32, edge: u32, board: &mut D)
     requires map { map.now ≡ cache.now.map }
     requires valid { IsMap map.now }
@@ -228,7 +228,7 @@ fn publish_on<D: Board>(cache: &Cache, map: &Map, x: u32, y: u32, edge: u32, boa
     put_bits(board, edge, sites, 1 - end, &masks, true);
 }
 
-// Writes the cells of a window to the needed edges.
+/// Writes the cells of a window to the needed edges.
 pub(crate) fn publish_needs<D: Board>(
     cache: &Cache,
     map: &Map,

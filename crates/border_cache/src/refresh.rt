@@ -3,7 +3,7 @@
 
 ghost use Rattle.std.specs.Prelude.{◌≡◌, ◌*◌, ◌<◌, ◌≤◌, length, All, Some, IsTrue};
 ghost use Rattle.std.specs.List.Sorted.{IsStrictlyIncreasing};
-ghost use Rattle.feast_base.specs.Edges.{registers_of};
+ghost use Rattle.edge_lock.specs.Edges.{registers_of};
 ghost use Rattle.tile_map.specs.Plane.{site, IsMap, is_held};
 ghost use Rattle.tile_map.specs.Edges.{pairs_of};
 ghost use Rattle.tile_map.specs.Tables.{IsSharedArea};
@@ -23,7 +23,7 @@ use crate::row_runs::{Run, run_of};
 use edge_lock::Board;
 use tile_map::{Area, Map, Needs};
 
-// Brings the cell of a site up to date, if its place is news.
+/// Brings the cell of a site up to date, if its place is news.
 fn refresh_place<D: Board>(
     cache: &mut Cache,
     x: u32,
@@ -50,7 +50,7 @@ fn refresh_place<D: Board>(
     }
 }
 
-// Brings the cells of a run up to date with the news.
+/// Brings the cells of a run up to date with the news.
 fn refresh_run<D: Board>(
     cache: &mut Cache,
     run: Run,
@@ -77,8 +77,8 @@ fn refresh_run<D: Board>(
     }
 }
 
-// Brings the cells of row `j` of a window up to date with the news on an edge whose shared sites are
-// an area.
+/// Brings the cells of row `j` of a window up to date with the news on an edge whose shared sites are
+/// an area.
 fn refresh_row<D: Board>(
     cache: &mut Cache,
     area: Area,
@@ -111,7 +111,7 @@ fn refresh_row<D: Board>(
     }
 }
 
-// Brings the cells of a window up to date with the news on an edge whose shared sites are an area.
+/// Brings the cells of a window up to date with the news on an edge whose shared sites are an area.
 fn refresh_rows<D: Board>(
     cache: &mut Cache,
     area: Area,
@@ -142,7 +142,7 @@ fn refresh_rows<D: Board>(
     }
 }
 
-// Brings the cell of site `n` of a window up to date, if it is news.
+/// Brings the cell of site `n` of a window up to date, if it is news.
 fn refresh_site<D: Board>(
     cache: &mut Cache,
     map: &Map,
@@ -177,8 +177,8 @@ fn refresh_site<D: Board>(
     }
 }
 
-// Brings the cells of a window up to date with the news, each at the place that is looked up for
-// its site.
+/// Brings the cells of a window up to date with the news, each at the place that is looked up for
+/// its site.
 fn refresh_sites<D: Board>(
     cache: &mut Cache,
     map: &Map,
@@ -209,7 +209,7 @@ fn refresh_sites<D: Board>(
     }
 }
 
-// Brings the cells of a window up to date with the news.
+/// Brings the cells of a window up to date with the news.
 fn take_news<D: Board>(
     cache: &mut Cache,
     map: &Map,
@@ -242,8 +242,8 @@ fn take_news<D: Board>(
     }
 }
 
-// Brings the cells of a window up to date with the news on an edge. Where there is none, no cell is
-// read.
+/// Brings the cells of a window up to date with the news on an edge. Where there is none, no cell is
+/// read.
 fn refresh_on<D: Board>(cache: &mut Cache, map: &Map, x: u32, y: u32, edge: u32, board: &mut D)
     requires map { map.now ≡ cache.old.map }
     requires valid { IsMap map.now }
@@ -268,7 +268,7 @@ fn refresh_on<D: Board>(cache: &mut Cache, map: &Map, x: u32, y: u32, edge: u32,
     take_news(cache, map, x, y, edge, sites, &news, board);
 }
 
-// Brings the cells of a window up to date with the news on the needed edges.
+/// Brings the cells of a window up to date with the news on the needed edges.
 pub(crate) fn refresh_needs<D: Board>(
     cache: &mut Cache,
     map: &Map,

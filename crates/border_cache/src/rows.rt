@@ -6,7 +6,7 @@
 ghost use Rattle.std.specs.Prelude.{◌≡◌, ◌+◌, ◌*◌, ◌<◌, ◌≤◌, length};
 ghost use Rattle.border_cache.specs.Rows.{AreStamped, StampsRun};
 
-// Gives `count` places from `first` on a stamp.
+/// Gives `count` places from `first` on a stamp.
 #[inline]
 fn stamp_run(stamps: &mut [u32], first: usize, count: usize, stamp: u32)
     requires inside { first + count ≤ length stamps.old }
@@ -16,7 +16,7 @@ fn stamp_run(stamps: &mut [u32], first: usize, count: usize, stamp: u32)
     stamps[first..first + count].fill(stamp);
 }
 
-// Gives the 41 sites of a window a stamp.
+/// Gives the 41 sites of a window a stamp.
 #[inline]
 pub(crate) fn stamp_rows(stamps: &mut [u32], low: usize, width: usize, stamp: u32)
     requires small { width ≤ 512 }

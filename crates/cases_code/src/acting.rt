@@ -1,8 +1,8 @@
 //! Small programs in stack code as events.
 
 use bit_field::Atom;
-use event_machine::{Ended, Machine};
-use feast_base::{CountLedger, Name, NoMemory, Steps};
+use event_machine::{CountLedger, Ended, Machine, Steps};
+use feast_base::{Name, NoMemory};
 use stack_code::{Answer, Instr, Operand, RawCode, RawFunction, verify};
 use std::alloc::Global;
 use std::test::Fail;

@@ -13,7 +13,7 @@ use std::test::Fail;
 // The functions by their numbers: `behave`, and `less` for all others.
 struct Two;
 
-// Takes 1 from a slot by calls of `less`, until it is 0.
+/// Takes 1 from a slot by calls of `less`, until it is 0.
 fn behave(alloc: Global) -> Result<Piece, NoMemory>
     ensures { IfOk result (λ q. piece_of q ≡ behave_body) }
 {
@@ -30,7 +30,7 @@ fn behave(alloc: Global) -> Result<Piece, NoMemory>
     make::seq(alloc, first, around)
 }
 
-// Gives its argument less 1.
+/// Gives its argument less 1.
 fn less(alloc: Global) -> Result<Piece, NoMemory>
     ensures { IfOk result (λ q. piece_of q ≡ less_body) }
 {

@@ -9,8 +9,8 @@ ghost use Rattle.cases_edge.specs.Untouched.{IsUntouchedAt};
 ghost use Rattle.edge_lock.specs.PlainEdges.{IsAnswer};
 ghost use Rattle.edge_lock.specs.PlainBoard.{registers_on, lists_on, end_on, edge_at, IsKeptEdge};
 
-use edge_lock::{Board, Edge, PlainBoard, SharedEnd, Take};
-use feast_base::{EdgeSizes, NoMemory};
+use edge_lock::{Board, Edge, EdgeSizes, PlainBoard, SharedEnd, Take};
+use feast_base::NoMemory;
 use std::alloc::Global;
 use std::test::Fail;
 

@@ -3,8 +3,8 @@ ghost use Rattle.std.specs.Prelude.{◌≡◌, IfOk};
 
 use crate::set::CodeSet;
 use cell_grid::Behave;
-use event_machine::Machine;
-use feast_base::{NoLedger, NoMemory, Steps};
+use event_machine::{Machine, NoLedger, Steps};
+use feast_base::NoMemory;
 use std::alloc::Global;
 use window_sites::Window;
 

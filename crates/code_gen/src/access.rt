@@ -41,6 +41,7 @@ pub fn fit(num: Option<NumType>) -> Piece
     }
 }
 
+/// The piece that pushes the value of a place that has no index.
 fn load_spot(spot: Spot) -> Piece
     ensures { IsPiece result (load (spot_of spot)) }
 {
@@ -60,6 +61,7 @@ fn load_spot(spot: Spot) -> Piece
     }
 }
 
+/// The piece that pushes the value at an index, which it takes off the stack.
 fn load_at_spot(spot: Spot) -> Piece
     ensures { IsPiece result (load_at (spot_of spot)) }
 {
@@ -77,6 +79,7 @@ fn load_at_spot(spot: Spot) -> Piece
     }
 }
 
+/// The type of what a place holds.
 fn spot_type(scene: &Scene, spot: Spot) -> Ty
     ensures { result ≡ spot_type (scene_of scene.now) (spot_of spot) }
 {
@@ -90,6 +93,7 @@ fn spot_type(scene: &Scene, spot: Spot) -> Ty
     }
 }
 
+/// The piece that stores the top of the stack at a place that has no index.
 fn store_spot(alloc: Global, scene: &Scene, spot: Spot) -> Result<Piece, NoMemory>
     ensures { Makes result (store (scene_of scene.now) (spot_of spot)) }
 {
@@ -110,6 +114,7 @@ fn store_spot(alloc: Global, scene: &Scene, spot: Spot) -> Result<Piece, NoMemor
     }
 }
 
+/// The piece that stores the top of the stack at an index, which lies below it.
 fn store_at_spot(spot: Spot) -> Piece
     ensures { IsPiece result (store_at (spot_of spot)) }
 {

@@ -8,7 +8,7 @@ use mathlib.Core.Logic.{dite}
 use native.Mathlib.Decide.{ℕ_discrete, dec_lt}
 use Rattle.edge_lock.specs.declared.board.Take.{Take}
 use Rattle.edge_lock.specs.declared.board.Take.TheVariants.{Got, Busy}
-use Rattle.feast_base.specs.Edges.{EdgeSize, registers_of}
+use Rattle.edge_lock.specs.Edges.{EdgeSize, registers_of}
 use Rattle.edge_lock.specs.declared.history.Access.{Access}
 use Rattle.edge_lock.specs.EndLists.{EndLists, replace_at}
 use Rattle.edge_lock.specs.EndValues.{ChangesAt}

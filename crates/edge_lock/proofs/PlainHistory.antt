@@ -2,7 +2,7 @@
 use Rattle.std.proofs.Common.{◌≡◌, ℕ, true, true≢false, List, [], ◌∷◌, ◌++◌, map, refl, sym, ap, ◌∙◌, subst, append_assoc, Option, Some, None}
 use Rattle.std.proofs.Math.Seq.{map-set_same}
 use Rattle.std.proofs.lemmas.List.{append-nil}
-use Rattle.feast_base.specs.Edges.{EdgeSize}
+use Rattle.edge_lock.specs.Edges.{EdgeSize}
 use Rattle.edge_lock.specs.History.{site_count}
 use Rattle.edge_lock.proofs.Counts.{sites_back}
 use mathlib.Core.Logic.{dite}

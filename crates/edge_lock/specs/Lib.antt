@@ -1,3 +1,4 @@
+pub mod Edges
 pub mod History
 pub mod EndLists
 pub mod EndValues

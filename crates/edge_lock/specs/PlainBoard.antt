@@ -1,6 +1,6 @@
 -- What contracts see of the plain board, and how the acting tile's end moves it.
 use Rattle.std.specs.Prelude.{◌≡◌, ℕ, ◌-◌, ◌<◌, ◌==◌, ◌||◌, Bool, true, List, [], length, map, slice_index_or, slice_set, Option, Some, None, if◌then◌else◌}
-use Rattle.feast_base.specs.Edges.{EdgeSize, registers_of}
+use Rattle.edge_lock.specs.Edges.{EdgeSize, registers_of}
 use Rattle.edge_lock.specs.declared.board.Take.TheVariants.{Got, Busy}
 use Rattle.edge_lock.specs.declared.history.Access.TheVariants.{Read, Write}
 use Rattle.edge_lock.specs.declared.history.Hold.{Hold}

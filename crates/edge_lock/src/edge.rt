@@ -1,6 +1,6 @@
 //! An edge that two threads share: the edge, its two passes, and the edge when both are done.
 ghost use Rattle.std.specs.Prelude.{◌≡◌, ◌<◌, ◌^◌, IfOk};
-ghost use Rattle.feast_base.specs.Edges.{registers_of};
+ghost use Rattle.edge_lock.specs.Edges.{registers_of};
 ghost use Rattle.edge_lock.specs.declared.history.Access.TheVariants.{Read, Write};
 ghost use Rattle.edge_lock.specs.History.{register_value, site_count, IsAllowed};
 ghost use Rattle.edge_lock.specs.EndLists.{IsNew, IsFree, IsHeld, after_try, after_access, after_give, known_value, Shows};

@@ -10,6 +10,7 @@
 mod board;
 mod crossing;
 mod edge;
+mod edge_sizes;
 mod edge_steps;
 mod history;
 mod plain_board;
@@ -19,6 +20,7 @@ mod shared_end;
 
 pub use board::{Board, Take};
 pub use edge::{Closed, Edge, Pass};
+pub use edge_sizes::EdgeSizes;
 pub use history::{Access, Hold, Refusal};
 pub use plain_board::PlainBoard;
 pub use shared_end::SharedEnd;

@@ -8,8 +8,9 @@ ghost use Rattle.edge_lock.specs.PlainEdges.{IsAnswer};
 ghost use Rattle.edge_lock.specs.PlainBoard.{edge_at, registers_on, end_on, lists_on, acting_end, other_lists_on, tries, reads, writes, gives, IsCall, Moved, untouched_edge, sizes_of_board, IsKeptEdge};
 
 use crate::board::{Board, Take};
+use crate::edge_sizes::EdgeSizes;
 use crate::plain_edge::PlainEdge;
-use feast_base::{EdgeSizes, NoMemory};
+use feast_base::NoMemory;
 use std::alloc::Global;
 use std::marker::Model;
 

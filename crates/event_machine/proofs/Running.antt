@@ -4,7 +4,7 @@ use Rattle.stack_code.specs.Machine.{CodeValue, State, Led, Goes, Fails, Ends, L
 use Rattle.stack_code.specs.Valid.{Notes}
 use Rattle.stack_code.proofs.Typed.{CodeFine, Typed, Next, NextLed, measure, step_next, stack_most}
 use Rattle.stack_code.proofs.Bound.{measure_some, starts}
-use Rattle.feast_base.specs.Counting.{Counted}
+use Rattle.event_machine.specs.Counting.{Counted}
 use Rattle.event_machine.specs.Ticks.{IsTick, Ticks}
 use Rattle.event_machine.specs.Works.{StepsTo, Ready, counting, Ran, Started}
 use Rattle.event_machine.specs.declared.ending.Leads.TheVariants.{On, Fail, Done, Lack}

@@ -9,7 +9,7 @@ use Rattle.stack_code.specs.Laws.{IsOver}
 use Rattle.stack_code.specs.Valid.{valid}
 use Rattle.stack_code.proofs.Bound.{starts, runs_well}
 use Rattle.stack_code.proofs.Kept.{Kept, KeptState, iter_kept, emptied_kept}
-use Rattle.feast_base.specs.Counting.{Counted}
+use Rattle.event_machine.specs.Counting.{Counted}
 use Rattle.event_machine.specs.Ticks.{Ticks}
 use Rattle.event_machine.specs.Works.{counting, Ran, FunctionsFit, window_after}
 use Rattle.event_machine.specs.Endings.{number_of, IsEnding}

@@ -1,6 +1,7 @@
 -- Steps that are counted, one after another.
 use Rattle.std.specs.Prelude.{◌≡◌, ℕ, zero, suc}
-use Rattle.feast_base.specs.Counting.{Counted, next_count}
+use Rattle.feast_base.specs.Counting.{next_count}
+use Rattle.event_machine.specs.Counting.{Counted}
 
 module _ {L : Type 0} (noted : L → L → Type 0) where
   -- one step was counted, and noted once

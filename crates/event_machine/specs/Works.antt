@@ -4,7 +4,7 @@ use Rattle.bit_field.specs.Atom.{AtomValue}
 use Rattle.window_sites.specs.Window.{WindowValue, emptied}
 use Rattle.sat_math.specs.declared.NumType.{NumType}
 use Rattle.sat_math.specs.Numbers.{IsNumType}
-use Rattle.feast_base.specs.Counting.{Counted}
+use Rattle.event_machine.specs.Counting.{Counted}
 use Rattle.event_machine.specs.Ticks.{Ticks}
 use Rattle.datum.specs.declared.Datum.{Datum}
 use Rattle.stack_code.specs.Machine.{Held, Led, Goes, Fails, Ends, Lacks, State, CodeValue, FunctionValue, iter, count, start}

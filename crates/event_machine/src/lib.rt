@@ -1,4 +1,4 @@
-//! The machine that runs an event's code on a window.
+//! The machine that runs an event's code on a window, with its steps counted.
 #![tactic(auto)]
 
 mod activation;
@@ -10,6 +10,8 @@ mod machine;
 mod numbers;
 mod operands;
 mod plain;
+mod steps;
 
 pub use ending::Ended;
 pub use machine::Machine;
+pub use steps::{CountLedger, Ledger, NoLedger, Steps};

@@ -1,9 +1,8 @@
 //! The outside of the simulator, and what all its crates share: running out of memory, names,
-//! places in files, refusals and their lines, shelves to load from, sinks to write to, gates that
-//! workers pass, counted steps, and the edges of a plane as numbers.
+//! places in files, refusals and their lines, shelves to load from, sinks to write to, and gates that
+//! workers pass.
 #![tactic(auto)]
 
-mod edge_sizes;
 mod file_shelf;
 mod gate;
 mod mem_shelf;
@@ -17,12 +16,10 @@ mod shelf;
 mod sink;
 mod source;
 mod std_sink;
-mod steps;
 mod stop;
 pub mod text;
 mod type_name;
 
-pub use edge_sizes::EdgeSizes;
 pub use file_shelf::{FileShelf, read_whole};
 pub use gate::{ClockGate, Gate, OpenGate, Rest};
 pub use mem_shelf::MemShelf;
@@ -35,6 +32,5 @@ pub use shelf::{LoadFault, Shelf};
 pub use sink::{Sink, SinkFailed};
 pub use source::Source;
 pub use std_sink::{StdSink, write_whole};
-pub use steps::{CountLedger, Ledger, NoLedger, Steps};
 pub use stop::Stop;
 pub use type_name::{LONGEST_NAME, is_type_name, is_word_byte};

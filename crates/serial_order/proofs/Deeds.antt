@@ -9,7 +9,7 @@ use Rattle.list_laws.specs.Booleans.{digit}
 use Rattle.list_laws.proofs.Options.{none_from}
 use Rattle.bit_field.specs.Atom.{AtomValue, empty_atom}
 use Rattle.window_sites.specs.Window.{WindowValue}
-use Rattle.feast_base.specs.Edges.{news_words}
+use Rattle.edge_lock.specs.Edges.{news_words}
 use Rattle.tile_map.specs.Plane.{Site, MapValue, in_window}
 use Rattle.tile_map.specs.Edges.{shared_of, needs_of, window_site}
 use Rattle.tile_map.specs.Laws.{IsPlane}

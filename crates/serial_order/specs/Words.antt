@@ -1,6 +1,6 @@
 -- The words of all edges: of a plain board, of closed edges, and what they are to the cells of a site.
 use Rattle.std.specs.Prelude.{ℕ, ◌≡◌, ◌<◌, List, [], length, map, slice_index_or, Option}
-use Rattle.feast_base.specs.Edges.{registers_of}
+use Rattle.edge_lock.specs.Edges.{registers_of}
 use Rattle.bit_field.specs.Atom.{AtomValue}
 use Rattle.tile_map.specs.Plane.{Site, MapValue}
 use Rattle.tile_map.specs.Edges.{pairs_of, edges_at}

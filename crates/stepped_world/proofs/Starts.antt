@@ -2,9 +2,8 @@
 use Rattle.std.proofs.Common.{◌≡◌, ℕ, zero, suc, ◌+◌, ◌<◌, List, [], ◌∷◌, length, map, get_or, refl, sym, ap, ◌∙◌, subst, arith, Some}
 use Rattle.std.specs.Prelude.{slice_get}
 use Rattle.window_sites.specs.Window.{WindowValue}
-use Rattle.feast_base.specs.Edges.{EdgeSize}
+use Rattle.edge_lock.specs.Edges.{EdgeSize, sizes_of}
 use Rattle.tile_map.specs.Plane.{MapValue}
-use Rattle.tile_map.specs.Edges.{sizes_of}
 use Rattle.draw_stream.specs.declared.attempt.Attempt.{Attempt}
 use Rattle.draw_stream.specs.Plans.{attempts}
 use Rattle.edge_lock.specs.History.{register_value, open_hold}

@@ -7,9 +7,9 @@ use mathlib.Core.Logic.{dite}
 use native.Mathlib.Decide.{ℕ_discrete}
 use Rattle.bit_field.specs.Atom.{AtomValue}
 use Rattle.window_sites.specs.Window.{WindowValue}
-use Rattle.feast_base.specs.Edges.{EdgeSize, registers_of}
+use Rattle.edge_lock.specs.Edges.{EdgeSize, registers_of, pair_size, sizes_of}
 use Rattle.tile_map.specs.Plane.{Site, MapValue, tiles_of}
-use Rattle.tile_map.specs.Edges.{pairs_of, pair_at, has_end, is_in_pair, size_of, sizes_of}
+use Rattle.tile_map.specs.Edges.{pairs_of, pair_at, has_end, is_in_pair}
 use Rattle.draw_stream.specs.declared.attempt.Attempt.{Attempt}
 use Rattle.edge_lock.specs.EndLists.{EndLists, end_lists}
 use Rattle.edge_lock.specs.PlainEdges.{PlainEdgeValue, own_lists}
@@ -164,15 +164,15 @@ still_lists end x s = (λ i. own_lists end (record { lower = x.lower; higher = x
 
 -- a board that was only made
 module _ (m : MapValue) (b : PlainBoardValue) (made : b.edges ≡ map untouched_edge (sizes_of m)) where
-  new_edge : (e : ℕ) → e < length (pairs_of m) → edge_at b e ≡ untouched_edge (size_of m (pair_at m e))
+  new_edge : (e : ℕ) → e < length (pairs_of m) → edge_at b e ≡ untouched_edge (pair_size m (pair_at m e))
   new_edge e lt =
       ap (λ xs. get_or xs e no_edge) made
-      ∙ (get_or-map untouched_edge (sizes_of m) e (size_of m (pair_at m e)) no_edge (let n : length (sizes_of m) ≡ length (pairs_of m) = length-map (pairs_of m) (size_of m) in omega (arith, lt, n))
-      ∙ ap untouched_edge (get_or-map (size_of m) (pairs_of m) e (tiles_of m, tiles_of m + 1) (size_of m (pair_at m e)) lt))
+      ∙ (get_or-map untouched_edge (sizes_of m) e (pair_size m (pair_at m e)) no_edge (let n : length (sizes_of m) ≡ length (pairs_of m) = length-map (pairs_of m) (pair_size m) in omega (arith, lt, n))
+      ∙ ap untouched_edge (get_or-map (pair_size m) (pairs_of m) e (tiles_of m, tiles_of m + 1) (pair_size m (pair_at m e)) lt))
 
   pub board_new : IsBoardOf m b
   board_new = record {
-    count = ap (λ xs. length xs) made ∙ (length-map (sizes_of m) untouched_edge ∙ length-map (pairs_of m) (size_of m));
+    count = ap (λ xs. length xs) made ∙ (length-map (sizes_of m) untouched_edge ∙ length-map (pairs_of m) (pair_size m));
     each = λ e lt. subst (IsEdgeOf m e) (sym (new_edge e lt)) (record { lower = refl; higher = refl; registers = refl; kept = kept_none (registers_of (sites_on m e)) });
   }
 

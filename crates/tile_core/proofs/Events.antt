@@ -4,7 +4,7 @@ use Rattle.std.proofs.lemmas.Option.{none-some}
 use Rattle.std.specs.Int.{bit_at}
 use Rattle.edge_lock.proofs.HistoryLaws.{found_stays}
 use Rattle.list_laws.proofs.Options.{none_from}
-use Rattle.feast_base.specs.Edges.{news_register, news_words}
+use Rattle.edge_lock.specs.Edges.{news_register, news_words}
 use Rattle.edge_lock.specs.declared.history.Access.{Access}
 use Rattle.edge_lock.specs.declared.history.Access.TheVariants.{Read, Write}
 use Rattle.edge_lock.specs.History.{found_value}

@@ -1,6 +1,6 @@
 -- The tiles of a plane and the board of one thread, on which their ends act in turn.
 use Rattle.std.specs.Prelude.{ℕ, ◌≡◌, ◌≢◌, ◌<◌, List, length, map}
-use Rattle.feast_base.specs.Edges.{registers_of}
+use Rattle.edge_lock.specs.Edges.{registers_of}
 use Rattle.bit_field.specs.Atom.{AtomValue}
 use Rattle.window_sites.specs.Window.{WindowValue}
 use Rattle.tile_map.specs.Plane.{Site, MapValue, tiles_of}

@@ -10,5 +10,4 @@ pub mod Pairs
 pub mod PlaneLaws
 pub mod Registers
 pub mod Sharing
-pub mod Sizes
 pub mod Spans

@@ -7,7 +7,6 @@
 #![tactic(auto)]
 
 mod crossing;
-mod edge_sizes;
 mod edges;
 mod map;
 mod needs;

@@ -61,6 +61,38 @@ impl Plane {
         self.tx * self.ty
     }
 
+    /// How many columns there are.
+    pub(crate) fn width(&self) -> u32
+        ensures value { result ≡ self.now.tx * self.now.w }
+        ensures valid { IsMap self.now }
+    {
+        self.tx * self.w
+    }
+
+    /// How many rows there are.
+    pub(crate) fn height(&self) -> u32
+        ensures value { result ≡ self.now.ty * self.now.h }
+        ensures valid { IsMap self.now }
+    {
+        self.ty * self.h
+    }
+
+    /// How many columns a tile has.
+    pub(crate) fn tile_width(&self) -> u32
+        ensures value { result ≡ self.now.w }
+        ensures valid { IsMap self.now }
+    {
+        self.w
+    }
+
+    /// How many rows a tile has.
+    pub(crate) fn tile_height(&self) -> u32
+        ensures value { result ≡ self.now.h }
+        ensures valid { IsMap self.now }
+    {
+        self.h
+    }
+
     /// Whether a tile is one of the plane's, and on.
     pub(crate) fn is_on(&self, tile: u32) -> bool
         ensures { result ≡ is_on self.now tile }

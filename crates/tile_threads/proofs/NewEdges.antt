@@ -8,7 +8,7 @@ use mathlib.Core.Logic.{dite}
 use native.Mathlib.Decide.{ℕ_discrete}
 use Rattle.list_laws.proofs.Members.{filter_in, range_in}
 use Rattle.list_laws.proofs.Filters.{filter_more}
-use Rattle.feast_base.specs.Edges.{registers_of}
+use Rattle.edge_lock.specs.Edges.{registers_of}
 use Rattle.tile_map.specs.Plane.{MapValue, tiles_of}
 use Rattle.tile_map.specs.Edges.{low_end, high_end, has_end}
 use Rattle.edge_lock.specs.Passes.{EdgeValue, PassValue, IsFresh}

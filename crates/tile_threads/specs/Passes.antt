@@ -1,7 +1,7 @@
 -- The edges of a plane and the passes of its tiles: as they are made, and as they are closed.
 use Rattle.std.specs.Prelude.{ℕ, ◌≡◌, ◌<◌, ◌≤◌, ◌+◌, true, List, [], ◌∷◌, ◌++◌, length, map, filter, slice_index_or, slice_set, All, if◌then◌else◌}
 use Rattle.std.specs.List.{range_with_len}
-use Rattle.feast_base.specs.Edges.{registers_of}
+use Rattle.edge_lock.specs.Edges.{registers_of}
 use Rattle.tile_map.specs.Plane.{MapValue, tiles_of}
 use Rattle.tile_map.specs.Edges.{pairs_of, low_end, high_end, has_end}
 use Rattle.edge_lock.specs.EndLists.{EndLists, end_lists, is_last_open, IsFree, after_give}

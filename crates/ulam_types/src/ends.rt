@@ -20,6 +20,7 @@ fn completes(raw: &Statement) -> bool
     }
 }
 
+/// Whether the end of an optional statement can be reached. One that is not there does nothing.
 #[cycle(completes)]
 fn part_completes(raw: &Option<Box<Statement>>) -> bool
     ensures { result ≡ spec.part_completes (resolved_part raw.now) }

@@ -38,6 +38,7 @@ fn push_locals(raw: &Statement, out: &mut Vec<Ty>) -> Result<(), AllocError>
     }
 }
 
+/// Appends the types of the locals of an optional statement.
 #[cycle(locals)]
 #[tactic(auto, unfolding(ulam_tree::specs::Locals::locals))]
 fn push_part(raw: &Option<Box<Statement>>, out: &mut Vec<Ty>) -> Result<(), AllocError>
@@ -49,6 +50,7 @@ fn push_part(raw: &Option<Box<Statement>>, out: &mut Vec<Ty>) -> Result<(), Allo
     }
 }
 
+/// Appends the types of the locals of statements, in their order.
 #[cycle(locals)]
 fn push_body(raw: &[Statement], out: &mut Vec<Ty>) -> Result<(), AllocError>
     ensures { IfOk result (λ _. out.new.items ≡ out.old.items ++ locals.all_locals (resolved_body raw.now)) }
@@ -59,6 +61,7 @@ fn push_body(raw: &[Statement], out: &mut Vec<Ty>) -> Result<(), AllocError>
     Ok(())
 }
 
+/// The types of parameters, in their order.
 fn param_types(alloc: Global, params: &[Param]) -> Result<Vec<Ty>, AllocError>
     ensures { IfOk result (λ v. v.items ≡ map param_type (map resolved_param params.now)) }
 {

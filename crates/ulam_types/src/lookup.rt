@@ -9,12 +9,14 @@ use crate::rows::fits_number;
 use crate::scope::{ClassSig, FieldSig, FunctionSig, Scope};
 use ulam_tree::resolved::{Step, Ty};
 
+/// The signature of a class, if there is one of this number.
 fn class_at<'a>(scope: &Scope<'a>, class: u32) -> Option<&'a ClassSig>
     ensures { Finds (λ c. class_view c.now) result (spec.class_at (here scope.now) class) }
 {
     scope.classes.get(class as usize)
 }
 
+/// Whether a class is an element.
 fn is_element(scope: &Scope, class: u32) -> bool
     ensures { result ≡ spec.is_element (here scope.now) class }
 {
@@ -36,12 +38,14 @@ pub fn is_value(scope: &Scope, ty: Ty) -> bool
     }
 }
 
+/// A type, if it is one of values.
 fn if_value(scope: &Scope, ty: Ty) -> Option<Ty>
     ensures { result ≡ spec.if_value (here scope.now) ty }
 {
     if is_value(scope, ty) { Some(ty) } else { None }
 }
 
+/// The type of a local or a parameter, if its slot has a value.
 fn slot_type(scope: &Scope, slot: u32) -> Option<Ty>
     ensures { result ≡ spec.slot_type (here scope.now) (slice_get scope.now.slots.now slot) }
 {
@@ -51,6 +55,7 @@ fn slot_type(scope: &Scope, slot: u32) -> Option<Ty>
     }
 }
 
+/// A data member of a class, if there are both.
 fn field_at(scope: &Scope, class: u32, member: u32) -> Option<FieldSig>
     ensures { result ≡ spec.field_at (here scope.now) class member }
 {
@@ -60,6 +65,7 @@ fn field_at(scope: &Scope, class: u32, member: u32) -> Option<FieldSig>
     }
 }
 
+/// The type of a data member that is one number.
 fn number_field(field: Option<FieldSig>) -> Option<Ty>
     ensures { result ≡ spec.number_field field }
 {
@@ -78,6 +84,7 @@ fn number_field(field: Option<FieldSig>) -> Option<Ty>
     }
 }
 
+/// The type of an item of a data member that has items.
 fn item_field(field: Option<FieldSig>) -> Option<Ty>
     ensures { result ≡ spec.item_field field }
 {
@@ -104,6 +111,7 @@ pub fn last_step(steps: &[Step]) -> Option<Step>
     steps.last().copied()
 }
 
+/// Whether a path begins with a local or a parameter.
 pub fn begins_local(steps: &[Step]) -> bool
     ensures { result ≡ spec.begins_local steps.now }
 {
@@ -147,6 +155,7 @@ pub fn item_type(scope: &Scope, steps: &[Step]) -> Option<Ty>
     }
 }
 
+/// A function of a class, if there are both.
 pub fn function_at<'a>(scope: &Scope<'a>, class: u32, function: u32) -> Option<&'a FunctionSig>
     ensures { Finds (λ f. function_view f.now) result (spec.function_at (here scope.now) class function) }
 {
@@ -188,6 +197,7 @@ pub fn instance_type(ty: Ty) -> Ty
     }
 }
 
+/// Whether a type is this class.
 fn same_class(ty: Ty, class: u32) -> bool
     ensures { result ≡ row.same_class ty class }
 {
@@ -209,6 +219,7 @@ pub fn assignable(scope: &Scope, to: Ty, ty: Ty) -> bool
     }
 }
 
+/// Whether a type is an element.
 pub fn is_element_type(scope: &Scope, ty: Ty) -> bool
     ensures { result ≡ walk.is_element_type (here scope.now) ty }
 {

@@ -37,6 +37,7 @@ fn members(
     Ok(found)
 }
 
+/// A class with the types of its members, or the first fault among them.
 fn class(alloc: Global, sigs: &[ClassSig], own: u32, raw: &Class) -> Result<typed::Class, TypeFault>
     ensures { Gives typed_class result (walk.class (sigs_view sigs.now) own (resolved_class raw.now)) }
 {
@@ -48,6 +49,7 @@ fn class(alloc: Global, sigs: &[ClassSig], own: u32, raw: &Class) -> Result<type
     })
 }
 
+/// Classes with the types of their members, or the first fault among them.
 fn classes(alloc: Global, sigs: &[ClassSig], raw: &[Class]) -> Result<Vec<typed::Class>, TypeFault>
     requires { length raw.now ≤ 4294967295 }
     ensures { Gives classes_view result (walk.classes (sigs_view sigs.now) 0 (map resolved_class raw.now)) }

@@ -10,6 +10,7 @@ use sat_math::{Kind, NumType};
 use ulam_tree::resolved::Ty;
 use ulam_tree::{PairOp, PrefixOp};
 
+/// The type `Int` of a width.
 pub fn int(width: u8) -> Ty
     ensures { result ≡ row.int width }
 {
@@ -21,6 +22,7 @@ pub fn int(width: u8) -> Ty
     }
 }
 
+/// The type `Unsigned` of a width.
 pub fn unsigned(width: u8) -> Ty
     ensures { result ≡ row.unsigned width }
 {
@@ -32,6 +34,7 @@ pub fn unsigned(width: u8) -> Ty
     }
 }
 
+/// The type `Bits` of a width.
 pub fn bits(width: u8) -> Ty
     ensures { result ≡ row.bits width }
 {
@@ -43,6 +46,7 @@ pub fn bits(width: u8) -> Ty
     }
 }
 
+/// The type `Bool`.
 pub fn truth() -> Ty
     ensures { result ≡ row.bool }
 {
@@ -114,6 +118,7 @@ pub fn wide(m: u8, n: u8) -> u8
     if m <= 32 && n <= 32 { 32 } else { 64 }
 }
 
+/// The type of a sum, a difference, a product, a quotient or a remainder.
 fn arith_type(a: NumClass, b: NumClass) -> Option<Ty>
     ensures { result ≡ row.arith_type a b }
 {
@@ -126,6 +131,7 @@ fn arith_type(a: NumClass, b: NumClass) -> Option<Ty>
     }
 }
 
+/// The type of a comparison by order.
 fn order_type(a: NumClass, b: NumClass) -> Option<Ty>
     ensures { result ≡ row.order_type a b }
 {
@@ -136,6 +142,7 @@ fn order_type(a: NumClass, b: NumClass) -> Option<Ty>
     }
 }
 
+/// The type of a comparison for equality.
 fn equal_type(a: NumClass, b: NumClass) -> Option<Ty>
     ensures { result ≡ row.equal_type a b }
 {
@@ -148,6 +155,7 @@ fn equal_type(a: NumClass, b: NumClass) -> Option<Ty>
     }
 }
 
+/// The type of a combination of bits.
 fn bits_type(a: NumClass, b: NumClass) -> Option<Ty>
     ensures { result ≡ row.bits_type a b }
 {
@@ -157,6 +165,7 @@ fn bits_type(a: NumClass, b: NumClass) -> Option<Ty>
     }
 }
 
+/// The type of shifted bits. The number of places is any number if it is a plain one, else an `Unsigned`.
 fn shift_type(plain: bool, a: NumClass, b: NumClass) -> Option<Ty>
     ensures { result ≡ row.shift_type plain a b }
 {
@@ -167,6 +176,7 @@ fn shift_type(plain: bool, a: NumClass, b: NumClass) -> Option<Ty>
     }
 }
 
+/// The type of a combination of truth values.
 fn truth_type(a: NumClass, b: NumClass) -> Option<Ty>
     ensures { result ≡ row.truth_type a b }
 {
@@ -176,6 +186,7 @@ fn truth_type(a: NumClass, b: NumClass) -> Option<Ty>
     }
 }
 
+/// The type of an operation on two numbers; `plain` says that the second is a plain number.
 fn pair_type(op: PairOp, plain: bool, left: Ty, right: Ty) -> Option<Ty>
     ensures { result ≡ row.pair_type op plain left right }
 {
@@ -191,6 +202,7 @@ fn pair_type(op: PairOp, plain: bool, left: Ty, right: Ty) -> Option<Ty>
     }
 }
 
+/// Whether an operation takes numbers with signs.
 fn takes_signs(op: PairOp) -> bool
     ensures { result ≡ row.takes_signs op }
 {
@@ -202,6 +214,7 @@ fn takes_signs(op: PairOp) -> bool
     }
 }
 
+/// Whether one number has a sign and the other has none.
 fn are_mixed(a: NumClass, b: NumClass) -> bool
     ensures { result ≡ row.are_mixed a b }
 {
@@ -229,6 +242,7 @@ pub fn pair_row(place: Place, op: PairOp, plain: bool, left: Ty, right: Ty) -> R
     }
 }
 
+/// The type of an operation on one number.
 pub fn prefix_type(op: PrefixOp, ty: Ty) -> Option<Ty>
     ensures { result ≡ row.prefix_type op ty }
 {
@@ -240,6 +254,7 @@ pub fn prefix_type(op: PrefixOp, ty: Ty) -> Option<Ty>
     }
 }
 
+/// The type of a cast: any number becomes any number.
 pub fn cast_type(to: Ty, ty: Ty) -> Option<Ty>
     ensures { result ≡ row.cast_type to ty }
 {
@@ -249,6 +264,7 @@ pub fn cast_type(to: Ty, ty: Ty) -> Option<Ty>
     }
 }
 
+/// Whether values of a type can be an index.
 pub fn is_index(ty: Ty) -> bool
     ensures { result ≡ row.is_index ty }
 {
@@ -258,6 +274,7 @@ pub fn is_index(ty: Ty) -> bool
     }
 }
 
+/// Whether a type is an `Unsigned`.
 pub fn is_unsigned(ty: Ty) -> bool
     ensures { result ≡ row.is_unsigned ty }
 {
@@ -267,6 +284,7 @@ pub fn is_unsigned(ty: Ty) -> bool
     }
 }
 
+/// Whether a type is `Bool`.
 pub fn is_truth(ty: Ty) -> bool
     ensures { result ≡ row.is_truth ty }
 {
@@ -276,6 +294,7 @@ pub fn is_truth(ty: Ty) -> bool
     }
 }
 
+/// Whether a type has no values.
 pub fn is_void(ty: Ty) -> bool
     ensures { result ≡ row.is_void ty }
 {
@@ -285,6 +304,7 @@ pub fn is_void(ty: Ty) -> bool
     }
 }
 
+/// Whether a value of a type can be assigned to a number of this kind.
 pub fn fits_number(kind: Kind, ty: Ty) -> bool
     ensures { result ≡ row.fits_number kind (row.class_of ty) }
 {

@@ -51,6 +51,7 @@ fn function_sigs(alloc: Global, members: &[Member]) -> Result<Vec<FunctionSig>, 
     Ok(found)
 }
 
+/// The signature of a class.
 fn class_sig(alloc: Global, class: &Class) -> Result<ClassSig, AllocError>
     ensures { IfOk result (λ s. class_view s ≡ walk.class_sig (resolved_class class.now)) }
 {

@@ -1,6 +1,6 @@
 use Rattle.std.proofs.Common.{List, ℕ, ◌≡◌, ◌<◌, [], sym, ap, ◌∙◌, subst, arith}
 use Rattle.std.proofs.lemmas.List.{append-nil}
-use Rattle.feast_base.specs.Edges.{registers_of}
+use Rattle.edge_lock.specs.Edges.{registers_of}
 use Rattle.edge_lock.proofs.BoardLaws.{same_end}
 use Rattle.edge_lock.specs.declared.history.Access.{Access}
 use Rattle.tile_map.specs.Plane.{Site, site}

@@ -1,5 +1,5 @@
 use Rattle.std.proofs.Common.{◌≡◌, ℕ, ◌+◌, ◌<◌, List, [], ◌∷◌, ◌++◌, set, sym, ap, ◌∙◌, subst}
-use Rattle.feast_base.specs.Edges.{registers_of}
+use Rattle.edge_lock.specs.Edges.{registers_of}
 use Rattle.tile_map.specs.Plane.{tiles_of}
 use Rattle.tile_map.specs.Edges.{high_end}
 use Rattle.edge_lock.specs.Passes.{EdgeValue, PassValue}

@@ -1,10 +1,13 @@
-//! The edges of a plane as numbers, for the crates that know nothing of maps.
+//! The edges of a plane as numbers, which is all that a lock knows of a map.
 ghost use Rattle.std.specs.Prelude.{◌≡◌, ◌<◌, ◌^◌, ℕ, length, All};
+ghost use Rattle.edge_lock.specs.Edges.{sizes_of};
+
+use tile_map::Map;
 
 /// The edges of a plane: each joins two tiles and has a number of shared sites, from which its
 /// number of registers follows.
 pub trait EdgeSizes {
-    ghost use Rattle.feast_base.specs.Edges.{EdgeSize, IsEdgeSize, size_at, registers_of};
+    ghost use Rattle.edge_lock.specs.Edges.{EdgeSize, IsEdgeSize, size_at, registers_of};
     ghost use Rattle.std.specs.Prelude.{List};
 
     ghost sizes: { Self → List EdgeSize };
@@ -31,4 +34,25 @@ pub trait EdgeSizes {
     fn registers(&self, edge: u32) -> u32
         requires { edge < length (sizes self.now) }
         ensures { result ≡ registers_of (size_at (sizes self.now) edge).sites };
+}
+
+impl EdgeSizes for Map {
+    ghost sizes = { λ m. sizes_of m };
+
+    fn edges(&self) -> u32 {
+        self.edges()
+    }
+
+    fn ends(&self, edge: u32) -> (u32, u32) {
+        self.ends(edge)
+    }
+
+    fn sites(&self, edge: u32) -> u32 {
+        self.shared(edge)
+    }
+
+    fn registers(&self, edge: u32) -> u32 {
+        let sites = self.shared(edge);
+        1 + 2 * sites + 2 * ((sites + 63) / 64)
+    }
 }

@@ -1,5 +1,7 @@
 -- The edges of a plane as numbers.
-use Rattle.std.specs.Prelude.{ℕ, ◌<◌, ◌+◌, ◌*◌, ◌/◌, List, slice_index_or}
+use Rattle.std.specs.Prelude.{ℕ, ◌<◌, ◌+◌, ◌*◌, ◌/◌, List, length, map, slice_index_or}
+use Rattle.tile_map.specs.Plane.{MapValue}
+use Rattle.tile_map.specs.Edges.{shared_by, pairs_of}
 
 -- how many news words each end of an edge with n shared sites has: one bit for each site, 64 bits a
 -- word
@@ -32,3 +34,11 @@ no_size = record { lower = 0; higher = 0; sites = 0 }
 -- the edge of a number
 abbrev pub size_at : List EdgeSize → ℕ → EdgeSize
 size_at zs e = slice_index_or zs e no_size
+
+-- a pair of neighbouring tiles of a map with the number of sites that both hold
+abbrev pub pair_size : MapValue → ℕ × ℕ → EdgeSize
+pair_size m p = record { lower = p.0; higher = p.1; sites = length (shared_by m p) }
+
+-- the edges of a map
+abbrev pub sizes_of : MapValue → List EdgeSize
+sizes_of m = map (pair_size m) (pairs_of m)

@@ -73,7 +73,7 @@ pub struct Steps<L: Ledger> {
 }
 
 impl<L: Ledger> Model for Steps<L> {
-    ghost use Rattle.feast_base.specs.Counting.{Counted};
+    ghost use Rattle.event_machine.specs.Counting.{Counted};
 
     ghost Value = { Counted L };
 

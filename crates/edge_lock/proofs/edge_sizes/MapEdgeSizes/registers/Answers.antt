@@ -1,8 +1,7 @@
 use Rattle.std.proofs.Common.{◌≡◌, ap, arith}
 use Rattle.std.proofs.lemmas.Grind.{common_steps}
-use Rattle.feast_base.specs.Edges.{registers_of, size_at}
-use Rattle.tile_map.specs.Edges.{sizes_of}
-use Rattle.tile_map.proofs.edge_sizes.MapEdgeSizes.registers.Goals as goal
+use Rattle.edge_lock.specs.Edges.{registers_of, size_at, sizes_of}
+use Rattle.edge_lock.proofs.edge_sizes.MapEdgeSizes.registers.Goals as goal
 
 pub returns : goal.returns
 returns c =

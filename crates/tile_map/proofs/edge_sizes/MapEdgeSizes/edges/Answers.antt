@@ -1,5 +1,0 @@
-use Rattle.tile_map.proofs.Sizes.{sizes_ordered}
-use Rattle.tile_map.proofs.edge_sizes.MapEdgeSizes.edges.Goals as goal
-
-pub returns-clause-ordered : goal.returns-clause-ordered
-returns-clause-ordered c = sizes_ordered c.args.self.now
