@@ -25,8 +25,7 @@ fn grid(alloc: Global, world: &World, names: &[Name]) -> Result<Grid, NoMemory>
     requires { IsPrintable names.now (world_value world.now) }
     ensures { IfOk result (λ g. AreNamed names.now g.atoms) }
 {
-    let (width, height) = (world.tx * world.w, world.ty * world.h);
-    let mut grid = Grid::new(alloc, width, height)?;
+    let mut grid = Grid::new(alloc, world.map.width(), world.map.height())?;
     for placed in world.atoms.as_slice() {
         let (x, y) = (placed.x, placed.y);
         if x < grid.width() && y < grid.height() && grid.is_live(x, y) {

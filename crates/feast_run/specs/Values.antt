@@ -1,5 +1,5 @@
 -- The code's structs as values.
-use Rattle.std.specs.Prelude.{◌≡◌, length}
+use Rattle.std.specs.Prelude.{length}
 use Rattle.element_set.specs.Sets.{set_value}
 use Rattle.event_journal.specs.declared.reader.ReadJournal.{ReadJournal}
 use Rattle.feast_run.specs.Elements.{ElementsValue, code_elements, source_elements}
@@ -21,8 +21,7 @@ ready_value r = ready_with (world_value r.world) (elements_value r.elements)
 abbrev pub journal_value : ReadJournal → JournalValue
 journal_value j = record { records = j.records.items; abandoned = j.abandoned.items }
 
--- the atoms of the world are of its elements, these bring no others, and the map is the world's
+-- the atoms of the world are of its elements, and these bring no others
 pub record IsReady (r : Ready) : Type 0 where
   pub named : IsNamed (elements_value r.elements).names (world_value r.world)
-  pub map : r.map ≡ (world_value r.world).plane
   pub brings : BringsNone (length (elements_value r.elements).names) (elements_value r.elements).meaning

@@ -12,10 +12,9 @@ use world_text::World;
 
 /// How many tiles a world has.
 pub fn tiles_in(world: &World) -> u32
-    requires { tiles_of (world_value world.now).plane ≤ 64 }
     ensures { result ≡ tiles_of (world_value world.now).plane }
 {
-    world.tx * world.ty
+    world.map.tiles()
 }
 
 /// For each tile, something that acts on windows as the elements of a world do.

@@ -28,10 +28,10 @@ fn audit_line(
     requires { IsReady ready.now }
     ensures { IfOk result (λ v. Audits (ready_value ready.now) bytes.now (journal_value journal.now) v.items) }
 {
-    let grid = start(alloc, &ready.map, &ready.world)?;
+    let grid = start(alloc, &ready.world)?;
     let mut actor = ready.elements.actor(alloc)?;
     let names = ready.elements.names();
-    let map = &ready.map;
+    let map = &ready.world.map;
     let plan = &ready.world.plan;
     let judgement = judge(alloc, map, plan, names, grid, bytes, journal, &mut actor)?;
     judgement_line(alloc, judgement)
@@ -49,7 +49,7 @@ fn audit_loaded<'a>(
     ensures tells { Tells output_text (audit_with word.now (ready_value ready.now) bytes.now) result }
     ensures writable { IfOk result IsWritable }
 {
-    let journal = read_loaded(alloc, word, bytes, &ready.map, &ready.world)?;
+    let journal = read_loaded(alloc, word, bytes, &ready.world)?;
     let text = audit_line(alloc, ready, bytes, &journal)?;
     Ok(Output::Text(text))
 }

@@ -19,7 +19,7 @@ use feast_base::NoMemory;
 use generated_world::{generated, summary};
 use serial_order::Outcome;
 use std::alloc::Global;
-use world_runs::{map_of, stepped};
+use world_runs::stepped;
 use world_text::World;
 
 /// The result of the stepped run of a world, with these elements.
@@ -29,8 +29,7 @@ fn outcome(alloc: Global, world: &World, elements: &Elements) -> Result<Outcome,
     ensures { IfOk result (IsOutcomeOf (ready_with (world_value world.now) (elements_value elements.now))) }
 {
     let actors = actors(alloc, elements, tiles_in(world))?;
-    let map = map_of(alloc, world)?;
-    stepped(alloc, &map, world, actors)
+    stepped(alloc, world, actors)
 }
 
 /// The summary of the stepped run of the world of a number, with these elements.

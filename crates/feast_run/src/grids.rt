@@ -20,5 +20,5 @@ pub fn grid_after(alloc: Global, ready: &Ready, records: &[Record]) -> Result<Gr
     ensures named { IfOk result (λ g. AreNamed (elements_value ready.now.elements).names g.atoms) }
 {
     let mut actor = ready.elements.actor(alloc)?;
-    replayed(alloc, &ready.map, &ready.world, records, &mut actor)
+    replayed(alloc, &ready.world, records, &mut actor)
 }

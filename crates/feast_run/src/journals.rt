@@ -17,7 +17,6 @@ use crate::loading::{JOURNAL_LIMIT, at_line, load_file};
 use event_journal::{JournalFault, ReadJournal, read};
 use feast_base::{Refusal, Shelf};
 use std::alloc::Global;
-use tile_map::Map;
 use world_text::World;
 
 /// The halt at a refusal of a journal whose file has this word.
@@ -45,55 +44,48 @@ fn journal_halt<'a>(word: &'a str, fault: JournalFault) -> Halt<'a>
     }
 }
 
-/// Reads the journal of a world, whose map this is, in the text of a report.
+/// Reads the journal of a world in the text of a report.
 fn read_journal(
     alloc: Global,
     bytes: &[u8],
-    map: &Map,
     world: &World,
 ) -> Result<ReadJournal, JournalFault>
     requires world { IsWorld (world_value world.now) }
-    requires map { map.now ≡ (world_value world.now).plane }
     requires short { length bytes.now < 2 ^ 63 }
     ensures { ReadsJournal (world_value world.now).plane world.now.plan.lists bytes.now result }
 {
-    read(alloc, bytes, map, &world.plan)
+    read(alloc, bytes, &world.map, &world.plan)
 }
 
-/// Reads the journal of a world, whose map this is, in the bytes of a report, whose file has this
-/// word.
+/// Reads the journal of a world in the bytes of a report, whose file has this word.
 pub fn read_loaded<'a>(
     alloc: Global,
     word: &'a str,
     bytes: &[u8],
-    map: &Map,
     world: &World,
 ) -> Result<ReadJournal, Halt<'a>>
     requires world { IsWorld (world_value world.now) }
-    requires map { map.now ≡ (world_value world.now).plane }
     requires short { length bytes.now < 2 ^ 63 }
     ensures { Tells journal_value (journal_in word.now (world_value world.now) bytes.now) result }
 {
-    match read_journal(alloc, bytes, map, world) {
+    match read_journal(alloc, bytes, world) {
         Ok(journal) => Ok(journal),
         Err(fault) => Err(journal_halt(word, fault)),
     }
 }
 
-/// Loads and reads the journal of a world, whose map this is.
+/// Loads and reads the journal of a world.
 pub fn load_journal<'a, F: Shelf>(
     alloc: Global,
     shelf: &mut F,
     word: &'a str,
-    map: &Map,
     world: &World,
 ) -> Result<ReadJournal, Halt<'a>>
-    requires world { IsWorld (world_value world.now) }
-    requires map { map.now ≡ (world_value world.now).plane }
+    requires { IsWorld (world_value world.now) }
     ensures files { (F.state shelf.new).files ≡ (F.state shelf.old).files }
     ensures moves { Moves (F.state shelf.old) (F.state shelf.new) result }
     ensures tells { Tells journal_value (journal_of (F.state shelf.old).files word.now (world_value world.now)) result }
 {
     let bytes = load_file(alloc, shelf, word, JOURNAL_LIMIT)?;
-    read_loaded(alloc, word, bytes.as_slice(), map, world)
+    read_loaded(alloc, word, bytes.as_slice(), world)
 }

@@ -42,7 +42,7 @@ fn replay_rest<'a, F: Shelf>(
     ensures tells { Tells output_text (replay_of (F.state shelf.old).files word.now (ready_value ready)) result }
     ensures writable { IfOk result IsWritable }
 {
-    let journal = load_journal(alloc, shelf, word, &ready.map, &ready.world)?;
+    let journal = load_journal(alloc, shelf, word, &ready.world)?;
     let text = replay_text(alloc, &ready, journal.records.as_slice())?;
     Ok(Output::Text(text))
 }

@@ -39,7 +39,7 @@ fn rewind_text(
     requires enough { left ≤ length records.now }
     ensures { IfOk result (λ v. v.items ≡ atoms_after (ready_value ready.now) (take left records.now)) }
 {
-    let first = start(alloc, &ready.map, &ready.world)?;
+    let first = start(alloc, &ready.world)?;
     let mut actor = ready.elements.actor(alloc)?;
     let grid = rewound(alloc, first, records, left, &mut actor)?;
     grid_text(alloc, &grid, ready.elements.names())
@@ -112,7 +112,7 @@ fn rewind_rest<'a, F: Shelf>(
     ensures tells { Tells output_text (rewind_of (F.state shelf.old).files word.now left (ready_value ready)) result }
     ensures writable { IfOk result IsWritable }
 {
-    let journal = load_journal(alloc, shelf, word, &ready.map, &ready.world)?;
+    let journal = load_journal(alloc, shelf, word, &ready.world)?;
     rewind_loaded(alloc, word, left, &ready, &journal)
 }
 

@@ -33,7 +33,7 @@ fn journal_of<G: Gate>(alloc: Global, ready: &Ready, gate: &G) -> Result<Journal
     ensures records { IfOk result (λ j. records_in j ≡ events_of (world_value ready.now.world).plane ready.now.world.plan) }
     ensures abandoned { IfOk result (λ j. abandoned_in j ≡ []) }
 {
-    journal(alloc, &ready.map, &ready.world.plan, gate)
+    journal(alloc, &ready.world.map, &ready.world.plan, gate)
 }
 
 /// What a run of one tile leaves. No other tile shares a site with it, so its events are made on one
@@ -65,7 +65,7 @@ fn outcome<R: Threads + Sync, G: Gate>(
     ensures { IfOk result (IsThreadedOf (ready_value ready.now)) }
 {
     let actors = actors(alloc, &ready.elements, tiles_in(&ready.world))?;
-    threaded(rt, alloc, &ready.map, &ready.world, actors, gate)
+    threaded(rt, alloc, &ready.world, actors, gate)
 }
 
 /// What a run of several tiles leaves.

@@ -24,7 +24,7 @@ fn outcome(alloc: Global, ready: &Ready) -> Result<Outcome, NoMemory>
 {
     listed_order();
     let actors = actors(alloc, &ready.elements, tiles_in(&ready.world))?;
-    stepped(alloc, &ready.map, &ready.world, actors)
+    stepped(alloc, &ready.world, actors)
 }
 
 /// What a stepped run leaves.

@@ -1,4 +1,4 @@
-//! The stages of a world: its text, its elements, the names of its atoms, and its map.
+//! The stages of a world: its text, its elements, and the names of its atoms.
 ghost use Rattle.std.specs.Prelude.{◌≡◌, ◌≤◌, IfOk, length};
 ghost use Rattle.cell_grid.specs.Known.{BringsNone};
 ghost use Rattle.code_file.specs.Form.{IsSayable};
@@ -25,25 +25,18 @@ use code_file::CodeSet;
 use element_set::ElementSet;
 use feast_base::{Name, Shelf};
 use std::alloc::Global;
-use tile_map::Map;
-use world_runs::map_of;
 use world_text::{RawWorld, World, WorldFault, name, read};
 
-/// A world, its map, and the elements of its atoms.
+/// A world, and the elements of its atoms.
 pub struct Ready {
     pub world: World,
-    pub map: Map,
     pub elements: Elements,
 }
 
 // Written by hand, not derived: so a caller drops it by one call.
 impl Drop for Ready {
     fn drop(self) {
-        let Ready {
-            world,
-            map,
-            elements,
-        } = self;
+        let Ready { world, elements } = self;
     }
 }
 
@@ -122,12 +115,7 @@ fn with_elements<'a>(
     ensures ready { IfOk result IsReady }
 {
     let world = named(alloc, word, draft, elements.names())?;
-    let map = map_of(alloc, &world)?;
-    Ok(Ready {
-        world,
-        map,
-        elements,
-    })
+    Ok(Ready { world, elements })
 }
 
 /// A world with the elements of a set.

@@ -10,6 +10,7 @@ use bit_field::Atom;
 use draw_stream::{AttemptPlan, TileStream};
 use feast_base::NoMemory;
 use std::alloc::Global;
+use tile_map::Map;
 use world_text::{Order, Placed, World};
 
 /// How many sites a row of the plane has.
@@ -82,13 +83,10 @@ fn drawn_world(alloc: Global, number: u64) -> Result<World, NoMemory>
 {
     let off = vec![in alloc; false; 16]?;
     let plan = AttemptPlan::seeded(alloc, number, 500, off.as_slice(), 256)?;
+    let map = Map::with_off(alloc, 4, 4, 16, 16, off.as_slice())?;
     let atoms = drawn_atoms(alloc, number.wrapping_add(2))?;
     Ok(World {
-        tx: 4,
-        ty: 4,
-        w: 16,
-        h: 16,
-        off,
+        map,
         plan,
         atoms,
         order: Order::Seed(number.wrapping_add(1)),
@@ -97,7 +95,7 @@ fn drawn_world(alloc: Global, number: u64) -> Result<World, NoMemory>
 
 /// The world of a number: 4 by 4 tiles of 16 by 16 sites, whose plan, order and atoms are drawn.
 /// About one of eight sites has a `Wander` (type 1), one a `Stone` (type 2), and the others
-/// nothing. `NoMemory` if there is none for the marks of its tiles or for its atoms.
+/// nothing. `NoMemory` if there is none for its tiles or for its atoms.
 pub fn generated(alloc: Global, number: u64) -> Result<World, NoMemory>
     ensures value { IfOk result (λ w. world_value w ≡ generated number) }
     ensures world { IfOk result (λ w. IsWorld (world_value w)) }

@@ -1,5 +1,5 @@
-//! From a world to the outcome of its run: its map, the flat grid that it starts with, its tiles and
-//! its order; the run stepped, with a worker for each tile, or of one tile alone; and the grid that
+//! From a world to the outcome of its run: the flat grid that it starts with, its tiles and its
+//! order; the run stepped, with a worker for each tile, or of one tile alone; and the grid that
 //! the replay of records leaves.
 #![tactic(auto)]
 
@@ -17,7 +17,7 @@ pub use law::{each_attempt_is_an_event, laws, listed_order};
 pub use one_tile::journal;
 pub use order::order_of;
 pub use replaying::replayed;
-pub use starting::{map_of, start};
+pub use starting::start;
 pub use stepping::stepped;
 pub use threading::threaded;
 pub use tiles::fresh_tiles;

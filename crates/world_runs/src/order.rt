@@ -57,7 +57,7 @@ pub fn order_of(alloc: Global, world: &World) -> Result<Vec<u32>, NoMemory>
     ensures value { IfOk result (λ v. v.items ≡ order_in (world_value world.now)) }
     ensures tiles { IfOk result (λ v. All (λ t. t < tiles_of (world_value world.now).plane) v.items) }
 {
-    let tiles = world.tx * world.ty;
+    let tiles = world.map.tiles();
     match &world.order {
         Order::List(turns) => Ok(Vec::from_slice(alloc, turns.as_slice())?),
         Order::Seed(seed) => drawn(alloc, *seed, tiles, 8 * attempts_of(&world.plan, tiles)),

@@ -10,28 +10,25 @@ use crate::starting::start;
 use cell_grid::{Behave, Grid, Record};
 use feast_base::NoMemory;
 use std::alloc::Global;
-use tile_map::Map;
 use world_text::World;
 
 /// The grid that the events of some records leave, one after another, from the start of a world.
 /// Each event is at a live site. If the atoms of the world are of the first n types and no event
-/// brings an atom of another type into a window, the grid has none either. The map is the world's.
-/// `NoMemory` if there is not enough memory for the grid.
+/// brings an atom of another type into a window, the grid has none either. `NoMemory` if there is
+/// not enough memory for the grid.
 pub fn replayed<B: Behave>(
     alloc: Global,
-    map: &Map,
     world: &World,
     records: &[Record],
     behave: &mut B,
 ) -> Result<Grid, NoMemory>
     requires world { IsWorld (world_value world.now) }
-    requires map { map.now ≡ (world_value world.now).plane }
     requires live { All (IsLiveEvent (world_value world.now).plane) records.now }
     ensures grid { IfOk result (λ g. g ≡ replay (B.after behave.old) (start_of (world_value world.now)) records.now) }
     ensures known { IfOk result (KeepsKnown world.now.atoms.items (B.after behave.old)) }
     ensures meaning { B.after behave.new ≡ B.after behave.old }
 {
-    let mut grid = start(alloc, map, world)?;
+    let mut grid = start(alloc, world)?;
     grid.replay(records, behave);
     Ok(grid)
 }

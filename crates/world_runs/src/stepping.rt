@@ -18,29 +18,26 @@ use feast_base::NoMemory;
 use serial_order::Outcome;
 use std::alloc::Global;
 use stepped_world::run_settled;
-use tile_map::Map;
 use world_text::World;
 
 /// The stepped run of a world on one thread, settled: its grid and its journal are those of the
 /// stepped machine, and all its events stand in one serial order, that of the journal. There is one
-/// value that acts for each tile, and all have one meaning. The map is the world's. `NoMemory` if the
-/// tiles, the board, the order or the grid can't be made.
+/// value that acts for each tile, and all have one meaning. `NoMemory` if the tiles, the board, the order or the grid can't be made.
 pub fn stepped<B: Behave + Drop>(
     alloc: Global,
-    map: &Map,
     world: &World,
     behaves: Vec<B>,
 ) -> Result<Outcome, NoMemory>
     requires world { IsWorld (world_value world.now) }
-    requires map { map.now ≡ (world_value world.now).plane }
     requires order { IsOrder (world_value world.now).plane (order_value world.now.order) }
     requires one { length behaves.items ≡ tiles_of (world_value world.now).plane }
     requires meaning { (meaning : WindowValue → ℕ → WindowValue) × All (λ b. B.after b ≡ meaning) behaves.items }
     ensures { IfOk result (λ o. OfTheMeaning B.after behaves.items (IsSteppedRun (world_value world.now) o)) }
 {
+    let map = &world.map;
     map.laws();
     plan_fits(&world.plan);
-    let grid = start(alloc, map, world)?;
+    let grid = start(alloc, world)?;
     let tiles = fresh_tiles(alloc, map, &grid, &world.plan, behaves)?;
     let order = order_of(alloc, world)?;
     let board = PlainBoard::new(alloc, map)?;

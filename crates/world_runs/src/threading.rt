@@ -15,32 +15,29 @@ use feast_base::{Gate, NoMemory};
 use serial_order::{Outcome, settle};
 use std::alloc::Global;
 use std::thread::Threads;
-use tile_map::Map;
 use tile_threads::run_shared;
 use world_text::World;
 
 /// The run of a world with a worker for each tile, side by side in threads, settled: in whatever
 /// order they make their steps, all events stand in one serial order, that of the journal. Each
 /// worker calls the gate before each attempt. There is one value that acts for each tile, and all
-/// have one meaning. The map is the world's. `NoMemory` if the tiles, the edges or the grid can't be
-/// made.
+/// have one meaning. `NoMemory` if the tiles, the edges or the grid can't be made.
 pub fn threaded<R: Threads + Sync, B: Behave + Send + Drop, G: Gate>(
     rt: &R,
     alloc: Global,
-    map: &Map,
     world: &World,
     behaves: Vec<B>,
     gate: &G,
 ) -> Result<Outcome, NoMemory>
     requires world { IsWorld (world_value world.now) }
-    requires map { map.now ≡ (world_value world.now).plane }
     requires one { length behaves.items ≡ tiles_of (world_value world.now).plane }
     requires meaning { (meaning : WindowValue → ℕ → WindowValue) × All (λ b. B.after b ≡ meaning) behaves.items }
     ensures { IfOk result (λ o. OfTheMeaning B.after behaves.items (IsThreadedRun (world_value world.now) o)) }
 {
+    let map = &world.map;
     map.laws();
     plan_fits(&world.plan);
-    let grid = start(alloc, map, world)?;
+    let grid = start(alloc, world)?;
     let tiles = fresh_tiles(alloc, map, &grid, &world.plan, behaves)?;
     let (tiles, mut edges) = run_shared(rt, alloc, map, tiles, gate)?;
     settle(alloc, map, tiles, &mut edges)

@@ -11,3 +11,4 @@ pub mod Taken
 pub mod Takes
 pub mod Tried
 pub mod Walk
+pub mod Marked

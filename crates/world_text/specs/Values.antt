@@ -50,7 +50,7 @@ order_value (Drawn n) = drawn n
 
 -- the plane of a world
 abbrev pub world_plane : World → MapValue
-world_plane w = plane_of w.tx w.ty w.w w.h w.off.items
+world_plane w = w.map
 
 -- a world, by its numbers and the lists that its vectors hold
 abbrev pub world_value : World → WorldValue

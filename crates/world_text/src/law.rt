@@ -16,7 +16,7 @@ pub fn laws(world: &World)
     ensures cut { AreCut }
 {
     // Only the contract speaks of the arguments; they are read so that none is unused.
-    let _tiles = world.tx;
+    let _tiles = world.map.tiles();
 }
 
 /// What holds of the text that `print` writes of a world that `name` gave with these names: read
@@ -29,6 +29,6 @@ pub fn reads_again(world: &World, names: &[Name])
     ensures cut { AreWorldCuts names.now (world_value world.now) }
 {
     // Only the contract speaks of the arguments; they are read so that none is unused.
-    let _tiles = world.tx;
+    let _tiles = world.map.tiles();
     let _names = names.len();
 }

@@ -15,6 +15,7 @@ use draw_stream::{AttemptPlan, Script};
 use feast_base::{Name, NoMemory};
 use std::alloc::Global;
 use std::collections::HashMap;
+use tile_map::Map;
 
 /// The type number of each name: its place among the names, from 1, the first one if it has
 /// several.
@@ -148,12 +149,10 @@ fn world(alloc: Global, raw: RawWorld, names: &[Name]) -> Result<World, WorldFau
         draft.off.as_slice(),
         sites,
     )?;
+    let off = draft.off.as_slice();
+    let map = Map::with_off(alloc, draft.tx, draft.ty, draft.w, draft.h, off)?;
     Ok(World {
-        tx: draft.tx,
-        ty: draft.ty,
-        w: draft.w,
-        h: draft.h,
-        off: draft.off,
+        map,
         plan,
         atoms,
         order: order(draft.order, draft.order_seed),

@@ -17,6 +17,7 @@ use draw_stream::{Attempt, Attempts};
 use feast_base::{Name, NoMemory};
 use std::alloc::Global;
 use text_lines::{Field, push_line};
+use tile_map::Map;
 
 /// Appends a header.
 fn push_header(out: &mut Vec<u8>, second: bool) -> Result<(), NoMemory>
@@ -43,24 +44,44 @@ fn push_two(out: &mut Vec<u8>, word: &[u8], a: u32, b: u32) -> Result<(), NoMemo
     )
 }
 
-/// Whether a tile is off.
-fn is_one_off(off: &[bool]) -> bool
-    ensures { result ≡ list_any (λ o. o) off.now }
+/// Whether a tile of a map is off.
+fn is_one_off(map: &Map) -> bool
+    ensures { result ≡ list_any (λ o. o) map.now.off }
 {
-    off.iter().any(|off| *off)
+    for tile in 0..map.tiles() {
+        if !map.is_on(tile) {
+            return true;
+        }
+    }
+    false
+}
+
+/// How many tiles a row of a map's tiles has.
+fn tiles_across(map: &Map) -> u32
+    ensures value { result ≡ map.now.tx }
+    ensures valid { IsMap map.now }
+{
+    map.width() / map.tile_width()
+}
+
+/// How many tiles a column of a map's tiles has.
+fn tiles_down(map: &Map) -> u32
+    ensures value { result ≡ map.now.ty }
+{
+    map.height() / map.tile_height()
 }
 
 /// Appends the lines of a plane: the header, how many tiles there are, and their size.
-fn push_plane(out: &mut Vec<u8>, world: &World) -> Result<(), NoMemory>
-    ensures { Appends out.old.items out.new.items result (lines_text (plane_lines (world_plane world.now))) }
+fn push_plane(out: &mut Vec<u8>, map: &Map) -> Result<(), NoMemory>
+    ensures { Appends out.old.items out.new.items result (lines_text (plane_lines map.now)) }
 {
-    push_header(out, is_one_off(world.off.as_slice()))?;
-    push_two(out, b"tiles", world.tx, world.ty)?;
-    push_two(out, b"size", world.w, world.h)
+    push_header(out, is_one_off(map))?;
+    push_two(out, b"tiles", tiles_across(map), tiles_down(map))?;
+    push_two(out, b"size", map.tile_width(), map.tile_height())
 }
 
 /// Appends the `off` line of a tile, if it is off.
-fn push_mark(out: &mut Vec<u8>, tile: usize, is_off: bool) -> Result<(), NoMemory>
+fn push_mark(out: &mut Vec<u8>, tile: u32, is_off: bool) -> Result<(), NoMemory>
     ensures { Appends out.old.items out.new.items result (lines_text (off_one tile is_off)) }
 {
     if is_off {
@@ -72,23 +93,24 @@ fn push_mark(out: &mut Vec<u8>, tile: usize, is_off: bool) -> Result<(), NoMemor
 
 /// Appends an `off` line for each tile that is off.
 #[tactic(auto, unfolding(crate::specs::Printed::off_lines))]
-fn push_off(out: &mut Vec<u8>, off: &[bool]) -> Result<(), NoMemory>
-    ensures { Appends out.old.items out.new.items result (lines_text (off_lines 0 off.now)) }
+fn push_off(out: &mut Vec<u8>, map: &Map) -> Result<(), NoMemory>
+    ensures { Appends out.old.items out.new.items result (lines_text (off_lines 0 map.now.off)) }
 {
-    for (tile, is_off) in off.iter().enumerate() {
-        push_mark(out, tile, *is_off)?;
+    for tile in 0..map.tiles() {
+        push_mark(out, tile, !map.is_on(tile))?;
     }
     Ok(())
 }
 
 /// Appends the line of an attempt of a tile.
-fn push_try(out: &mut Vec<u8>, world: &World, tile: u32, attempt: &Attempt) -> Result<(), NoMemory>
-    requires map { IsMap (world_plane world.now) }
-    requires tile { tile < tiles_of (world_plane world.now) }
-    ensures { Appends out.old.items out.new.items result (text_of_line (try_line (world_plane world.now) tile attempt.now)) }
+fn push_try(out: &mut Vec<u8>, map: &Map, tile: u32, attempt: &Attempt) -> Result<(), NoMemory>
+    requires { tile < tiles_of map.now }
+    ensures { Appends out.old.items out.new.items result (text_of_line (try_line map.now tile attempt.now)) }
 {
-    let x = tile % world.tx * world.w + attempt.centre % world.w;
-    let y = tile / world.tx * world.h + attempt.centre / world.w;
+    let across = tiles_across(map);
+    let (width, height) = (map.tile_width(), map.tile_height());
+    let x = tile % across * width + attempt.centre % width;
+    let y = tile / across * height + attempt.centre / width;
     push_line(
         out,
         &[
@@ -104,16 +126,15 @@ fn push_try(out: &mut Vec<u8>, world: &World, tile: u32, attempt: &Attempt) -> R
 /// Appends the lines of the attempts of a tile that are left.
 fn push_tries(
     out: &mut Vec<u8>,
-    world: &World,
+    plane: &Map,
     tile: u32,
     mut attempts: Attempts,
 ) -> Result<(), NoMemory>
-    requires map { IsMap (world_plane world.now) }
-    requires tile { tile < tiles_of (world_plane world.now) }
-    ensures { Appends out.old.items out.new.items result (lines_text (map (try_line (world_plane world.now) tile) attempts)) }
+    requires { tile < tiles_of plane.now }
+    ensures { Appends out.old.items out.new.items result (lines_text (map (try_line plane.now tile) attempts)) }
 {
     while let Some(attempt) = attempts.next() {
-        push_try(out, world, tile, &attempt)?;
+        push_try(out, plane, tile, &attempt)?;
     }
     Ok(())
 }
@@ -121,21 +142,19 @@ fn push_tries(
 /// Appends the lines of the attempts of all tiles.
 #[tactic(auto, unfolding(crate::specs::Printed::try_lines))]
 fn push_lists(alloc: Global, out: &mut Vec<u8>, world: &World) -> Result<(), NoMemory>
-    requires map { IsMap (world_plane world.now) }
-    requires lists { length world.now.plan.lists ≡ tiles_of (world_plane world.now) }
+    requires { length world.now.plan.lists ≡ tiles_of (world_plane world.now) }
     ensures { Appends out.old.items out.new.items result (lines_text (try_lines (world_plane world.now) 0 world.now.plan.lists)) }
 {
-    for tile in 0..world.tx * world.ty {
+    for tile in 0..world.map.tiles() {
         let attempts = world.plan.of_tile(alloc, tile)?;
-        push_tries(out, world, tile, attempts)?;
+        push_tries(out, &world.map, tile, attempts)?;
     }
     Ok(())
 }
 
 /// Appends the lines of the attempts.
 fn push_plan(alloc: Global, out: &mut Vec<u8>, world: &World) -> Result<(), NoMemory>
-    requires map { IsMap (world_plane world.now) }
-    requires lists { length world.now.plan.lists ≡ tiles_of (world_plane world.now) }
+    requires { length world.now.plan.lists ≡ tiles_of (world_plane world.now) }
     ensures { Appends out.old.items out.new.items result (lines_text (plan_lines (world_plane world.now) world.now.plan.lists world.now.plan.origin)) }
 {
     match world.plan.origin() {
@@ -228,8 +247,8 @@ pub fn print(
     requires { IsNamed names.now (world_value world.now) }
     ensures { Appends out.old.items out.new.items result (world_text names.now (world_value world.now)) }
 {
-    push_plane(out, world)?;
-    push_off(out, world.off.as_slice())?;
+    push_plane(out, &world.map)?;
+    push_off(out, &world.map)?;
     push_plan(alloc, out, world)?;
     push_atoms(out, names, world.atoms.as_slice())?;
     push_order(alloc, out, &world.order)

@@ -2,6 +2,7 @@
 
 use bit_field::Atom;
 use draw_stream::AttemptPlan;
+use tile_map::Map;
 
 /// An atom and its site.
 #[derive(Clone, Copy)]
@@ -23,19 +24,11 @@ pub enum Order {
     Seed(u64),
 }
 
-/// A world: `tx` by `ty` tiles of `w` by `h` sites, some of which may be off, the attempts of the
-/// tiles, the atoms at the start, and the order of a stepped run.
+/// A world: its tiles, some of which may be off, their attempts, the atoms at the start, and the
+/// order of a stepped run.
 pub struct World {
-    /// How many tiles a row of them has, 1 to 8.
-    pub tx: u32,
-    /// How many tiles a column of them has, 1 to 8.
-    pub ty: u32,
-    /// How many sites a tile has in a row, 8 to 64.
-    pub w: u32,
-    /// How many sites a tile has in a column, 8 to 64.
-    pub h: u32,
-    /// For each tile, row by row, whether it is off.
-    pub off: Vec<bool>,
+    /// The tiles of the plane.
+    pub map: Map,
     /// The attempts of each tile.
     pub plan: AttemptPlan,
     /// The atoms that are not empty, in the order in which they were placed.
@@ -48,11 +41,7 @@ pub struct World {
 impl Drop for World {
     fn drop(self) {
         let World {
-            tx,
-            ty,
-            w,
-            h,
-            off,
+            map,
             plan,
             atoms,
             order,

@@ -1,24 +1,21 @@
-use Rattle.std.proofs.Common.{ℕ, List, length, subst, sym}
+use Rattle.std.proofs.Common.{ℕ, List, length, refl, subst, sym}
 use Rattle.feast_run.proofs.Judged.{line_audits, plan_of, replay_named, setting_same}
 use Rattle.feast_run.proofs.Runs.{ready_valid}
 use Rattle.feast_run.specs.Acting.{acts}
 use Rattle.feast_run.specs.Values.{elements_value, journal_value, ready_value}
 use Rattle.grid_print.specs.Report.{AreNamed}
 use Rattle.cell_grid.specs.Records.{replay}
-use Rattle.journal_check.specs.Entries.{IsPlanOf}
-use Rattle.tile_map.specs.Plane.{MapValue}
 use Rattle.window_sites.specs.Window.{WindowValue}
 use Rattle.cell_grid.specs.Known.{BringsNone}
 use Rattle.world_text.specs.Values.{world_value}
 use Rattle.feast_run.proofs.auditing.audit_line.Goals as goal
 
-pub start-requires-clause-world : goal.start-requires-clause-world
-start-requires-clause-world c = ready_valid c.args.ready.now c.requires
+pub start-requires : goal.start-requires
+start-requires c = ready_valid c.args.ready.now c.requires
 
 pub judge-requires-clause-plan : goal.judge-requires-clause-plan
 judge-requires-clause-plan c =
-    let w = world_value c.args.ready.now.world in
-    subst (λ (m : MapValue). IsPlanOf m w.plan) (sym c.requires.map) (plan_of w (ready_valid c.args.ready.now c.requires))
+    plan_of (world_value c.args.ready.now.world) (ready_valid c.args.ready.now c.requires)
 
 pub judge-requires-clause-named : goal.judge-requires-clause-named
 judge-requires-clause-named c =
@@ -33,5 +30,5 @@ judge-requires-clause-named c =
 pub returns : goal.returns
 returns c =
     let r = ready_value c.args.ready.now in
-    let same = setting_same r c.args.ready.now.map (acts c.in_ok-actor.actor) c.names-names.result.now c.in_ok-grid.grid c.requires.map c.in_ok-actor.ensures c.names-names.ensures c.in_ok-grid.ensures.grid in
+    let same = setting_same r (world_value c.args.ready.now.world).plane (acts c.in_ok-actor.actor) c.names-names.result.now c.in_ok-grid.grid refl c.in_ok-actor.ensures c.names-names.ensures c.in_ok-grid.ensures.grid in
     line_audits (λ v. v.items) r c.args.bytes.now (journal_value c.args.journal.now) _ c.in_ok-judgement.judgement c.judgement_line.result same c.in_ok-judgement.ensures c.judgement_line.ensures

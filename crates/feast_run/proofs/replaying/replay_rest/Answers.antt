@@ -9,8 +9,8 @@ use Rattle.world_runs.specs.Worlds.{IsLiveEvent}
 use Rattle.world_text.specs.Values.{world_value}
 use Rattle.feast_run.proofs.replaying.replay_rest.Goals as goal
 
-pub load_journal-requires-clause-world : goal.load_journal-requires-clause-world
-load_journal-requires-clause-world g c = ready_valid c.args.ready c.requires
+pub load_journal-requires : goal.load_journal-requires
+load_journal-requires g c = ready_valid c.args.ready c.requires
 
 pub replay_text-requires-clause-live : goal.replay_text-requires-clause-live
 replay_text-requires-clause-live g c =

@@ -5,8 +5,8 @@ use Rattle.feast_run.specs.Values.{journal_value}
 use Rattle.world_text.specs.Values.{world_value}
 use Rattle.feast_run.proofs.rewinding.rewind_rest.Goals as goal
 
-pub load_journal-requires-clause-world : goal.load_journal-requires-clause-world
-load_journal-requires-clause-world g c = ready_valid c.args.ready c.requires
+pub load_journal-requires : goal.load_journal-requires
+load_journal-requires g c = ready_valid c.args.ready c.requires
 
 pub rewind_loaded-requires-clause-live : goal.rewind_loaded-requires-clause-live
 rewind_loaded-requires-clause-live g c =

@@ -12,8 +12,8 @@ use Rattle.cell_grid.specs.Known.{BringsNone}
 use Rattle.world_text.specs.Values.{world_value}
 use Rattle.feast_run.proofs.rewinding.rewind_text.Goals as goal
 
-pub start-requires-clause-world : goal.start-requires-clause-world
-start-requires-clause-world c = ready_valid c.args.ready.now c.requires.ready
+pub start-requires : goal.start-requires
+start-requires c = ready_valid c.args.ready.now c.requires.ready
 
 pub rewound-requires-clause-live : goal.rewound-requires-clause-live
 rewound-requires-clause-live c = λ k d lt. live_in (world_value c.args.ready.now.world).plane c.in_ok-first.first _ _ c.in_ok-first.ensures.fits (c.requires.live k d lt)

@@ -1,6 +1,5 @@
 use denote.Param.Send.{sendable}
 use Rattle.std.proofs.Crossing.{crosses}
-use Rattle.tile_map.proofs.Numbers.{tiles_few}
 use Rattle.code_file.proofs.set.CodeSet.TheSendSync as CodeSet
 use Rattle.event_machine.proofs.machine.Machine.TheSendSync as Machine
 use Rattle.element_set.proofs.Sharing.{set_sync}
@@ -12,9 +11,6 @@ use Rattle.feast_run.proofs.Runs.{ready_valid}
 use Rattle.feast_run.specs.Acting.{acts}
 use Rattle.feast_run.specs.Values.{elements_value}
 use Rattle.feast_run.proofs.running.outcome.Goals as goal
-
-pub tiles_in-requires : goal.tiles_in-requires
-tiles_in-requires g c = tiles_few (world_value c.args.ready.now.world).plane (ready_valid c.args.ready.now c.requires).map
 
 pub threaded-requires-send-B : goal.threaded-requires-send-B
 threaded-requires-send-B g c κs = search (sendable, crosses, set_sync, CodeSet.the_sync, Machine.the_send) depth 16

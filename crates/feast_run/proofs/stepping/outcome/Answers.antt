@@ -6,11 +6,7 @@ use Rattle.feast_run.proofs.Machines.{outcome_by}
 use Rattle.feast_run.proofs.Runs.{ready_valid}
 use Rattle.feast_run.specs.Acting.{acts}
 use Rattle.feast_run.specs.Values.{elements_value}
-use Rattle.tile_map.proofs.Numbers.{tiles_few}
 use Rattle.feast_run.proofs.stepping.outcome.Goals as goal
-
-pub tiles_in-requires : goal.tiles_in-requires
-tiles_in-requires c = tiles_few (world_value c.args.ready.now.world).plane (ready_valid c.args.ready.now c.requires).map
 
 pub stepped-requires-clause-world : goal.stepped-requires-clause-world
 stepped-requires-clause-world c = ready_valid c.args.ready.now c.requires

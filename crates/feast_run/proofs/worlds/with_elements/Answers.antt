@@ -4,7 +4,6 @@ use Rattle.feast_run.specs.Halting.{decides}
 use Rattle.feast_run.specs.Stages.{world_refused}
 use Rattle.feast_run.specs.Tellings.{Tells}
 use Rattle.feast_run.specs.Values.{elements_value, ready_value}
-use Rattle.world_runs.proofs.Valid.{world_valid}
 use Rattle.world_text.specs.Named.{named}
 use Rattle.world_text.specs.Printed.{IsNamed}
 use Rattle.world_text.specs.Values.{world_value}
@@ -12,9 +11,6 @@ use Rattle.feast_run.proofs.worlds.with_elements.Goals as goal
 
 pub named-requires : goal.named-requires
 named-requires c = omega (arith, ap length c.names.ensures, c.requires.few)
-
-pub map_of-requires : goal.map_of-requires
-map_of-requires c = (world_valid _ (world_value c.in_ok-world.world) c.in_ok-world.ensures.named).map
 
 pub returns-clause-tells : goal.returns-clause-tells
 returns-clause-tells c =
@@ -27,7 +23,6 @@ returns-clause-ready c =
     let w = world_value c.in_ok-world.world in
     record {
       named = subst (λ (names : List (List ℕ)). IsNamed names w) c.names.ensures c.in_ok-world.ensures.named;
-      map = c.in_ok-map.ensures;
       brings = c.requires.brings;
     }
 

@@ -1,12 +1,11 @@
-use Rattle.std.proofs.Common.{◌≡◌, ◌<◌, ℕ, List, All, length, ap, sym, subst, ◌∙◌, arith}
+use Rattle.std.proofs.Common.{refl, ◌≡◌, ◌<◌, ℕ, List, All, length, ap, sym, subst, ◌∙◌, arith}
 use Rattle.std.proofs.lemmas.Result.{IfOk-weaker}
 use Rattle.cell_grid.specs.Grid.{IsGrid}
-use Rattle.plane_grid.specs.PlaneGrids.{IsGridOf}
 use Rattle.tile_map.proofs.Numbers.{tiles_few}
-use Rattle.tile_map.specs.Plane.{MapValue, tiles_of}
+use Rattle.tile_map.specs.Plane.{tiles_of}
 use Rattle.stepped_world.specs.Ends.{IsOutcome}
 use Rattle.world_text.specs.Values.{world_value}
-use Rattle.world_runs.specs.Fresh.{AllCanAttempt, setting_of}
+use Rattle.world_runs.specs.Fresh.{setting_of}
 use Rattle.world_runs.specs.Orders.{order_in}
 use Rattle.plane_grid.proofs.Blanks.{some_tiles}
 use Rattle.world_runs.proofs.Beginning.{all_can, all_ready}
@@ -16,15 +15,15 @@ use Rattle.world_runs.proofs.stepping.stepped.Goals as goal
 pub fresh_tiles-requires-clause-can : goal.fresh_tiles-requires-clause-can
 fresh_tiles-requires-clause-can g c =
     let w = world_value c.args.world.now in
-    subst (λ m. AllCanAttempt m w.plan) (sym c.requires.map) (all_can w c.requires.world c.plan_fits.ensures)
+    all_can w c.requires.world c.plan_fits.ensures
 
 pub run_settled-requires-clause-start : goal.run_settled-requires-clause-start
-run_settled-requires-clause-start g c = (setting_of (world_value c.args.world.now) c.requires.meaning.0, record { tiles_are = all_ready g.B.Behave.after (world_value c.args.world.now) c.args.map.now c.requires.meaning.0 c.args.behaves.items c.in_ok-tiles.tiles.items c.in_ok-grid.grid c.requires.map c.requires.world c.plan_fits.ensures (subst IsGrid c.grid.view_is c.grid.invariant.0) c.in_ok-grid.ensures.fits c.in_ok-grid.ensures.grid c.in_ok-tiles.ensures c.requires.one c.requires.meaning.1; edges = c.in_ok-board.ensures.edges })
+run_settled-requires-clause-start g c = (setting_of (world_value c.args.world.now) c.requires.meaning.0, record { tiles_are = all_ready g.B.Behave.after (world_value c.args.world.now) c.args.world.now.map c.requires.meaning.0 c.args.behaves.items c.in_ok-tiles.tiles.items c.in_ok-grid.grid refl c.requires.world c.plan_fits.ensures (subst IsGrid c.grid.view_is c.grid.invariant.0) c.in_ok-grid.ensures.fits c.in_ok-grid.ensures.grid c.in_ok-tiles.ensures c.requires.one c.requires.meaning.1; edges = c.in_ok-board.ensures.edges })
 
 pub run_settled-requires-clause-names : goal.run_settled-requires-clause-names
 run_settled-requires-clause-names g c =
-    let within = subst (λ (m : MapValue). All (λ t. t < tiles_of m) c.in_ok-order.order.items) (sym c.requires.map) c.in_ok-order.ensures.tiles in
-    holds_along (λ t. t < tiles_of c.args.map.now) c.into_iter.result (subst (All (λ t. t < tiles_of c.args.map.now)) (sym c.into_iter.ensures.rest) within)
+    let within = c.in_ok-order.ensures.tiles in
+    holds_along (λ t. t < tiles_of c.args.world.now.map) c.into_iter.result (subst (All (λ t. t < tiles_of c.args.world.now.map)) (sym c.into_iter.ensures.rest) within)
 
 pub returns : goal.returns
 returns g c =
@@ -32,8 +31,8 @@ returns g c =
     let long = c.into_iter.ensures.len ∙ (c.in_ok-order.order.ok.0 ∙ ap length (sym c.into_iter.ensures.rest)) in
     IfOk-weaker c.run_settled.result _ _ (λ o h meaning one.
     let all : h.0 ≡ order_in w = given_all c.into_iter.result h.0 long h.1 ∙ (c.into_iter.ensures.rest ∙ c.in_ok-order.ensures.value) in
-    let settled = h.2 (setting_of w meaning) (record { tiles_are = all_ready g.B.Behave.after (world_value c.args.world.now) c.args.map.now meaning c.args.behaves.items c.in_ok-tiles.tiles.items c.in_ok-grid.grid c.requires.map c.requires.world c.plan_fits.ensures (subst IsGrid c.grid.view_is c.grid.invariant.0) c.in_ok-grid.ensures.fits c.in_ok-grid.ensures.grid c.in_ok-tiles.ensures c.requires.one one; edges = c.in_ok-board.ensures.edges }) in
-    subst (λ (xs : List ℕ). IsOutcome w.plane (setting_of w meaning) xs o) all (subst (λ (m : MapValue). IsOutcome m (setting_of w meaning) h.0 o) c.requires.map settled)) c.run_settled.ensures.outcome
+    let settled = h.2 (setting_of w meaning) (record { tiles_are = all_ready g.B.Behave.after (world_value c.args.world.now) c.args.world.now.map meaning c.args.behaves.items c.in_ok-tiles.tiles.items c.in_ok-grid.grid refl c.requires.world c.plan_fits.ensures (subst IsGrid c.grid.view_is c.grid.invariant.0) c.in_ok-grid.ensures.fits c.in_ok-grid.ensures.grid c.in_ok-tiles.ensures c.requires.one one; edges = c.in_ok-board.ensures.edges }) in
+    subst (λ (xs : List ℕ). IsOutcome w.plane (setting_of w meaning) xs o) all settled) c.run_settled.ensures.outcome
 
 pub plan_fits-requires : goal.plan_fits-requires
 plan_fits-requires g c =
@@ -41,10 +40,10 @@ plan_fits-requires g c =
     omega (arith, some, c.requires.world.lists)
 
 pub fresh_tiles-requires-clause-start : goal.fresh_tiles-requires-clause-start
-fresh_tiles-requires-clause-start g c = subst (λ m. IsGridOf m c.in_ok-grid.grid) (sym c.requires.map) c.in_ok-grid.ensures.fits
+fresh_tiles-requires-clause-start g c = c.in_ok-grid.ensures.fits
 
 pub fresh_tiles-requires-clause-lists : goal.fresh_tiles-requires-clause-lists
-fresh_tiles-requires-clause-lists g c = c.requires.world.lists ∙ ap tiles_of (sym c.requires.map)
+fresh_tiles-requires-clause-lists g c = c.requires.world.lists
 
 pub order_of-requires-clause-tiles : goal.order_of-requires-clause-tiles
 order_of-requires-clause-tiles g c =

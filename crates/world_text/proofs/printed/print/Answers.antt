@@ -10,11 +10,11 @@ use Rattle.world_text.specs.Values.{world_value}
 use Rattle.world_text.proofs.printed.print.Goals as goal
 
 pub push_plan-requires : goal.push_plan-requires
-push_plan-requires c = let p = named_prints c.args.names.now c.requires.0 (world_value c.args.world.now) c.requires.1 c.requires.2 in record { map = p.map; lists = p.lists }
+push_plan-requires c = let p = named_prints c.args.names.now c.requires.0 (world_value c.args.world.now) c.requires.1 c.requires.2 in p.lists
 
 pub push_atoms-requires : goal.push_atoms-requires
 push_atoms-requires c = let p = named_prints c.args.names.now c.requires.0 (world_value c.args.world.now) c.requires.1 c.requires.2 in
-    subst (All (λ (p : Placed). (1 ≤ p.atom.kind) × (p.atom.kind ≤ length c.args.names.now))) (sym c.as_slice-2.ensures.value) p.atoms
+    subst (All (λ (p : Placed). (1 ≤ p.atom.kind) × (p.atom.kind ≤ length c.args.names.now))) (sym c.as_slice.ensures.value) p.atoms
 
 pub returns-in_err-push_off : goal.returns-in_err-push_off
 returns-in_err-push_off c =
@@ -47,7 +47,7 @@ returns c =
     let last = c.push_order.new.out.items in
     subst (λ t. Appends out last c.push_order.result t) (parts_joined head marks plan atoms order)
     (Appends-then out _ last (lines_text head) _ c.push_order.result c.in_ok-push_plane.ensures
-    (Appends-then _ _ last (lines_text marks) _ c.push_order.result (c.in_ok-push_off.ensures ∙ ap (λ z. c.push_plane.new.out.items ++ lines_text (off_lines 0 z)) c.as_slice.ensures.value)
+    (Appends-then _ _ last (lines_text marks) _ c.push_order.result c.in_ok-push_off.ensures
     (Appends-then _ _ last (lines_text plan) _ c.push_order.result c.in_ok-push_plan.ensures
     (Appends-then _ _ last (lines_text atoms) (lines_text order) c.push_order.result
-    (c.in_ok-push_atoms.ensures ∙ ap (λ (z : List Placed). c.push_plan.new.out.items ++ lines_text (map (atom_line c.args.names.now) z)) c.as_slice-2.ensures.value) c.push_order.ensures))))
+    (c.in_ok-push_atoms.ensures ∙ ap (λ (z : List Placed). c.push_plan.new.out.items ++ lines_text (map (atom_line c.args.names.now) z)) c.as_slice.ensures.value) c.push_order.ensures))))

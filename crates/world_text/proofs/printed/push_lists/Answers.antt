@@ -19,7 +19,7 @@ pub loop-tile-preserved : goal.loop-tile-preserved
 loop-tile-preserved c =
     let w = world_value c.args.world.now in
     let lt : c.loop-tile.tile < length w.plan.lists = omega
-    (arith, c.requires.lists, c.loop-tile-test.true) in
+    (arith, c.requires, c.tiles-tile-end.ensures.count, c.loop-tile-test.true) in
     record {
       done = tries_more w.plane c.loop-tile.tile w.plan.lists c.loop-tile.out.items
           c.push_tries.new.out.items _ c.in_ok-attempts.attempts lt c.in_ok-attempts.ensures.value
