@@ -6,7 +6,7 @@ use Rattle.cell_grid.specs.Records.{replay as replay_from}
 use Rattle.event_journal.specs.declared.abandoned.Abandoned.{Abandoned}
 use Rattle.event_journal.specs.Accounts.{AreExcused, IsAccounted, IsStamped}
 use Rattle.feast_run.specs.Stages.{JournalValue, ReadyValue}
-use Rattle.grid_print.specs.Report.{report}
+use Rattle.report_text.specs.Report.{report}
 use Rattle.world_runs.specs.OneTile.{events_of}
 use Rattle.tile_map.specs.Plane.{tiles_of}
 use Rattle.world_runs.specs.Start.{start_grid}

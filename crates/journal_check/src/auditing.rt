@@ -11,8 +11,8 @@ use crate::stamped::misstamped;
 use crate::verdict::Verdict;
 use cell_grid::{Behave, Grid};
 use draw_stream::AttemptPlan;
-use event_journal::ReadJournal;
 use feast_base::NoMemory;
+use report_text::ReadJournal;
 use std::alloc::Global;
 use tile_map::Map;
 

@@ -8,7 +8,7 @@ use Rattle.draw_stream.specs.Plans.{PlanValue}
 use Rattle.tile_map.specs.Plane.{MapValue}
 use Rattle.event_journal.specs.Accounts.{AreExcused, IsAccounted, IsStamped}
 use Rattle.event_journal.specs.declared.abandoned.Abandoned.{Abandoned}
-use Rattle.grid_print.specs.Report.{report}
+use Rattle.report_text.specs.Report.{report}
 use Rattle.text_lines.specs.Lines.{text_of}
 use Rattle.journal_check.specs.Clocks.{IsFirstMisstamped}
 use Rattle.journal_check.specs.Excuses.{IsFirstUnexcused}

@@ -1,7 +1,7 @@
 //! The judgement on a report.
 ghost use Rattle.std.specs.Prelude.{◌≡◌, ◌<◌, ◌≤◌, ◌^◌, ◌↔◌, IfOk, IsTrue, length};
 ghost use Rattle.cell_grid.specs.Records.{replay};
-ghost use Rattle.grid_print.specs.Report.{AreNamed, report};
+ghost use Rattle.report_text.specs.Report.{AreNamed, report};
 ghost use Rattle.serial_order.specs.Outcomes.{IsPlaneGrid};
 ghost use Rattle.journal_check.specs.Entries.{IsPlanOf};
 ghost use Rattle.report_judge.specs.Judging.{Judges, abandoned_line, event_line, judged_world, line_count};
@@ -9,10 +9,10 @@ ghost use Rattle.report_judge.specs.Judging.{Judges, abandoned_line, event_line,
 use crate::judgement::Judgement;
 use cell_grid::{Behave, Grid, Record};
 use draw_stream::AttemptPlan;
-use event_journal::{Abandoned, ReadJournal};
+use event_journal::Abandoned;
 use feast_base::{Name, NoMemory};
-use grid_print::report_text;
 use journal_check::{Verdict, audit};
+use report_text::{ReadJournal, printed_report};
 use std::alloc::Global;
 use tile_map::Map;
 
@@ -60,7 +60,7 @@ fn is_report(
     requires { AreNamed names.now grid.now.atoms }
     ensures { IfOk result (λ b. IsTrue b ↔ (bytes.now ≡ report names.now grid.now records.now abandoned.now)) }
 {
-    let text = report_text(alloc, grid, names, records, abandoned)?;
+    let text = printed_report(alloc, grid, names, records, abandoned)?;
     Ok(are_same(bytes, text.as_slice()))
 }
 

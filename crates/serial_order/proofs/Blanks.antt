@@ -16,7 +16,7 @@ use Rattle.tile_map.proofs.Spans.{times_more, plane_test}
 use Rattle.cell_grid.specs.Grid.{GridValue, empty_grid}
 use Rattle.cell_grid.specs.Shut.{rectangle, is_inside, IsEmptyIn, cleared, shut}
 use Rattle.cell_grid.proofs.Cleared.{IsGrid-shut}
-use Rattle.event_journal.proofs.Extents.{sites_is}
+use Rattle.serial_order.proofs.Extents.{sites_is}
 use Rattle.serial_order.specs.Outcomes.{IsAreaOf, IsPlaneGrid, IsShutTo}
 use Rattle.serial_order.specs.declared.blank.TileRectangle.{TileRectangle}
 

@@ -33,4 +33,5 @@ pub mod BlankGrid
 pub mod Filling
 pub mod Outcomes
 pub mod Boards
+pub mod Extents
 pub mod Resting

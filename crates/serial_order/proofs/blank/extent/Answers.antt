@@ -1,6 +1,6 @@
 use Rattle.std.proofs.Common.{◌-◌, ap, ◌∙◌}
 use Rattle.tile_map.specs.Spans.{right_of, bottom_of}
-use Rattle.event_journal.proofs.Extents.{width_is, height_is}
+use Rattle.serial_order.proofs.Extents.{width_is, height_is}
 use Rattle.serial_order.proofs.blank.extent.Goals as goal
 
 pub returns-clause-width : goal.returns-clause-width
