@@ -7,6 +7,7 @@ pub mod Lengths
 pub mod Logs
 pub mod Merged
 pub mod Reading
+pub mod Serial
 pub mod Text
 pub mod Tournaments
 pub mod Walks
