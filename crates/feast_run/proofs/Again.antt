@@ -40,9 +40,7 @@ read_back files word world e grid records abandoned text sound told run shown =
       wide = size.wide;
       sites = size.sites;
       named = left_named (ready_with world e) grid records run.replayed sound.brings (world_known names world named);
-      accounted = run.accounted;
-      stamped = run.stamped;
-      excused = run.excused;
+      owes = run.owes;
     } in
     let fits = plan_fits names world named in
     let says = read_again names world.plane world.plan sound.named fits (report_value grid records abandoned) left in

@@ -174,6 +174,6 @@ report_short names m plan short p g rs gs left =
     let sites = left.sites in
     let atoms = atoms_low names g.width 0 g.atoms short (omega (arith, wide, plane.0)) (omega (arith, sites, plane.1)) in
     let few = atoms.few in
-    let records = records_small m plan p rs gs left.accounted left.stamped in
-    let abandoned = abandoned_small m plan p rs gs left.accounted left.excused in
-    report_low names (shown g) rs gs atoms.each records abandoned (omega (arith, few, sites, plane.1)) (events_few m plan p rs gs left.accounted) (given_up_few m plan p rs gs left.accounted)
+    let records = records_small m plan p rs gs left.owes.accounted left.owes.stamped in
+    let abandoned = abandoned_small m plan p rs gs left.owes.accounted left.owes.excused in
+    report_low names (shown g) rs gs atoms.each records abandoned (omega (arith, few, sites, plane.1)) (events_few m plan p rs gs left.owes.accounted) (given_up_few m plan p rs gs left.owes.accounted)

@@ -93,7 +93,7 @@ alone_reports r text alone shown =
       grid = grid_after r (events_of r.world.plane r.world.plan);
       records = events_of r.world.plane r.world.plan;
       abandoned = [];
-      run = record { replayed = refl; accounted = owes.accounted; stamped = owes.stamped; excused = owes.excused };
+      run = record { owes = owes; replayed = refl };
       alone = λ one. (refl, refl);
       shown = shown;
     }

@@ -1,8 +1,9 @@
 //! The audit of a report.
 ghost use Rattle.std.specs.Prelude.{◌≡◌, IfOk};
+ghost use Rattle.event_journal.specs.Serial.{course};
 ghost use Rattle.serial_order.specs.Outcomes.{IsPlaneGrid};
 ghost use Rattle.journal_check.specs.Entries.{IsPlanOf};
-ghost use Rattle.journal_check.specs.Verdicts.{IsVerdict, audited_world};
+ghost use Rattle.journal_check.specs.Verdicts.{IsVerdict};
 
 use crate::accounted::is_accounted;
 use crate::copying::copied;
@@ -34,7 +35,7 @@ pub fn audit<B: Behave>(
 ) -> Result<Verdict, NoMemory>
     requires plan { IsPlanOf map.now plan.now }
     requires start { IsPlaneGrid map.now start.now }
-    ensures verdict { IfOk result (IsVerdict (audited_world map.now plan.now (B.after behave.old) start.now)
+    ensures verdict { IfOk result (IsVerdict (course map.now plan.now (B.after behave.old) start.now)
         journal.now.records.items journal.now.abandoned.items) }
     ensures meaning { B.after behave.new ≡ B.after behave.old }
 {

@@ -1,10 +1,11 @@
 //! The judgement on a report.
 ghost use Rattle.std.specs.Prelude.{◌≡◌, ◌<◌, ◌≤◌, ◌^◌, ◌↔◌, IfOk, IsTrue, length};
 ghost use Rattle.cell_grid.specs.Records.{replay};
+ghost use Rattle.event_journal.specs.Serial.{course};
 ghost use Rattle.report_text.specs.Report.{AreNamed, report};
 ghost use Rattle.serial_order.specs.Outcomes.{IsPlaneGrid};
 ghost use Rattle.journal_check.specs.Entries.{IsPlanOf};
-ghost use Rattle.report_judge.specs.Judging.{Judges, abandoned_line, event_line, judged_world, line_count};
+ghost use Rattle.report_judge.specs.Judging.{Judges, abandoned_line, event_line, line_count, named_course};
 
 use crate::judgement::Judgement;
 use cell_grid::{Behave, Grid, Record};
@@ -83,7 +84,7 @@ pub fn judge<B: Behave>(
     requires plan { IsPlanOf map.now plan.now }
     requires start { IsPlaneGrid map.now start.now }
     requires named { AreNamed names.now (replay (B.after behave.old) start.now journal.now.records.items).atoms }
-    ensures { IfOk result (Judges (judged_world map.now plan.now (B.after behave.old) names.now start.now) bytes.now
+    ensures { IfOk result (Judges (named_course (course map.now plan.now (B.after behave.old) start.now) names.now) bytes.now
         journal.now.records.items journal.now.abandoned.items) }
 {
     match audit(alloc, map, plan, start, journal, behave)? {

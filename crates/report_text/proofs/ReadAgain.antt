@@ -284,15 +284,15 @@ read_again names m plan formed p = λ v left.
     let wide = left.wide in
     let sites = left.sites in
     let told = told_atoms names g.width 0 g.atoms formed (omega (arith, wide, plane.0)) (omega (arith, sites, plane.1)) left.named in
-    let small = records_small m plan p rs gs left.accounted left.stamped in
-    let ends = abandoned_small m plan p rs gs left.accounted left.excused in
+    let small = records_small m plan p rs gs left.owes.accounted left.owes.stamped in
+    let ends = abandoned_small m plan p rs gs left.owes.accounted left.owes.excused in
     let place = λ (k : ℕ) (d : Record) (lt : k < length rs).
-    let e = left.accounted.events k d lt in
-    in_place m plan (get_or rs k d) e (event_of_plan m plan p rs gs left.accounted (get_or rs k d) e) (stamps_low m rs left.stamped k d lt).0 in
-    let order = events_come m plan rs gs p left.accounted in
+    let e = left.owes.accounted.events k d lt in
+    in_place m plan (get_or rs k d) e (event_of_plan m plan p rs gs left.owes.accounted (get_or rs k d) e) (stamps_low m rs left.owes.stamped k d lt).0 in
+    let order = events_come m plan rs gs p left.owes.accounted in
     let atoms_few = told.few in
-    let records_few = events_few m plan p rs gs left.accounted in
-    let ends_few = given_up_few m plan p rs gs left.accounted in
+    let records_few = events_few m plan p rs gs left.owes.accounted in
+    let ends_few = given_up_few m plan p rs gs left.owes.accounted in
     let many_atoms : length (shown g) < 2 ^ 32 = omega (arith, atoms_few, sites, plane.1) in
     let many_records : length rs < 2 ^ 32 = omega (arith, records_few) in
     let many_abandoned : length gs < 2 ^ 32 = omega (arith, ends_few) in

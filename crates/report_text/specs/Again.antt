@@ -3,8 +3,8 @@ use Rattle.std.specs.Prelude.{ℕ, ◌≡◌, ◌≤◌, ◌<◌, ◌*◌, List,
 use Rattle.cell_grid.specs.declared.record.Record.{Record}
 use Rattle.draw_stream.specs.declared.attempt.Attempt.{Attempt}
 use Rattle.draw_stream.specs.Plans.{PlanValue, attempts}
-use Rattle.event_journal.specs.Accounts.{AreExcused, IsAccounted, IsStamped}
 use Rattle.report_text.specs.Reading.{Said, read_report}
+use Rattle.event_journal.specs.Serial.{OwesNothing}
 use Rattle.event_journal.specs.declared.abandoned.Abandoned.{Abandoned}
 use Rattle.feast_base.specs.TypeNames.{is_type_name}
 use Rattle.tile_map.specs.Plane.{MapValue, IsMap, tiles_of}
@@ -28,15 +28,12 @@ pub record IsDrawablePlan (m : MapValue) (plan : PlanValue) : Type 0 where
   pub attempts : (t : ℕ) → All (IsDrawable m) (attempts plan t)
 
 -- what a run of a plan left, and what holds of it: a grid of the plane whose atoms are empty or
--- have a name, and a journal in which each attempt is accounted for, each stamp is that of the
--- rule, and each abandoned attempt is excused
+-- have a name, and a journal that owes nothing
 pub record IsLeft (names : List (List ℕ)) (m : MapValue) (plan : PlanValue) (v : ReportValue) : Type 0 where
   pub wide : v.grid.width ≡ m.tx * m.w
   pub sites : length v.grid.atoms ≡ m.tx * m.w * (m.ty * m.h)
   pub named : AreNamed names v.grid.atoms
-  pub accounted : IsAccounted m plan v.records v.abandoned
-  pub stamped : IsStamped m v.records
-  pub excused : AreExcused m plan v.records v.abandoned
+  pub owes : OwesNothing m plan v.records v.abandoned
 
 -- the text of a report says these events and these abandoned attempts
 abbrev pub SaysThese : MapValue → List (List Attempt) → List ℕ → List Record → List Abandoned → Type 0
