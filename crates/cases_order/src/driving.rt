@@ -8,7 +8,7 @@ ghost use Rattle.serial_order.specs.Boards.{HasStopped};
 ghost use Rattle.serial_order.specs.Outcomes.{Settles, values_of};
 ghost use Rattle.serial_order.specs.Words.{histories_on};
 ghost use Rattle.cases_order.specs.Driven.{AreMade, IsDriven};
-ghost use Rattle.serial_order.specs.Scene.{setting};
+ghost use Rattle.event_journal.specs.Serial.{course};
 
 use cell_grid::{Behave, Grid};
 use draw_stream::AttemptPlan;
@@ -34,7 +34,7 @@ pub fn tiles<B: Behave + Copy + Drop>(
     requires lists { length plan.now.lists ≡ tiles_of map.now }
     requires can { (t : ℕ) → t < tiles_of map.now → CanAttempt map.now t (attempts plan.now t) }
     ensures count { IfOk result (λ v. length v.items ≡ tiles_of map.now) }
-    ensures fresh { IfOk result (λ v. AreMade B.after map.now (setting (B.after behave) start.now plan.now) v.items) }
+    ensures fresh { IfOk result (λ v. AreMade B.after (course map.now plan.now (B.after behave) start.now) v.items) }
 {
     let mut tiles = Vec::new(alloc);
     for tile in 0..map.tiles() {

@@ -18,9 +18,8 @@ use crate::output::Output;
 use crate::worlds::{Ready, make_ready};
 use cell_grid::Record;
 use event_film::rewound;
-use event_journal::ReadJournal;
 use feast_base::{NoMemory, Shelf};
-use grid_print::grid_text;
+use report_text::{ReadJournal, grid_text};
 use std::alloc::Global;
 use world_runs::start;
 

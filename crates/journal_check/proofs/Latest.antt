@@ -10,6 +10,7 @@ use Rattle.cell_grid.specs.declared.record.Record.{Record}
 use Rattle.tile_map.specs.Plane.{MapValue, Site, tiles_of}
 use Rattle.tile_map.specs.Edges.{is_needed, needs_of, pairs_of}
 use Rattle.event_journal.specs.Accounts.{edges_of, stamp_after}
+use Rattle.event_journal.proofs.Journals.{top}
 use Rattle.journal_check.specs.Clocks.{AreClocks, Ticks, clocks_of, latest, needs_edge, set_at}
 
 -- the greatest of a number and the stamps of some events

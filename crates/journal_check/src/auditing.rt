@@ -1,8 +1,9 @@
 //! The audit of a report.
 ghost use Rattle.std.specs.Prelude.{◌≡◌, IfOk};
+ghost use Rattle.event_journal.specs.Serial.{course};
 ghost use Rattle.plane_grid.specs.PlaneGrids.{IsPlaneGrid};
 ghost use Rattle.journal_check.specs.Entries.{IsPlanOf};
-ghost use Rattle.journal_check.specs.Verdicts.{IsVerdict, audited_world};
+ghost use Rattle.journal_check.specs.Verdicts.{IsVerdict};
 
 use crate::accounted::is_accounted;
 use crate::excused::unexcused;
@@ -10,8 +11,8 @@ use crate::stamped::misstamped;
 use crate::verdict::Verdict;
 use cell_grid::{Behave, Grid};
 use draw_stream::AttemptPlan;
-use event_journal::ReadJournal;
 use feast_base::NoMemory;
+use report_text::ReadJournal;
 use std::alloc::Global;
 use tile_map::Map;
 
@@ -33,7 +34,7 @@ pub fn audit<B: Behave>(
 ) -> Result<Verdict, NoMemory>
     requires plan { IsPlanOf map.now plan.now }
     requires start { IsPlaneGrid map.now start }
-    ensures verdict { IfOk result (IsVerdict (audited_world map.now plan.now (B.after behave.old) start)
+    ensures verdict { IfOk result (IsVerdict (course map.now plan.now (B.after behave.old) start)
         journal.now.records.items journal.now.abandoned.items) }
     ensures meaning { B.after behave.new ≡ B.after behave.old }
 {

@@ -112,7 +112,7 @@ module _ (s : Scene) (o : IsOver s) where
               ∙ grid_is_replay s.map s.meaning s.start (turns s o) (hist s o) (run s o) o.grid o.fits (events s o).0 (events s o).2 in_notes (owner_of s.map u) (edges_at s.map (owner_of s.map u)) u held live (all_edges (owner_of s.map u) u)))
 
   -- two records of one stamp have no site in common
-  pub ties_apart : TiesAreApart s
+  pub ties_apart : TiesAreApart s.map (records s)
   ties_apart n k u i j e a b =
       let p = record_of s o n (contains_in (records s) n i) in
       let q = record_of s o k (contains_in (records s) k j) in
@@ -223,9 +223,7 @@ module _ (s : Scene) (o : IsOver s) where
   one_order = record {
     unworn = none_is_worn s o;
     journal = (are_logs s o, all_logs s o);
-    accounted = accounted s o;
-    stamped = is_stamped s.map (records s) stamps_right;
-    excused = all_excused;
+    owes = record { accounted = accounted s o; stamped = is_stamped s.map (records s) stamps_right; excused = all_excused };
     replayed = replayed;
     small = stamps_small;
     apart = ties_apart;

@@ -5,6 +5,7 @@ use Rattle.cell_grid.specs.Grid.{GridValue}
 use Rattle.cell_grid.specs.Records.{replay}
 use Rattle.cell_grid.specs.declared.record.Record.{Record}
 use Rattle.event_journal.specs.Accounts.{AreExcused, IsAccounted, IsStamped}
+use Rattle.event_journal.specs.Serial.{IsSerial, course}
 use Rattle.event_journal.specs.declared.abandoned.Abandoned.{Abandoned}
 use Rattle.journal_check.specs.Clocks.{IsFirstMisstamped}
 use Rattle.journal_check.specs.Excuses.{IsFirstUnexcused}
@@ -60,5 +61,5 @@ returns-clause-verdict g c =
     let excused = MatchOption-at_none (AreExcused m plan rs gs) (IsFirstUnexcused m plan rs gs) c.in_default-2.is (c.in_ok-k-2.ensures plan accounted) in
     let after = g.B.Behave.after c.args.behave.now in
     let grid = c.replay.ensures.grid in
-    moved (λ r a. IsAccounted m plan r a × IsStamped m r × AreExcused m plan r a × (c.replay.new.self ≡ replay after c.args.start r)) rs c.args.journal.now.records.items gs c.args.journal.now.abandoned.items c.as_slice-records.ensures.value c.as_slice-abandoned.ensures.value
-    (accounted, stamped, excused, grid)
+    moved (λ r a. IsSerial (course m plan after c.args.start) c.replay.new.self r a) rs c.args.journal.now.records.items gs c.args.journal.now.abandoned.items c.as_slice-records.ensures.value c.as_slice-abandoned.ensures.value
+    (record { owes = record { accounted = accounted; stamped = stamped; excused = excused }; replayed = grid })
