@@ -85,7 +85,7 @@ pub all_can : (w : WorldValue) → IsWorld w → IsPlan w.plan → AllCanAttempt
 all_can w h p t inside = can_attempt w h p t inside (attempts w.plan t) refl
 
 -- tiles that were made, all with one meaning, are fresh ones for the run of a world
-all_fresh : {B : Type 0} (after : B → WindowValue → ℕ → WindowValue) (w : WorldValue) (meaning : WindowValue → ℕ → WindowValue) (behaves : List B) (tiles : List (TileWith B)) (start : GridValue) → IsWorld w → IsPlan w.plan → IsGrid start → IsGridOf w.plane start → start ≡ (world_course w meaning).start
+pub all_fresh : {B : Type 0} (after : B → WindowValue → ℕ → WindowValue) (w : WorldValue) (meaning : WindowValue → ℕ → WindowValue) (behaves : List B) (tiles : List (TileWith B)) (start : GridValue) → IsWorld w → IsPlan w.plan → IsGrid start → IsGridOf w.plane start → start ≡ (world_course w meaning).start
     → AreMade w.plane start w.plan behaves tiles → length behaves ≡ tiles_of w.plane → All (λ b. after b ≡ meaning) behaves → AreFresh after (world_course w meaning) tiles
 all_fresh {B} after w meaning behaves tiles start h p grid fits is f count one = record {
   grid = subst IsGrid is grid;
@@ -105,10 +105,3 @@ all_fresh {B} after w meaning behaves tiles start h p grid fits is f count one =
         let inside = slice_get_within tiles t x at in
         let same : get_or behaves t x.behave ≡ x.behave = ap (λ (bs : List B). get_or bs t x.behave) (sym f.acts) ∙ (get_or-map (λ (y : TileWith B). y.behave) tiles t x x.behave inside ∙ ap (λ (y : TileWith B). y.behave) (get_or_from_slice_get tiles t x x at)) in
         subst (λ b. after b ≡ meaning) same (All-get_or (λ b. after b ≡ meaning) behaves t x.behave (omega (arith, inside, many)) one)
-
--- the same on a map that is the world's
-pub all_ready : {B : Type 0} (after : B → WindowValue → ℕ → WindowValue) (w : WorldValue) (m : MapValue) (meaning : WindowValue → ℕ → WindowValue) (behaves : List B) (tiles : List (TileWith B)) (start : GridValue) → m ≡ w.plane → IsWorld w → IsPlan w.plan → IsGrid start → IsGridOf w.plane start → start ≡ (world_course w meaning).start
-    → AreMade m start w.plan behaves tiles → length behaves ≡ tiles_of w.plane → All (λ b. after b ≡ meaning) behaves → AreFresh after (on_map m (world_course w meaning)) tiles
-all_ready after w m meaning behaves tiles start same h p grid fits is f count one =
-    let made = subst (λ (n : MapValue). AreMade n start w.plan behaves tiles) same f in
-    subst (λ (n : MapValue). AreFresh after (on_map n (world_course w meaning)) tiles) (sym same) (all_fresh after w meaning behaves tiles start h p grid fits is made count one)

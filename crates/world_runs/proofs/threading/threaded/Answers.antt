@@ -1,11 +1,11 @@
-use Rattle.std.proofs.Common.{refl, sym, ap, subst, ◌∙◌, arith}
+use Rattle.std.proofs.Common.{sym, ap, subst, ◌∙◌, arith}
 use Rattle.std.proofs.lemmas.Result.{IfOk-weaker}
 use Rattle.cell_grid.specs.Grid.{IsGrid}
 use Rattle.tile_map.specs.Plane.{tiles_of}
 use Rattle.world_text.specs.Values.{world_value}
 use Rattle.world_runs.specs.Fresh.{world_course}
 use Rattle.plane_grid.proofs.Blanks.{some_tiles}
-use Rattle.world_runs.proofs.Beginning.{all_can, all_ready}
+use Rattle.world_runs.proofs.Beginning.{all_can, all_fresh}
 use Rattle.world_runs.proofs.threading.threaded.Goals as goal
 
 pub fresh_tiles-requires-clause-can : goal.fresh_tiles-requires-clause-can
@@ -14,22 +14,22 @@ fresh_tiles-requires-clause-can g c =
     all_can w c.requires.world c.plan_fits.ensures
 
 pub run_shared-requires-after_bounds : goal.run_shared-requires-after_bounds
-run_shared-requires-after_bounds g c = λ lives bounds. (world_course (world_value c.args.world.now) c.requires.meaning.0, all_ready g.B.Behave.after (world_value c.args.world.now) c.args.world.now.map c.requires.meaning.0 c.args.behaves.items c.in_ok-tiles.tiles.items c.in_ok-grid.grid refl c.requires.world c.plan_fits.ensures (subst IsGrid c.grid.view_is c.grid.invariant.0) c.in_ok-grid.ensures.fits c.in_ok-grid.ensures.grid c.in_ok-tiles.ensures c.requires.one c.requires.meaning.1)
+run_shared-requires-after_bounds g c = λ lives bounds. (world_course (world_value c.args.world.now) c.requires.meaning.0, all_fresh g.B.Behave.after (world_value c.args.world.now) c.requires.meaning.0 c.args.behaves.items c.in_ok-tiles.tiles.items c.in_ok-grid.grid c.requires.world c.plan_fits.ensures (subst IsGrid c.grid.view_is c.grid.invariant.0) c.in_ok-grid.ensures.fits c.in_ok-grid.ensures.grid c.in_ok-tiles.ensures c.requires.one c.requires.meaning.1)
 
 pub settle-requires-clause-made : goal.settle-requires-clause-made
-settle-requires-clause-made g c = (c.in_ok-tiles-2.ensures (world_course (world_value c.args.world.now) c.requires.meaning.0) (all_ready g.B.Behave.after (world_value c.args.world.now) c.args.world.now.map c.requires.meaning.0 c.args.behaves.items c.in_ok-tiles.tiles.items c.in_ok-grid.grid refl c.requires.world c.plan_fits.ensures (subst IsGrid c.grid.view_is c.grid.invariant.0) c.in_ok-grid.ensures.fits c.in_ok-grid.ensures.grid c.in_ok-tiles.ensures c.requires.one c.requires.meaning.1)).made
+settle-requires-clause-made g c = (c.in_ok-tiles-2.ensures (world_course (world_value c.args.world.now) c.requires.meaning.0) (all_fresh g.B.Behave.after (world_value c.args.world.now) c.requires.meaning.0 c.args.behaves.items c.in_ok-tiles.tiles.items c.in_ok-grid.grid c.requires.world c.plan_fits.ensures (subst IsGrid c.grid.view_is c.grid.invariant.0) c.in_ok-grid.ensures.fits c.in_ok-grid.ensures.grid c.in_ok-tiles.ensures c.requires.one c.requires.meaning.1)).made
 
 pub settle-requires-clause-words : goal.settle-requires-clause-words
-settle-requires-clause-words g c = (c.in_ok-tiles-2.ensures (world_course (world_value c.args.world.now) c.requires.meaning.0) (all_ready g.B.Behave.after (world_value c.args.world.now) c.args.world.now.map c.requires.meaning.0 c.args.behaves.items c.in_ok-tiles.tiles.items c.in_ok-grid.grid refl c.requires.world c.plan_fits.ensures (subst IsGrid c.grid.view_is c.grid.invariant.0) c.in_ok-grid.ensures.fits c.in_ok-grid.ensures.grid c.in_ok-tiles.ensures c.requires.one c.requires.meaning.1)).words
+settle-requires-clause-words g c = (c.in_ok-tiles-2.ensures (world_course (world_value c.args.world.now) c.requires.meaning.0) (all_fresh g.B.Behave.after (world_value c.args.world.now) c.requires.meaning.0 c.args.behaves.items c.in_ok-tiles.tiles.items c.in_ok-grid.grid c.requires.world c.plan_fits.ensures (subst IsGrid c.grid.view_is c.grid.invariant.0) c.in_ok-grid.ensures.fits c.in_ok-grid.ensures.grid c.in_ok-tiles.ensures c.requires.one c.requires.meaning.1)).words
 
 pub settle-requires-clause-over : goal.settle-requires-clause-over
-settle-requires-clause-over g c = (world_course (world_value c.args.world.now) c.requires.meaning.0, (c.in_ok-tiles-2.ensures (world_course (world_value c.args.world.now) c.requires.meaning.0) (all_ready g.B.Behave.after (world_value c.args.world.now) c.args.world.now.map c.requires.meaning.0 c.args.behaves.items c.in_ok-tiles.tiles.items c.in_ok-grid.grid refl c.requires.world c.plan_fits.ensures (subst IsGrid c.grid.view_is c.grid.invariant.0) c.in_ok-grid.ensures.fits c.in_ok-grid.ensures.grid c.in_ok-tiles.ensures c.requires.one c.requires.meaning.1)).over)
+settle-requires-clause-over g c = (world_course (world_value c.args.world.now) c.requires.meaning.0, (c.in_ok-tiles-2.ensures (world_course (world_value c.args.world.now) c.requires.meaning.0) (all_fresh g.B.Behave.after (world_value c.args.world.now) c.requires.meaning.0 c.args.behaves.items c.in_ok-tiles.tiles.items c.in_ok-grid.grid c.requires.world c.plan_fits.ensures (subst IsGrid c.grid.view_is c.grid.invariant.0) c.in_ok-grid.ensures.fits c.in_ok-grid.ensures.grid c.in_ok-tiles.ensures c.requires.one c.requires.meaning.1)).over)
 
 pub returns : goal.returns
 returns g c =
     let w = world_value c.args.world.now in
     IfOk-weaker c.settle.result _ _ (λ o settled meaning one.
-    let over = (c.in_ok-tiles-2.ensures (world_course w meaning) (all_ready g.B.Behave.after (world_value c.args.world.now) c.args.world.now.map meaning c.args.behaves.items c.in_ok-tiles.tiles.items c.in_ok-grid.grid refl c.requires.world c.plan_fits.ensures (subst IsGrid c.grid.view_is c.grid.invariant.0) c.in_ok-grid.ensures.fits c.in_ok-grid.ensures.grid c.in_ok-tiles.ensures c.requires.one one)).over in
+    let over = (c.in_ok-tiles-2.ensures (world_course w meaning) (all_fresh g.B.Behave.after (world_value c.args.world.now) meaning c.args.behaves.items c.in_ok-tiles.tiles.items c.in_ok-grid.grid c.requires.world c.plan_fits.ensures (subst IsGrid c.grid.view_is c.grid.invariant.0) c.in_ok-grid.ensures.fits c.in_ok-grid.ensures.grid c.in_ok-tiles.ensures c.requires.one one)).over in
     (settled (world_course w meaning) over).order) c.settle.ensures.settled
 
 pub plan_fits-requires : goal.plan_fits-requires
