@@ -18,7 +18,7 @@ use Rattle.draw_stream.specs.declared.attempt.Attempt.{Attempt}
 use Rattle.draw_stream.proofs.Plans.{length_seeded_attempts, length_seeded_lists, seeded_attempts_at, seeded_lists_at, sum_seeded_lists}
 use Rattle.report_text.specs.Again.{IsDrawablePlan}
 use Rattle.report_text.specs.OneReport.{IsWord}
-use Rattle.serial_order.specs.BlankGrid.{blank_grid, plane_sites}
+use Rattle.plane_grid.specs.BlankGrid.{blank_grid, plane_sites}
 use Rattle.tile_map.specs.Plane.{MapValue}
 use Rattle.window_sites.specs.Window.{WindowValue}
 use Rattle.world_runs.proofs.Valid.{world_valid}

@@ -33,7 +33,7 @@ fn audit_line(
     let names = ready.elements.names();
     let map = &ready.map;
     let plan = &ready.world.plan;
-    let judgement = judge(alloc, map, plan, names, &grid, bytes, journal, &mut actor)?;
+    let judgement = judge(alloc, map, plan, names, grid, bytes, journal, &mut actor)?;
     judgement_line(alloc, judgement)
 }
 

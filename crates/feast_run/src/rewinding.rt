@@ -18,7 +18,7 @@ use crate::output::Output;
 use crate::worlds::{Ready, make_ready};
 use cell_grid::Record;
 use feast_base::{NoMemory, Shelf};
-use report_judge::rewound;
+use event_film::rewound;
 use report_text::{ReadJournal, grid_text};
 use std::alloc::Global;
 use world_runs::start;
