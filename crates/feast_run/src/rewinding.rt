@@ -17,13 +17,8 @@ use crate::loading::whole_file;
 use crate::output::Output;
 use crate::worlds::{Ready, make_ready};
 use cell_grid::Record;
-<<<<<<< HEAD
-use event_film::rewound;
-use feast_base::{NoMemory, Shelf};
-=======
 use feast_base::{NoMemory, Shelf};
 use event_film::rewound;
->>>>>>> origin/house
 use report_text::{ReadJournal, grid_text};
 use std::alloc::Global;
 use world_runs::start;
