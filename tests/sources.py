@@ -24,8 +24,16 @@ def fault(script: str, *options: str) -> Optional[str]:
     return done.stdout if done.returncode else None
 
 
+def links() -> Optional[str]:
+    """The symbolic links that git keeps. The toolchain refuses a tree that has one."""
+    listed = subprocess.run(["git", "ls-files", "-s"], cwd=HERE.parent, capture_output=True, text=True, check=True).stdout
+    found = [line.split("\t")[1] for line in listed.splitlines() if line.startswith("120000 ")]
+    return f"symbolic links, which rt refuses: {', '.join(found)}" if found else None
+
+
 def checks(_: object) -> Iterator[Check]:
-    """A check for each script."""
+    """A check for each script, and one for links."""
+    yield Check("links", links)
     for script, *options in SCRIPTS:
         yield Check(script, partial(fault, script, *options))
 

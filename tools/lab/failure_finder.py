@@ -1,14 +1,14 @@
-"""The events of a leg that failed, found while the chain is at work."""
+"""The events of a leg that failed, found while its report is at hand."""
 from collections import Counter
 from collections.abc import Sequence
 from pathlib import Path
 
-from lab.errors import LabError
 from lab.event_maker import Maker
 from lab.outcome import ABANDONED, JOURNAL, Outcome, atom_lines
 from lab.program import Program
 from lab.report import Record
 from lab.stack_code import codes
+from lab.window_check import Disagreement
 from lab.world import World
 
 
@@ -21,7 +21,7 @@ class Finder:
     def failed(self, atoms: Sequence[str], report: bytes) -> Counter[int]:
         """How many events of a leg that began with these atoms failed at each site, of the sites row by row.
 
-        Raises LabError if the lab comes to other atoms than the report.
+        Raises Disagreement if the lab comes to other atoms than the report.
         """
         self.maker.begin(atoms)
         found: Counter[int] = Counter()
@@ -30,7 +30,7 @@ class Finder:
             if made is not None and made.ending.cause:
                 found[made.window.cells[0]] += 1
         if self.maker.lines() != atom_lines(Outcome.of(report).atoms):
-            raise LabError("the lab comes to other atoms than the program, so it can't tell which events of the leg failed")
+            raise Disagreement("the lab comes to other atoms than the program, so it can't tell which events of the leg failed")
         return found
 
 

@@ -2,7 +2,6 @@
 from __future__ import annotations
 
 import os
-from collections import defaultdict
 from dataclasses import dataclass
 from pathlib import Path
 from typing import Iterator
@@ -42,11 +41,3 @@ def processes() -> Iterator[Process]:
                 yield Process.read(folder)
             except (OSError, IndexError, ValueError):
                 continue
-
-
-def spent_by_sessions() -> dict[int, float]:
-    """For each session the seconds that its processes, and those that they have waited for, had a processor."""
-    found: defaultdict[int, float] = defaultdict(float)
-    for process in processes():
-        found[process.session] += process.own + process.waited
-    return dict(found)
