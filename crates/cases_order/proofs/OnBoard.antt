@@ -12,7 +12,8 @@ use Rattle.edge_lock.specs.Edges.{sizes_of}
 use Rattle.cell_grid.specs.Grid.{IsGrid}
 use Rattle.draw_stream.specs.Plans.{IsPlan, attempts}
 use Rattle.edge_lock.specs.PlainBoard.{PlainBoardValue, acting_end, lists_on, lists_of_tile, untouched_edge, Moved}
-use Rattle.border_cache.specs.Copies.{IsGridOf, IsEndOf}
+use Rattle.plane_grid.specs.PlaneGrids.{IsGridOf}
+use Rattle.border_cache.specs.Copies.{IsEndOf}
 use Rattle.tile_core.specs.Values.{TileWith, TileValue, atoms_of}
 use Rattle.tile_core.specs.Underway.{tile_at, IsUnderway, IsSome, IsFreshTile, GoesOn, IsMade}
 use Rattle.tile_core.specs.Boards.{IsBoardOf}

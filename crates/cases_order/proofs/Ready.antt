@@ -5,7 +5,7 @@ use Rattle.tile_map.specs.Plane.{MapValue, tiles_of}
 use Rattle.draw_stream.specs.Plans.{IsPlan}
 use Rattle.tile_core.specs.Values.{TileWith}
 use Rattle.serial_order.specs.Fresh.{AreFresh}
-use Rattle.serial_order.specs.Outcomes.{IsPlaneGrid}
+use Rattle.plane_grid.specs.PlaneGrids.{IsPlaneGrid}
 use Rattle.cases_order.specs.Driven.{AreMade}
 use Rattle.serial_order.specs.Scene.{on_map}
 use Rattle.event_journal.specs.Serial.{Course}

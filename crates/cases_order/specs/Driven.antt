@@ -5,7 +5,7 @@ use Rattle.tile_map.specs.Plane.{MapValue, IsMap, tiles_of}
 use Rattle.cell_grid.specs.Grid.{IsGrid}
 use Rattle.draw_stream.specs.Plans.{IsPlan, attempts}
 use Rattle.edge_lock.specs.PlainBoard.{PlainBoardValue, lists_of_tile}
-use Rattle.border_cache.specs.Copies.{IsGridOf}
+use Rattle.plane_grid.specs.PlaneGrids.{IsGridOf}
 use Rattle.tile_core.specs.Values.{TileWith, TileValue, atoms_of}
 use Rattle.tile_core.specs.Underway.{IsUnderway, IsFreshTile}
 use Rattle.tile_core.specs.Boards.{IsBoardOf}

@@ -2,7 +2,7 @@
 ghost use Rattle.std.specs.Prelude.{◌≡◌, ◌<◌, ℕ, All, IfOk, IfSome, IsTrue, length};
 ghost use Rattle.tile_map.specs.Plane.{tiles_of};
 ghost use Rattle.draw_stream.specs.Plans.{attempts};
-ghost use Rattle.border_cache.specs.Copies.{IsGridOf};
+ghost use Rattle.plane_grid.specs.PlaneGrids.{IsGridOf};
 ghost use Rattle.tile_core.specs.Underway.{CanAttempt};
 ghost use Rattle.serial_order.specs.Boards.{HasStopped};
 ghost use Rattle.serial_order.specs.Outcomes.{Settles, values_of};

@@ -3,7 +3,7 @@ ghost use Rattle.std.specs.Prelude.{◌≡◌, ◌≤◌, IfOk, length};
 ghost use Rattle.tile_map.specs.Plane.{AreSizes, whole_plane};
 ghost use Rattle.serial_order.specs.Fresh.{AreFresh};
 ghost use Rattle.serial_order.specs.Scene.{InSomeCourse};
-ghost use Rattle.serial_order.specs.Outcomes.{IsPlaneGrid};
+ghost use Rattle.plane_grid.specs.PlaneGrids.{IsPlaneGrid};
 
 use crate::driving::{drive, settled, tiles};
 use crate::plans::{Shape, Try, plan};
@@ -11,7 +11,8 @@ use bit_field::Atom;
 use cell_grid::{Behave, Grid};
 use edge_lock::PlainBoard;
 use feast_base::NoMemory;
-use serial_order::{Outcome, blank_grid};
+use plane_grid::blank_grid;
+use serial_order::Outcome;
 use std::alloc::Global;
 use tile_core::Tile;
 use tile_map::Map;

@@ -1,7 +1,7 @@
 -- An audit of the report of a run comes to yes.
 use Rattle.std.proofs.Common.{ℕ, ◌≡◌, List, ◌≤◌, Some, Ok, length, ap, sym, subst, refl, ◌∙◌, inr}
 use Rattle.cell_grid.specs.Grid.{GridValue}
-use Rattle.event_journal.specs.Reading.{read_report}
+use Rattle.report_text.specs.Reading.{read_report}
 use Rattle.event_journal.specs.Serial.{OwesNothing}
 use Rattle.feast_base.proofs.Stages.{went}
 use Rattle.feast_base.specs.Outside.{File, file_of}
@@ -9,7 +9,7 @@ use Rattle.feast_run.specs.Again.{SaysJournal}
 use Rattle.feast_run.specs.Audited.{Audits, AuditsYes, audit_of, judged_course}
 use Rattle.feast_run.specs.Owing.{IsRun}
 use Rattle.feast_run.specs.Stages.{JournalValue, ReadyValue, journal_limit, journal_said}
-use Rattle.grid_print.specs.Report.{report}
+use Rattle.report_text.specs.Report.{report}
 use Rattle.report_judge.specs.Judging.{Judges, NamedCourse, judgement_text, own_report}
 use Rattle.report_judge.specs.declared.judgement.Judgement.{Judgement}
 use Rattle.report_judge.specs.declared.judgement.Judgement.TheVariants.{Yes, NoAccounted, NoStamped, NoExcused, NoAtoms}

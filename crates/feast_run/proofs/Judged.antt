@@ -15,7 +15,7 @@ use Rattle.feast_run.specs.Stages.{JournalValue, ReadyValue, records_refused}
 use Rattle.feast_run.specs.Tellings.{Tells}
 use Rattle.feast_run.specs.declared.halt.Halt.{Halt}
 use Rattle.feast_run.specs.declared.halt.Halt.TheVariants.{Missing, NoMemory, Refused}
-use Rattle.grid_print.specs.Report.{AreNamed}
+use Rattle.report_text.specs.Report.{AreNamed}
 use Rattle.journal_check.specs.Entries.{IsPlanOf}
 use Rattle.report_judge.specs.Judging.{Judges, NamedCourse, judgement_text, named_course}
 use Rattle.report_judge.specs.declared.judgement.Judgement.{Judgement}

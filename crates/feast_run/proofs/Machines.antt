@@ -10,7 +10,7 @@ use Rattle.feast_run.specs.Owing.{IsRun, Reports}
 use Rattle.feast_run.specs.Stages.{ReadyValue}
 use Rattle.feast_run.specs.Stepped.{IsOutcomeOf, IsSteppedRun, machine_of, stepped_logs}
 use Rattle.feast_run.specs.Threaded.{IsThreadedOf}
-use Rattle.grid_print.specs.Report.{AreNamed, report}
+use Rattle.report_text.specs.Report.{AreNamed, report}
 use Rattle.serial_order.specs.declared.outcome.Outcome.{Outcome}
 use Rattle.tile_map.specs.Plane.{tiles_of}
 use Rattle.window_sites.specs.Window.{WindowValue}

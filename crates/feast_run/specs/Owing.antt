@@ -5,7 +5,7 @@ use Rattle.cell_grid.specs.Grid.{GridValue}
 use Rattle.event_journal.specs.declared.abandoned.Abandoned.{Abandoned}
 use Rattle.event_journal.specs.Serial.{Course, IsSerial}
 use Rattle.feast_run.specs.Stages.{JournalValue, ReadyValue}
-use Rattle.grid_print.specs.Report.{report}
+use Rattle.report_text.specs.Report.{report}
 use Rattle.tile_map.specs.Plane.{tiles_of}
 use Rattle.world_runs.specs.Fresh.{world_course}
 use Rattle.world_runs.specs.OneTile.{events_of}

@@ -3,7 +3,7 @@ use Rattle.std.specs.Prelude.{ℕ, List}
 use Rattle.event_journal.specs.Logs.{LogValue, abandoned_in, records_in}
 use Rattle.feast_run.specs.Owing.{IsRun, course_of}
 use Rattle.feast_run.specs.Stages.{JournalValue, ReadyValue}
-use Rattle.grid_print.specs.Report.{report}
+use Rattle.report_text.specs.Report.{report}
 use Rattle.serial_order.specs.declared.outcome.Outcome.{Outcome}
 use Rattle.stepped_world.specs.Ends.{IsOutcome, logs_in}
 use Rattle.stepped_world.specs.Machine.{Machine, stepped}

@@ -5,7 +5,7 @@ use Rattle.cell_grid.specs.declared.record.Record.{Record}
 use Rattle.event_journal.specs.Accounts.{IsAccounted, IsStamped}
 use Rattle.event_journal.specs.Serial.{Course, OwesNothing}
 use Rattle.event_journal.specs.declared.abandoned.Abandoned.{Abandoned}
-use Rattle.grid_print.specs.Report.{report}
+use Rattle.report_text.specs.Report.{report}
 use Rattle.text_lines.specs.Lines.{text_of}
 use Rattle.journal_check.specs.Clocks.{IsFirstMisstamped}
 use Rattle.journal_check.specs.Excuses.{IsFirstUnexcused}

@@ -7,7 +7,7 @@ use Rattle.draw_stream.specs.declared.attempt.Attempt.{Attempt}
 use Rattle.draw_stream.specs.Plans.{IsPlan, attempts}
 use Rattle.event_journal.specs.Serial.{Course}
 use Rattle.edge_lock.specs.PlainBoard.{PlainBoardValue, edge_at, lists_of_tile}
-use Rattle.border_cache.specs.Copies.{IsGridOf}
+use Rattle.plane_grid.specs.PlaneGrids.{IsGridOf}
 use Rattle.tile_core.specs.declared.phase.Phase.TheVariants.{Draw, Finished, Worn}
 use Rattle.tile_core.specs.Values.{TileValue}
 use Rattle.tile_core.specs.Turns.{Common}

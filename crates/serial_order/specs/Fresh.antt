@@ -5,7 +5,7 @@ use Rattle.tile_map.specs.Plane.{MapValue, tiles_of}
 use Rattle.cell_grid.specs.Grid.{IsGrid}
 use Rattle.draw_stream.specs.Plans.{IsPlan, attempts}
 use Rattle.event_journal.specs.Serial.{Course}
-use Rattle.border_cache.specs.Copies.{IsGridOf}
+use Rattle.plane_grid.specs.PlaneGrids.{IsGridOf}
 use Rattle.tile_core.specs.Values.{TileWith, atoms_of}
 use Rattle.tile_core.specs.Underway.{IsFreshTile}
 use Rattle.serial_order.specs.Scene.{InEachCourse}

@@ -6,14 +6,12 @@ use Rattle.tile_map.specs.Spans.{is_within}
 use Rattle.cell_grid.specs.Grid.{GridValue, IsGrid, ArePlanesAlike, site_atom}
 use Rattle.event_journal.specs.Logs.{records_in, abandoned_in}
 use Rattle.event_journal.specs.Serial.{Course, IsSerial}
-use Rattle.border_cache.specs.Copies.{IsGridOf}
 use Rattle.tile_core.specs.Values.{TileWith, TileValue}
 use Rattle.serial_order.specs.Scene.{EdgeHistory, InEachCourse, InSomeCourse, Scene, IsOver, course_of, logs_of, registers_at}
 use Rattle.serial_order.specs.Settled.{IsSettledTo}
 use Rattle.serial_order.specs.Words.{WordsValue}
 use Rattle.serial_order.specs.Order.{NoneIsWorn, MakeJournal, StampsAreSmall, TiesAreApart, Leads}
 use Rattle.serial_order.specs.declared.outcome.Outcome.{Outcome}
-use Rattle.serial_order.specs.declared.blank.TileRectangle.{TileRectangle}
 use Rattle.serial_order.specs.declared.unshared.Unshared.{Unshared}
 
 -- the values of tiles, without what acts on them
@@ -57,31 +55,11 @@ pub record AreTilesOf (m : MapValue) (tiles : List TileValue) : Type 0 where
 abbrev pub IsSettledBy : {B : Type 0} → MapValue → List (TileWith B) → WordsValue → ℕ → GridValue → Type 0
 IsSettledBy m tiles words n g = IsSettledTo m (values_of tiles) (registers_at words.histories) n g
 
--- a grid of a plane
-abbrev pub IsPlaneGrid : MapValue → GridValue → Type 0
-IsPlaneGrid m g = IsGrid g × IsGridOf m g
-
 -- the new grid is one of the same plane, with the atoms of the old one at all live sites but this
 pub record ChangesSite (m : MapValue) (s : Site) (old new : GridValue) : Type 0 where
   pub grid : IsGrid new
   pub plane : ArePlanesAlike old new
   pub others : (u : Site) → is_live m u ≡ true → (u ≡ s → ⊥) → site_atom new u.x u.y ≡ site_atom old u.x u.y
-
--- a grid of the plane's size, all of whose sites are empty; of the tiles that are off only those
--- below n are shut
-pub record IsShutTo (m : MapValue) (n : ℕ) (g : GridValue) : Type 0 where
-  pub grid : IsGrid g
-  pub wide : g.width ≡ m.tx * m.w
-  pub high : g.height ≡ m.ty * m.h
-  pub empty : g.atoms ≡ replicate (g.width * g.height) empty_atom
-  pub live : (x y : ℕ) → x < g.width → y < g.height → slice_index_or g.live (y * g.width + x) false ≡ (nat_le n (owner_of m (site x y)) || is_on m (owner_of m (site x y)))
-
--- the rectangle of a tile
-pub record IsAreaOf (m : MapValue) (t : ℕ) (a : TileRectangle) : Type 0 where
-  pub left : a.left ≡ t % m.tx * m.w
-  pub top : a.top ≡ t / m.tx * m.h
-  pub columns : a.columns ≡ m.w
-  pub rows : a.rows ≡ m.h
 
 -- columns and rows of a tile that no other tile holds
 pub record IsUnshared (m : MapValue) (i : Unshared) : Type 0 where

@@ -13,7 +13,8 @@ use Rattle.edge_lock.specs.EndLists.{EndLists, end_lists}
 use Rattle.event_journal.specs.Logs.{LogValue, log_of}
 use Rattle.event_journal.specs.Serial.{Course, course}
 use Rattle.border_cache.specs.Windows.{end_at, sites_on}
-use Rattle.border_cache.specs.Copies.{IsGridOf, held_cell}
+use Rattle.plane_grid.specs.PlaneGrids.{IsGridOf}
+use Rattle.border_cache.specs.Copies.{held_cell}
 use Rattle.tile_core.specs.declared.phase.Phase.{Phase}
 use Rattle.tile_core.specs.declared.phase.Phase.TheVariants.{Draw, Lock, Refresh, Behave, Write, Give, Back, Finished, Worn}
 use Rattle.tile_core.specs.Values.{TileValue, atoms_of}

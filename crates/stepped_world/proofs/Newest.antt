@@ -15,7 +15,8 @@ use Rattle.edge_lock.specs.declared.history.Hold.{Hold}
 use Rattle.edge_lock.specs.PlainBoard.{PlainBoardValue}
 use Rattle.list_laws.proofs.Members.{In, InOrder, in_filter, filter_in, get_in, pairs_order}
 use Rattle.border_cache.specs.Cells.{CellValue, cell_value}
-use Rattle.border_cache.specs.Copies.{IsGridOf, IsCentre}
+use Rattle.plane_grid.specs.PlaneGrids.{IsGridOf}
+use Rattle.border_cache.specs.Copies.{IsCentre}
 use Rattle.tile_core.specs.Values.{TileWith, TileValue, atoms_of, event_site}
 use Rattle.tile_core.specs.Turns.{Won, Turn, Wins, records_in_turns}
 use Rattle.event_journal.specs.Logs.{log_of, records_in, of_tile, abandoned_by}
@@ -30,7 +31,8 @@ use Rattle.serial_order.proofs.Entries.{AreEntries, journal}
 use Rattle.serial_order.proofs.Ground.{owner_inside}
 use Rattle.serial_order.proofs.Journal.{events, ordered}
 use Rattle.serial_order.proofs.Order.{one_writer}
-use Rattle.serial_order.proofs.Promises.{one_grid, one_order}
+use Rattle.plane_grid.proofs.OneGrid.{one_grid}
+use Rattle.serial_order.proofs.Promises.{one_order}
 use Rattle.serial_order.proofs.Replay.{IsJournal, WritesRise, Split, IsLeft, DoneAt, notes, in_notes, replayed, journal_rises, same_latest}
 use Rattle.serial_order.proofs.Tile.{cell_by}
 use Rattle.serial_order.proofs.TileLog.{in_records, records_in as note_in}

@@ -12,7 +12,7 @@ use Rattle.cell_grid.specs.Grid.{GridValue, IsGrid}
 use Rattle.draw_stream.specs.declared.attempt.Attempt.{Attempt}
 use Rattle.draw_stream.specs.Plans.{PlanValue, IsPlan, attempts}
 use Rattle.draw_stream.proofs.Plans.{attempts_few}
-use Rattle.border_cache.specs.Copies.{IsGridOf}
+use Rattle.plane_grid.specs.PlaneGrids.{IsGridOf}
 use Rattle.tile_map.specs.Plane.{MapValue, is_on, tiles_of}
 use Rattle.tile_core.specs.Underway.{CanAttempt, IsFreshTile}
 use Rattle.tile_core.specs.Values.{TileWith, atoms_of}

@@ -3,7 +3,7 @@ use Rattle.feast_run.proofs.Judged.{line_audits, plan_of, replay_named, course_s
 use Rattle.feast_run.proofs.Runs.{ready_valid}
 use Rattle.feast_run.specs.Acting.{acts}
 use Rattle.feast_run.specs.Values.{elements_value, journal_value, ready_value}
-use Rattle.grid_print.specs.Report.{AreNamed}
+use Rattle.report_text.specs.Report.{AreNamed}
 use Rattle.cell_grid.specs.Records.{replay}
 use Rattle.journal_check.specs.Entries.{IsPlanOf}
 use Rattle.tile_map.specs.Plane.{MapValue}

@@ -1,7 +1,7 @@
 use Rattle.std.proofs.Common.{◌≡◌, ◌<◌, ℕ, List, All, length, ap, sym, subst, ◌∙◌, arith}
 use Rattle.std.proofs.lemmas.Result.{IfOk-weaker}
 use Rattle.cell_grid.specs.Grid.{IsGrid}
-use Rattle.border_cache.specs.Copies.{IsGridOf}
+use Rattle.plane_grid.specs.PlaneGrids.{IsGridOf}
 use Rattle.tile_map.proofs.Numbers.{tiles_few}
 use Rattle.tile_map.specs.Plane.{MapValue, tiles_of}
 use Rattle.stepped_world.specs.Ends.{IsOutcome}
@@ -9,7 +9,7 @@ use Rattle.serial_order.specs.Scene.{on_map}
 use Rattle.world_text.specs.Values.{world_value}
 use Rattle.world_runs.specs.Fresh.{AllCanAttempt, world_course}
 use Rattle.world_runs.specs.Orders.{order_in}
-use Rattle.serial_order.proofs.Blanks.{some_tiles}
+use Rattle.plane_grid.proofs.Blanks.{some_tiles}
 use Rattle.world_runs.proofs.Beginning.{all_can, all_ready}
 use Rattle.world_runs.proofs.Given.{given_all, holds_along}
 use Rattle.world_runs.proofs.stepping.stepped.Goals as goal

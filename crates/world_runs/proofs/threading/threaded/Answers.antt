@@ -1,13 +1,13 @@
 use Rattle.std.proofs.Common.{sym, ap, subst, ◌∙◌, arith}
 use Rattle.std.proofs.lemmas.Result.{IfOk-weaker}
 use Rattle.cell_grid.specs.Grid.{IsGrid}
-use Rattle.border_cache.specs.Copies.{IsGridOf}
+use Rattle.plane_grid.specs.PlaneGrids.{IsGridOf}
 use Rattle.tile_map.specs.Plane.{MapValue, tiles_of}
 use Rattle.serial_order.specs.Outcomes.{StandsInOneOrder}
 use Rattle.world_text.specs.Values.{world_value}
 use Rattle.world_runs.specs.Fresh.{AllCanAttempt, world_course}
 use Rattle.serial_order.specs.Scene.{on_map}
-use Rattle.serial_order.proofs.Blanks.{some_tiles}
+use Rattle.plane_grid.proofs.Blanks.{some_tiles}
 use Rattle.world_runs.proofs.Beginning.{all_can, all_ready}
 use Rattle.world_runs.proofs.threading.threaded.Goals as goal
 
