@@ -13,7 +13,6 @@ use Rattle.tile_map.specs.Laws.{Joins}
 use Rattle.cell_grid.specs.declared.record.Record.{Record}
 use Rattle.cell_grid.specs.Grid.{GridValue, IsGrid, site_atom}
 use Rattle.cell_grid.specs.Records.{Precedes, replay}
-use Rattle.plane_grid.proofs.OneGrid.{one_grid}
 use Rattle.draw_stream.specs.Plans.{attempts}
 use Rattle.edge_lock.proofs.HistoryLaws.{finds_at}
 use Rattle.list_laws.proofs.Members.{In, InOrder, in_filter, in_range, get_in, order-filter, order-range, contains_in, in_contains, in_all}
