@@ -13,10 +13,6 @@ use Rattle.event_journal.specs.Accounts.{edges_of, stamp_after}
 use Rattle.event_journal.proofs.Journals.{top}
 use Rattle.journal_check.specs.Clocks.{AreClocks, Ticks, clocks_of, latest, needs_edge, set_at}
 
--- the greatest of a number and the stamps of some events
-abbrev pub top : ℕ → List Record → ℕ
-top a xs = fold (λ greatest (s : Record). max greatest s.stamp) a xs
-
 max_more : (a b c : ℕ) → max (max a b) c ≡ max a (max (max 0 b) c)
 max_more a b c = grind arith
 

@@ -17,7 +17,6 @@ use Rattle.tile_map.specs.Plane.{MapValue, is_on, tiles_of}
 use Rattle.tile_core.specs.Underway.{CanAttempt, IsFreshTile}
 use Rattle.tile_core.specs.Values.{TileWith, atoms_of}
 use Rattle.serial_order.specs.Fresh.{AreFresh}
-use Rattle.serial_order.specs.Scene.{on_map}
 use Rattle.world_runs.specs.Worlds.{IsAttempt, IsWorld}
 use Rattle.world_text.specs.Named.{WorldValue}
 use Rattle.world_runs.specs.Fresh.{AllCanAttempt, AreMade, world_course}
