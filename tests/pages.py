@@ -121,6 +121,17 @@ def list_faults() -> list[str]:
     return [f"README.md: {page} is not named" for page in pages if f"`{page}`" not in readme]
 
 
+def walk_faults() -> list[str]:
+    """The files that name one operator (`Xor`) and that the walk to a new one leaves out."""
+    page = (TOP / "docs/changes.md").read_text()
+    walk = page[page.index("## A new operator"):page.index("## A new line of a world")]
+    files = [path for kind in ("*.rt", "*.antt") for path in sorted((TOP / "crates").rglob(kind))]
+    named = [path.relative_to(TOP / "crates") for path in files
+             if "out" not in path.parts and re.search(r"\b(PairOp::|op?\.)Xor\b", path.read_text())]
+    return [f"docs/changes.md: a new operator needs a row in {path} too" for path in named
+            if f"`{path.parts[0]}`" not in walk or path.name not in walk]
+
+
 def work_faults() -> list[str]:
     """The folders that tools/work ought to refuse, and doesn't in one line that says why."""
     wrong = []
@@ -150,11 +161,12 @@ def said(found: list[str]) -> Optional[str]:
 
 
 def checks(program: pathlib.Path) -> Iterator[Check]:
-    """A check for each page, one for the map of crates and one for the list of pages."""
+    """A check for each page, and those of the map of crates, the walks and the list of pages."""
     pages = subprocess.run(["git", "ls-files", "*.md"], cwd=TOP, capture_output=True, text=True, check=True).stdout
     for page in pages.split():
         yield Check(page, partial(page_fault, str(program), TOP / page))
     yield Check("the map of crates", lambda: said(map_faults()))
+    yield Check("the walk to a new operator", lambda: said(walk_faults()))
     yield Check("the list of pages", lambda: said(list_faults()))
     yield Check("tools/work", lambda: said(work_faults()))
 

@@ -1,11 +1,16 @@
-"""What is measured at the end of each leg of a chain."""
+"""What the course of a chain is asked for beside the atoms: what is measured of them, and how many events failed."""
 from collections.abc import Sequence
 from dataclasses import replace
 
 from lab.chain_folder import Course
+from lab.errors import LabError
+from lab.failure_finder import Finder
 from lab.files import read_text
+from lab.kept import read_report
 from lab.legs import Maker
 from lab.measures import measured, measures_of
+from lab.progress import Progress
+from lab.world import World
 
 
 def with_measures(maker: Maker, course: Course, names: Sequence[str]) -> Maker:
@@ -15,7 +20,27 @@ def with_measures(maker: Maker, course: Course, names: Sequence[str]) -> Maker:
     if course.measures != columns:
         course.measures = columns
         course.legs = [replace(leg, measured=measured(measures, read_text(maker.folder.atoms(leg.number)))) for leg in course.legs]
-        course.rows.clear()
-        course.written_events = 0
+        course.changed()
         maker.folder.write_course(course)
     return replace(maker, measures=measures)
+
+
+def with_failures(maker: Maker, course: Course) -> Maker:
+    """The chain with a column of the events that failed; of the legs that are done they are found in their reports."""
+    if course.has_failures:
+        return maker
+    legs = len(course.legs) - 1
+    if legs and maker.begun.keep != "reports":
+        raise LabError(f"{maker.folder.path}: --failures takes the reports of the legs that are done, and the chain keeps none")
+    finder = Finder(maker.program, maker.folder.files, maker.rule.world)
+    progress, found = Progress(max(legs, 1)), [0]
+    for leg in range(1, legs + 1):
+        progress.at(leg - 1, f"failed events of leg {leg} of {legs}")
+        atoms = [atom.text() for atom in World.read(maker.folder.world(leg)).atoms]
+        found.append(finder.failed(atoms, read_report(maker.folder.report(leg))).total())
+    progress.end()
+    course.legs = [replace(leg, failed=failed) for leg, failed in zip(course.legs, found, strict=True)]
+    course.has_failures = True
+    course.changed()
+    maker.folder.write_course(course)
+    return replace(maker, finder=finder)

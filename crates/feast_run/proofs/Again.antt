@@ -3,7 +3,7 @@
 use Rattle.std.proofs.Common.{ℕ, ◌≡◌, ◌≤◌, List, ◌++◌, Ok, codes, length, ap, sym, subst, ◌∙◌, inr}
 use Rattle.cell_grid.specs.Grid.{GridValue}
 use Rattle.cell_grid.specs.declared.record.Record.{Record}
-use Rattle.event_journal.specs.Reading.{read_report}
+use Rattle.report_text.specs.Reading.{read_report}
 use Rattle.event_journal.specs.declared.abandoned.Abandoned.{Abandoned}
 use Rattle.feast_base.specs.Outside.{File}
 use Rattle.feast_run.proofs.AuditedAgain.{audits_yes}
@@ -17,9 +17,9 @@ use Rattle.feast_run.specs.Elements.{ElementsValue}
 use Rattle.feast_run.specs.Owing.{IsRun}
 use Rattle.feast_run.specs.Promises.{WorldTold}
 use Rattle.feast_run.specs.Stages.{JournalValue, journal_limit, journal_said, ready_with}
-use Rattle.grid_print.proofs.ReadAgain.{read_again}
-use Rattle.grid_print.specs.Again.{IsLeft}
-use Rattle.grid_print.specs.Report.{atoms_text, report, report_value}
+use Rattle.report_text.proofs.ReadAgain.{read_again}
+use Rattle.report_text.specs.Again.{IsLeft}
+use Rattle.report_text.specs.Report.{atoms_text, report, report_value}
 use Rattle.world_runs.proofs.Valid.{read_draft, world_known}
 use Rattle.world_text.specs.Named.{WorldValue}
 use Rattle.world_text.specs.Printed.{IsNamed}
@@ -40,9 +40,7 @@ read_back files word world e grid records abandoned text sound told run shown =
       wide = size.wide;
       sites = size.sites;
       named = left_named (ready_with world e) grid records run.replayed sound.brings (world_known names world named);
-      accounted = run.accounted;
-      stamped = run.stamped;
-      excused = run.excused;
+      owes = run.owes;
     } in
     let fits = plan_fits names world named in
     let says = read_again names world.plane world.plan sound.named fits (report_value grid records abandoned) left in

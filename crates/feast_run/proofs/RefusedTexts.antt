@@ -5,9 +5,9 @@ use Rattle.code_file.specs.Judging.{Reads, column_behind, is_among, judged}
 use Rattle.code_file.specs.declared.fault.CodeFault.{CodeFault}
 use Rattle.code_file.specs.declared.fault.CodeFault.TheVariants.{BadMagic, BadForm, NotValid, SameName, NoMemory}
 use Rattle.draw_stream.specs.declared.attempt.Attempt.{Attempt}
-use Rattle.event_journal.specs.Reading.{Said, go_on, is_over, line_step, nothing_said, read_lines, read_report}
-use Rattle.event_journal.specs.declared.fault.LineFault.{LineFault}
-use Rattle.event_journal.specs.declared.fault.LineFault.TheVariants.{BadForm as bad_form, OutOfTurn, ElsewhereThanTile, OtherThanAttempt}
+use Rattle.report_text.specs.Reading.{Said, go_on, is_over, line_step, nothing_said, read_lines, read_report}
+use Rattle.report_text.specs.declared.journal_fault.LineFault.{LineFault}
+use Rattle.report_text.specs.declared.journal_fault.LineFault.TheVariants.{BadForm as bad_form, OutOfTurn, ElsewhereThanTile, OtherThanAttempt}
 use Rattle.feast_base.specs.declared.place.Refusal.{Refusal}
 use Rattle.feast_run.proofs.Placed.{HasPlace, byte_placed, line_placed}
 use Rattle.feast_run.specs.CodeFiles.{IsCodeRefused, at_byte}

@@ -1,7 +1,7 @@
 -- A rewind of the report of a run, and a later one by the same world and the same element files.
 use Rattle.std.proofs.Common.{ℕ, ◌≡◌, ◌≤◌, List, Some, Ok, length, ap, sym, subst, ◌∙◌, inr}
 use Rattle.element_set.specs.Sets.{SetValue, element_names}
-use Rattle.event_journal.specs.Reading.{read_report}
+use Rattle.report_text.specs.Reading.{read_report}
 use Rattle.feast_base.proofs.Stages.{goes_at, went}
 use Rattle.feast_base.specs.Outside.{File, file_of}
 use Rattle.feast_base.specs.Stages.{Goes}

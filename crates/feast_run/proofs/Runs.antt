@@ -9,8 +9,8 @@ use Rattle.cell_grid.specs.Grid.{GridValue}
 use Rattle.cell_grid.specs.declared.record.Record.{Record}
 use Rattle.draw_stream.specs.Plans.{attempts}
 use Rattle.event_journal.specs.Logs.{LogValue, log_of}
-use Rattle.event_journal.specs.Reading.{IsFault, Said, read_report}
-use Rattle.event_journal.specs.declared.fault.LineFault.{LineFault}
+use Rattle.report_text.specs.Reading.{IsFault, Said, read_report}
+use Rattle.report_text.specs.declared.journal_fault.LineFault.{LineFault}
 use Rattle.feast_base.specs.Outside.{File, file_of}
 use Rattle.feast_base.proofs.Stages.{went}
 use Rattle.feast_run.proofs.Loads.{loaded_files}
@@ -27,7 +27,7 @@ use Rattle.feast_run.specs.Values.{IsReady, elements_value, journal_value}
 use Rattle.feast_run.specs.declared.halt.Halt.{Halt}
 use Rattle.feast_run.specs.declared.worlds.Ready.{Ready}
 use Rattle.feast_run.specs.declared.halt.Halt.TheVariants.{Refused, Missing, NoMemory}
-use Rattle.grid_print.specs.Report.{AreNamed}
+use Rattle.report_text.specs.Report.{AreNamed}
 use Rattle.world_runs.proofs.Alone.{each, owes_nothing}
 use Rattle.world_runs.specs.OneTile.{IsAlone, events_of}
 use Rattle.element_set.specs.Sets.{Coded, SetValue}
@@ -93,7 +93,7 @@ alone_reports r text alone shown =
       grid = grid_after r (events_of r.world.plane r.world.plan);
       records = events_of r.world.plane r.world.plan;
       abandoned = [];
-      run = record { replayed = refl; accounted = owes.accounted; stamped = owes.stamped; excused = owes.excused };
+      run = record { owes = owes; replayed = refl };
       alone = λ one. (refl, refl);
       shown = shown;
     }

@@ -3,7 +3,7 @@ use Rattle.std.proofs.Common.{ℕ, ◌≡◌, List, [], ◌∷◌, ◌++◌, len
 use Rattle.list_laws.proofs.Options.{some_once}
 use Rattle.element_set.proofs.OneSet.{set_one as built_one}
 use Rattle.element_set.specs.Sets.{SetValue, check_text, code_text}
-use Rattle.event_journal.specs.Reading.{read_report}
+use Rattle.report_text.specs.Reading.{read_report}
 use Rattle.feast_base.specs.Outside.{File}
 use Rattle.feast_run.proofs.CodeStages.{codes_in_one, codes_pass}
 use Rattle.feast_run.proofs.Loads.{files_load}

@@ -2,12 +2,12 @@
 -- atoms after their first events, and replay to their own atoms.
 use Rattle.std.specs.Prelude.{ℕ, ◌≡◌, List, ◌++◌, Some, codes, Ok}
 use Rattle.cell_grid.specs.Grid.{GridValue}
-use Rattle.event_journal.specs.Reading.{read_report}
+use Rattle.report_text.specs.Reading.{read_report}
 use Rattle.feast_base.specs.Outside.{File, file_of}
 use Rattle.feast_run.specs.Answer.{AreFirstAtoms, replay_of, rewind_of}
 use Rattle.feast_run.specs.Audited.{AuditsYes}
 use Rattle.feast_run.specs.Stages.{JournalValue, ReadyValue, journal_said}
-use Rattle.grid_print.specs.Report.{atoms_text}
+use Rattle.report_text.specs.Report.{atoms_text}
 use Rattle.world_text.specs.Named.{WorldValue}
 
 -- a text, read as a report of the world, says this journal

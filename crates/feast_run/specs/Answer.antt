@@ -16,7 +16,7 @@ use Rattle.feast_run.specs.Audited.{audit_of}
 use Rattle.feast_run.specs.Owing.{Reports}
 use Rattle.feast_run.specs.Stages.{JournalValue, ReadyValue, journal_of, ready, records_refused, set_of}
 use Rattle.feast_run.specs.Stepped.{IsSteppedRun, stepped_report}
-use Rattle.grid_print.specs.Report.{atoms_text, report}
+use Rattle.report_text.specs.Report.{atoms_text, report}
 use Rattle.world_runs.specs.OneTile.{events_of}
 use Rattle.world_runs.specs.Start.{start_grid}
 

@@ -3,7 +3,7 @@ use Rattle.std.specs.Prelude.{ℕ, ◌≡◌, ◌≢◌, ◌≤◌, length, take
 use Rattle.code_file.specs.Form.{CodesValue, IsFile}
 use Rattle.code_file.specs.Right.{AreRight}
 use Rattle.element_set.specs.Sets.{SetValue, AcceptsFiles, check_text, code_text, element_names}
-use Rattle.event_journal.specs.Reading.{read_report}
+use Rattle.report_text.specs.Reading.{read_report}
 use Rattle.feast_base.specs.Held.{ShelfHeld, SinkHeld, mem_shelf_state, mem_sink_state, room_left}
 use Rattle.feast_base.specs.Outside.{File, Grows, ShelfState, SinkState, file_of}
 use Rattle.feast_base.specs.Refusals.{refusal_line, unreadable_line, usage_line}

@@ -4,9 +4,9 @@ use Rattle.cell_grid.specs.declared.record.Record.{Record}
 use Rattle.code_file.specs.Form.{CodesValue}
 use Rattle.element_set.specs.Sets.{SetValue, AcceptsFiles, RefusesFiles}
 use Rattle.event_journal.specs.declared.abandoned.Abandoned.{Abandoned}
-use Rattle.event_journal.specs.declared.fault.LineFault.{LineFault}
-use Rattle.event_journal.specs.declared.fault.LineFault.TheVariants.{BadForm, OutOfTurn, ElsewhereThanTile, OtherThanAttempt}
-use Rattle.event_journal.specs.Reading.{Said, read_report}
+use Rattle.report_text.specs.declared.journal_fault.LineFault.{LineFault}
+use Rattle.report_text.specs.declared.journal_fault.LineFault.TheVariants.{BadForm, OutOfTurn, ElsewhereThanTile, OtherThanAttempt}
+use Rattle.report_text.specs.Reading.{Said, read_report}
 use Rattle.feast_base.specs.Outside.{File, TellsBytes, TellsLonger, file_bytes}
 use Rattle.feast_base.specs.declared.place.Refusal.{Refusal}
 use Rattle.feast_run.specs.Elements.{ElementsValue, source_elements, code_elements}

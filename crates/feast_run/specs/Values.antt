@@ -1,7 +1,7 @@
 -- The code's structs as values.
 use Rattle.std.specs.Prelude.{◌≡◌, length}
 use Rattle.element_set.specs.Sets.{set_value}
-use Rattle.event_journal.specs.declared.reader.ReadJournal.{ReadJournal}
+use Rattle.report_text.specs.declared.reader.ReadJournal.{ReadJournal}
 use Rattle.feast_run.specs.Elements.{ElementsValue, code_elements, source_elements}
 use Rattle.feast_run.specs.Stages.{JournalValue, ReadyValue, ready_with}
 use Rattle.feast_run.specs.declared.elements.Elements.{Elements}

@@ -12,9 +12,9 @@ use crate::journals::read_loaded;
 use crate::loading::{JOURNAL_LIMIT, load_file};
 use crate::output::Output;
 use crate::worlds::{Ready, make_ready};
-use event_journal::ReadJournal;
 use feast_base::{NoMemory, Shelf};
 use report_judge::{judge, judgement_line};
+use report_text::ReadJournal;
 use std::alloc::Global;
 use world_runs::start;
 
@@ -33,7 +33,7 @@ fn audit_line(
     let names = ready.elements.names();
     let map = &ready.map;
     let plan = &ready.world.plan;
-    let judgement = judge(alloc, map, plan, names, &grid, bytes, journal, &mut actor)?;
+    let judgement = judge(alloc, map, plan, names, grid, bytes, journal, &mut actor)?;
     judgement_line(alloc, judgement)
 }
 

@@ -1,7 +1,7 @@
 //! The stage of a journal.
 ghost use Rattle.std.specs.Prelude.{◌≡◌, ◌<◌, ◌^◌, length};
-ghost use Rattle.event_journal.specs.Reading.{fault_of};
-ghost use Rattle.event_journal.specs.Cursors.{ReadsJournal};
+ghost use Rattle.report_text.specs.Reading.{fault_of};
+ghost use Rattle.report_text.specs.Cursors.{ReadsJournal};
 ghost use Rattle.feast_run.specs.Faults.{IsJournalHalt, IsHalt};
 ghost use Rattle.feast_run.specs.Halting.{refused};
 ghost use Rattle.feast_run.specs.Stages.{journal_in, journal_of};
@@ -14,8 +14,8 @@ ghost use Rattle.world_text.specs.Values.{world_value};
 
 use crate::halt::{Halt, Input, Refused};
 use crate::loading::{JOURNAL_LIMIT, at_line, load_file};
-use event_journal::{JournalFault, ReadJournal, read};
 use feast_base::{Refusal, Shelf};
+use report_text::{JournalFault, ReadJournal, read};
 use std::alloc::Global;
 use tile_map::Map;
 use world_text::World;

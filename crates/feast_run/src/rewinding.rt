@@ -17,10 +17,9 @@ use crate::loading::whole_file;
 use crate::output::Output;
 use crate::worlds::{Ready, make_ready};
 use cell_grid::Record;
-use event_journal::ReadJournal;
 use feast_base::{NoMemory, Shelf};
-use grid_print::grid_text;
-use report_judge::rewound;
+use event_film::rewound;
+use report_text::{ReadJournal, grid_text};
 use std::alloc::Global;
 use world_runs::start;
 

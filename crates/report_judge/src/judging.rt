@@ -1,18 +1,19 @@
 //! The judgement on a report.
 ghost use Rattle.std.specs.Prelude.{◌≡◌, ◌<◌, ◌≤◌, ◌^◌, ◌↔◌, IfOk, IsTrue, length};
 ghost use Rattle.cell_grid.specs.Records.{replay};
-ghost use Rattle.grid_print.specs.Report.{AreNamed, report};
-ghost use Rattle.serial_order.specs.Outcomes.{IsPlaneGrid};
+ghost use Rattle.event_journal.specs.Serial.{course};
+ghost use Rattle.report_text.specs.Report.{AreNamed, report};
+ghost use Rattle.plane_grid.specs.PlaneGrids.{IsPlaneGrid};
 ghost use Rattle.journal_check.specs.Entries.{IsPlanOf};
-ghost use Rattle.report_judge.specs.Judging.{Judges, abandoned_line, event_line, judged_world, line_count};
+ghost use Rattle.report_judge.specs.Judging.{Judges, abandoned_line, event_line, line_count, named_course};
 
 use crate::judgement::Judgement;
 use cell_grid::{Behave, Grid, Record};
 use draw_stream::AttemptPlan;
-use event_journal::{Abandoned, ReadJournal};
+use event_journal::Abandoned;
 use feast_base::{Name, NoMemory};
-use grid_print::report_text;
 use journal_check::{Verdict, audit};
+use report_text::{ReadJournal, printed_report};
 use std::alloc::Global;
 use tile_map::Map;
 
@@ -60,7 +61,7 @@ fn is_report(
     requires { AreNamed names.now grid.now.atoms }
     ensures { IfOk result (λ b. IsTrue b ↔ (bytes.now ≡ report names.now grid.now records.now abandoned.now)) }
 {
-    let text = report_text(alloc, grid, names, records, abandoned)?;
+    let text = printed_report(alloc, grid, names, records, abandoned)?;
     Ok(are_same(bytes, text.as_slice()))
 }
 
@@ -75,15 +76,15 @@ pub fn judge<B: Behave>(
     map: &Map,
     plan: &AttemptPlan,
     names: &[Name],
-    start: &Grid,
+    start: Grid,
     bytes: &[u8],
     journal: &ReadJournal,
     behave: &mut B,
 ) -> Result<Judgement, NoMemory>
     requires plan { IsPlanOf map.now plan.now }
-    requires start { IsPlaneGrid map.now start.now }
-    requires named { AreNamed names.now (replay (B.after behave.old) start.now journal.now.records.items).atoms }
-    ensures { IfOk result (Judges (judged_world map.now plan.now (B.after behave.old) names.now start.now) bytes.now
+    requires start { IsPlaneGrid map.now start }
+    requires named { AreNamed names.now (replay (B.after behave.old) start journal.now.records.items).atoms }
+    ensures { IfOk result (Judges (named_course (course map.now plan.now (B.after behave.old) start) names.now) bytes.now
         journal.now.records.items journal.now.abandoned.items) }
 {
     match audit(alloc, map, plan, start, journal, behave)? {

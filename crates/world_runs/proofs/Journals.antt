@@ -8,10 +8,10 @@ use Rattle.text_lines.specs.Lines.{ended_lines}
 use Rattle.cell_grid.specs.declared.record.Record.{Record}
 use Rattle.draw_stream.specs.declared.attempt.Attempt.{Attempt}
 use Rattle.event_journal.specs.declared.abandoned.Abandoned.{Abandoned}
-use Rattle.event_journal.specs.declared.fault.LineFault.{LineFault}
-use Rattle.event_journal.specs.declared.fault.LineFault.TheVariants.{BadForm}
-use Rattle.event_journal.specs.Forms.{record_form, abandoned_form, is_atom, is_header}
-use Rattle.event_journal.specs.Reading.{Said, Wants, header, atom_count, atoms, record_count, records, abandoned_count, abandoned, nothing, want_atoms, want_records, want_abandoned, counted, earlier, fields_step, first_of, go_on, is_at_home, is_attempt, is_behind, is_over, line_step, not_later, nothing_said, put_abandoned, put_record, read_lines, read_report, record_fault, record_step, unless}
+use Rattle.report_text.specs.declared.journal_fault.LineFault.{LineFault}
+use Rattle.report_text.specs.declared.journal_fault.LineFault.TheVariants.{BadForm}
+use Rattle.report_text.specs.Forms.{record_form, abandoned_form, is_atom, is_header}
+use Rattle.report_text.specs.Reading.{Said, Wants, header, atom_count, atoms, record_count, records, abandoned_count, abandoned, nothing, want_atoms, want_records, want_abandoned, counted, earlier, fields_step, first_of, go_on, is_at_home, is_attempt, is_behind, is_over, line_step, not_later, nothing_said, put_abandoned, put_record, read_lines, read_report, record_fault, record_step, unless}
 use Rattle.tile_map.specs.Plane.{MapValue, site, in_plane, is_on, owner_of}
 use Rattle.world_runs.specs.Worlds.{IsAttempt, IsLiveEvent}
 

@@ -1,9 +1,9 @@
 use Rattle.std.proofs.Common.{ℕ, List, length, subst, sym}
-use Rattle.feast_run.proofs.Judged.{line_audits, plan_of, replay_named, setting_same}
+use Rattle.feast_run.proofs.Judged.{line_audits, plan_of, replay_named, course_same}
 use Rattle.feast_run.proofs.Runs.{ready_valid}
 use Rattle.feast_run.specs.Acting.{acts}
 use Rattle.feast_run.specs.Values.{elements_value, journal_value, ready_value}
-use Rattle.grid_print.specs.Report.{AreNamed}
+use Rattle.report_text.specs.Report.{AreNamed}
 use Rattle.cell_grid.specs.Records.{replay}
 use Rattle.journal_check.specs.Entries.{IsPlanOf}
 use Rattle.tile_map.specs.Plane.{MapValue}
@@ -33,5 +33,5 @@ judge-requires-clause-named c =
 pub returns : goal.returns
 returns c =
     let r = ready_value c.args.ready.now in
-    let same = setting_same r c.args.ready.now.map (acts c.in_ok-actor.actor) c.names-names.result.now c.in_ok-grid.grid c.requires.map c.in_ok-actor.ensures c.names-names.ensures c.in_ok-grid.ensures.grid in
+    let same = course_same r c.args.ready.now.map (acts c.in_ok-actor.actor) c.names-names.result.now c.in_ok-grid.grid c.requires.map c.in_ok-actor.ensures c.names-names.ensures c.in_ok-grid.ensures.grid in
     line_audits (λ v. v.items) r c.args.bytes.now (journal_value c.args.journal.now) _ c.in_ok-judgement.judgement c.judgement_line.result same c.in_ok-judgement.ensures c.judgement_line.ensures
