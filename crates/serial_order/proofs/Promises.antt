@@ -22,6 +22,7 @@ use Rattle.border_cache.specs.Cells.{CellValue, cell_of}
 use Rattle.border_cache.specs.News.{word_of}
 use Rattle.border_cache.specs.Windows.{end_at, sites_on}
 use Rattle.plane_grid.specs.PlaneGrids.{IsGridOf}
+use Rattle.plane_grid.proofs.OneGrid.{one_grid}
 use Rattle.border_cache.specs.Copies.{held_cell}
 use Rattle.tile_core.specs.Values.{atoms_of, TileValue, event_site, given_up_site}
 use Rattle.tile_core.specs.Turns.{Won, Lost, Wins, Loses, before}
