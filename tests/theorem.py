@@ -137,13 +137,17 @@ class Block:
     end: int
 
 
+def is_indented(lines: list[str], at: int) -> bool:
+    """Whether there is a line, and it belongs to a block."""
+    return at < len(lines) and lines[at].startswith("    ")
+
+
 def blocks(lines: list[str]) -> Iterator[Block]:
     """The blocks of a page."""
     for at, line in enumerate(lines):
         if found := LINE.fullmatch(line):
             begin = end = at + 2
-            while end < len(lines) and (lines[end].startswith("    ") or (not lines[end] and lines[end + 1:end + 2] and
-                                                                            lines[end + 1].startswith("    "))):
+            while end < len(lines) and (lines[end].startswith("    ") or not lines[end] and is_indented(lines, end + 1)):
                 end += 1
             yield Block([Name(found[1], name) for name in re.findall(r"`([^`]+)`", found[2])], begin, end)
 
