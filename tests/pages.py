@@ -135,12 +135,12 @@ def walk_faults() -> list[str]:
 def work_faults() -> list[str]:
     """The folders that tools/work ought to refuse, and doesn't in one line that says why."""
     wrong = []
-    for words, says in ((["work"], "it is inside "), (["docs/../work"], "it is inside "), (["/tmp"], "it is there already"),
-                        ([], "usage: "), (["/tmp/one", "/tmp/two"], "usage: ")):
-        done = subprocess.run(["tools/work", *words], cwd=TOP, capture_output=True, text=True, check=False)
+    for words, says in (("work", "it is inside "), ("docs/../work", "it is inside "), ("/tmp", "it is there already"),
+                        ("", "usage: "), ("/tmp/one /tmp/two", "usage: ")):
+        done = subprocess.run(["tools/work", *words.split()], cwd=TOP, capture_output=True, text=True, check=False)
         lines = done.stderr.splitlines()
         if (done.returncode, done.stdout, len(lines)) != (2, "", 1) or says not in lines[0]:
-            wrong.append(f"tools/work {' '.join(words)} ends with {done.returncode} and says: {done.stderr}")
+            wrong.append(f"tools/work {words} ends with {done.returncode} and says: {done.stderr}")
     return wrong
 
 

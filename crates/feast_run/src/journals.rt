@@ -45,11 +45,7 @@ fn journal_halt<'a>(word: &'a str, fault: JournalFault) -> Halt<'a>
 }
 
 /// Reads the journal of a world in the text of a report.
-fn read_journal(
-    alloc: Global,
-    bytes: &[u8],
-    world: &World,
-) -> Result<ReadJournal, JournalFault>
+fn read_journal(alloc: Global, bytes: &[u8], world: &World) -> Result<ReadJournal, JournalFault>
     requires world { IsWorld (world_value world.now) }
     requires short { length bytes.now < 2 ^ 63 }
     ensures { ReadsJournal (world_value world.now).plane world.now.plan.lists bytes.now result }
