@@ -8,7 +8,7 @@ use Rattle.std.proofs.lemmas.Bool.{cases_eq}
 use Rattle.list_laws.proofs.Slots.{get_set_same, get_set_other}
 use Rattle.window_sites.specs.Window.{WindowValue}
 use Rattle.tile_map.specs.Plane.{MapValue, IsMap, tiles_of}
-use Rattle.tile_map.specs.Edges.{sizes_of}
+use Rattle.edge_lock.specs.Edges.{sizes_of}
 use Rattle.cell_grid.specs.Grid.{IsGrid}
 use Rattle.draw_stream.specs.Plans.{IsPlan, attempts}
 use Rattle.edge_lock.specs.PlainBoard.{PlainBoardValue, acting_end, lists_on, lists_of_tile, untouched_edge, Moved}

@@ -31,5 +31,4 @@ pub mod Runs
 pub mod Filling
 pub mod Outcomes
 pub mod Boards
-pub mod Extents
 pub mod Resting

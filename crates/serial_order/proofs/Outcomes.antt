@@ -69,7 +69,7 @@ settlement m tiles edges o set is c over =
     record {
       unworn = h.unworn;
       journal = is;
-      order = record {
+      in_order = record {
         serial = record {
           owes = subst (λ ls. OwesNothing m c.plan (records_in ls) (abandoned_in ls)) (sym is) h.owes;
           replayed = h.replayed o.grid set ∙ ap (λ ls. replay c.meaning c.start (records_in ls)) (sym is);

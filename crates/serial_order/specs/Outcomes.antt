@@ -39,7 +39,7 @@ pub record StandsInOneOrder (c : Course) (o : Outcome) : Type 0 where
 pub record IsSettlement (s : Scene) (o : Outcome) : Type 0 where
   pub unworn : NoneIsWorn s
   pub journal : o.journal ≡ logs_of s.tiles
-  pub order : StandsInOneOrder (course_of s) o
+  pub in_order : StandsInOneOrder (course_of s) o
 
 -- the outcome is a settlement, in whatever course of the map these tiles have played
 abbrev pub Settles : MapValue → List TileValue → List EdgeHistory → Outcome → Type 0

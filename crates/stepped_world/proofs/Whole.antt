@@ -48,7 +48,7 @@ module _ {B : Type 0} (after : B → WindowValue → ℕ → WindowValue) (m : M
 -- a settled run
 pub outcome_is : {B : Type 0} (m : MapValue) (g : Course) (new : List (TileWith B)) (b : PlainBoardValue) (order : List ℕ) (o : Outcome) → IsAsStepped (on_map m g) new b order → IsSettlement (scene_of (on_map m g) (values_of new) (histories_on b)) o → IsOutcome (on_map m g) order o
 outcome_is m g new b order o like settled = record {
-  grid = settled.order.serial.replayed ∙ (ap (λ ls. replay g.meaning g.start (records_in ls)) (settled.journal ∙ like.logs) ∙ like.replayed);
+  grid = settled.in_order.serial.replayed ∙ (ap (λ ls. replay g.meaning g.start (records_in ls)) (settled.journal ∙ like.logs) ∙ like.replayed);
   journal = settled.journal ∙ like.logs;
-  in_order = settled.order;
+  in_order = settled.in_order;
 }

@@ -4,7 +4,8 @@ use Rattle.std.specs.List.{range_with_len}
 use Rattle.tile_core.specs.Steps.{steps_in}
 use Rattle.window_sites.specs.Window.{WindowValue}
 use Rattle.tile_map.specs.Plane.{Site, MapValue, tiles_of, in_window}
-use Rattle.tile_map.specs.Edges.{sizes_of, needs_of}
+use Rattle.edge_lock.specs.Edges.{sizes_of}
+use Rattle.tile_map.specs.Edges.{needs_of}
 use Rattle.cell_grid.specs.declared.record.Record.{Record}
 use Rattle.cell_grid.specs.Records.{replay}
 use Rattle.draw_stream.specs.Plans.{attempts}

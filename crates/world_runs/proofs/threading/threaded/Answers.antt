@@ -33,7 +33,7 @@ returns g c =
     let w = world_value c.args.world.now in
     IfOk-weaker c.settle.result _ _ (λ o settled meaning one.
     let over = (c.in_ok-tiles-2.ensures (world_course w meaning) (all_ready g.B.Behave.after (world_value c.args.world.now) c.args.map.now meaning c.args.behaves.items c.in_ok-tiles.tiles.items c.in_ok-grid.grid c.requires.map c.requires.world c.plan_fits.ensures (subst IsGrid c.grid.view_is c.grid.invariant.0) c.in_ok-grid.ensures.fits c.in_ok-grid.ensures.grid c.in_ok-tiles.ensures c.requires.one one)).over in
-    subst (λ (m : MapValue). StandsInOneOrder (on_map m (world_course w meaning)) o) c.requires.map (settled (world_course w meaning) over).order) c.settle.ensures.settled
+    subst (λ (m : MapValue). StandsInOneOrder (on_map m (world_course w meaning)) o) c.requires.map (settled (world_course w meaning) over).in_order) c.settle.ensures.settled
 
 pub plan_fits-requires : goal.plan_fits-requires
 plan_fits-requires g c =
