@@ -8,4 +8,5 @@ pub mod Lengths
 pub mod OneReport
 pub mod Reading
 pub mod Report
+pub mod ReportForm
 pub mod Writing
