@@ -1,6 +1,5 @@
 use Rattle.std.proofs.Common.{rules, arith, ap, sym, ◌∙◌, subst}
 use Rattle.edge_lock.specs.EndLists.{IsHeld}
-use Rattle.tile_map.specs.Plane.{site}
 use Rattle.border_cache.specs.Borders.{site_of}
 use Rattle.border_cache.specs.Windows.{IsEdgeFor}
 use Rattle.border_cache.specs.Copies.{window_cells}

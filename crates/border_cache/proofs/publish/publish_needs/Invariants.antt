@@ -1,5 +1,4 @@
 use Rattle.std.proofs.Common.{take}
-use Rattle.tile_map.specs.Plane.{site}
 use Rattle.border_cache.specs.Borders.{site_of}
 use Rattle.border_cache.specs.Windows.{PublishesAll, centre_of}
 use Rattle.border_cache.specs.Copies.{window_cells}

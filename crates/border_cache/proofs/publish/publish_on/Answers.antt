@@ -1,6 +1,5 @@
 use Rattle.std.proofs.Common.{rules, ℕ, ◌≡◌, ◌<◌, ◌++◌, sym, ap, ◌∙◌, subst}
 use Rattle.edge_lock.specs.Edges.{registers_of}
-use Rattle.tile_map.specs.Plane.{site}
 use Rattle.tile_map.specs.Laws.{IsPlane}
 use Rattle.edge_lock.proofs.BoardLaws.{same_end}
 use Rattle.border_cache.specs.Borders.{site_of}

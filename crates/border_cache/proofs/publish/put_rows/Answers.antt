@@ -1,5 +1,4 @@
 use Rattle.std.proofs.Common.{rules, arith, ◌≤◌, ◌+◌, ◌⊎◌, [], ◌++◌, replicate, refl}
-use Rattle.tile_map.specs.Plane.{site}
 use Rattle.tile_map.proofs.PlaneLaws.{plane}
 use Rattle.border_cache.specs.Borders.{site_of}
 use Rattle.border_cache.specs.Shared.{IsInRow, IsInWindowOf, shared_cell}

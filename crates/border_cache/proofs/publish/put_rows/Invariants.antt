@@ -1,4 +1,3 @@
-use Rattle.tile_map.specs.Plane.{site}
 use Rattle.border_cache.specs.Borders.{site_of}
 use Rattle.border_cache.specs.Accesses.{AddsSome}
 use Rattle.border_cache.specs.Published.{PutsAt}

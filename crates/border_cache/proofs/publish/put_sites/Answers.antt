@@ -1,5 +1,4 @@
 use Rattle.std.proofs.Common.{rules, arith, ◌≡◌, ◌+◌, ◌⊎◌, ℕ, Option, Some, [], ◌++◌, subst}
-use Rattle.tile_map.specs.Plane.{site}
 use Rattle.border_cache.specs.Borders.{site_of}
 use Rattle.border_cache.specs.News.{Covers}
 use Rattle.border_cache.specs.Published.{PutsAt}

@@ -1,4 +1,4 @@
-use Rattle.std.proofs.Common.{◌≡◌, Some, sym, subst}
+use Rattle.std.proofs.Common.{Some, sym, subst}
 use Rattle.tile_map.specs.Tables.{IsSharedArea}
 use Rattle.border_cache.specs.Borders.{IsBorderOf, IsCentreOf, site_of}
 use Rattle.border_cache.specs.News.{AreMasks}

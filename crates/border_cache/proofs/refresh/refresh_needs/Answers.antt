@@ -1,9 +1,7 @@
 use Rattle.std.proofs.Common.{rules, arith, ap, ◌∙◌, sym, subst}
 use Rattle.edge_lock.specs.EndLists.{IsHeld}
-use Rattle.tile_map.specs.Plane.{MapValue, site}
 use Rattle.border_cache.specs.Borders.{site_of}
 use Rattle.border_cache.specs.Windows.{IsEdgeFor}
-use Rattle.border_cache.specs.Copies.{HoldsWindow}
 use Rattle.border_cache.proofs.Open.{centre_kept}
 use Rattle.border_cache.proofs.Runs.{held_all}
 use Rattle.border_cache.proofs.Needs.{rises, refreshed_more}

@@ -3,7 +3,7 @@ use Rattle.std.proofs.lemmas.List.{append-nil}
 use Rattle.edge_lock.specs.Edges.{registers_of}
 use Rattle.edge_lock.proofs.BoardLaws.{same_end}
 use Rattle.edge_lock.specs.declared.history.Access.{Access}
-use Rattle.tile_map.specs.Plane.{Site, site}
+use Rattle.tile_map.specs.Plane.{Site}
 use Rattle.tile_map.specs.Laws.{IsPlane}
 use Rattle.border_cache.specs.Borders.{site_of}
 use Rattle.border_cache.specs.Accesses.{Adds}

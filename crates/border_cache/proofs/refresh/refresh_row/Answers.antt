@@ -1,5 +1,4 @@
 use Rattle.std.proofs.Common.{arith, []}
-use Rattle.tile_map.specs.Plane.{site}
 use Rattle.tile_map.proofs.PlaneLaws.{plane}
 use Rattle.tile_map.proofs.Numbers.{size_low}
 use Rattle.border_cache.specs.Borders.{site_of}

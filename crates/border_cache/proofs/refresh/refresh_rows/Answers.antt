@@ -1,13 +1,8 @@
-use Rattle.std.proofs.Common.{rules, arith, ◌≡◌, ◌≤◌, ◌<◌, ◌+◌, ℕ, Some, [], ◌++◌, length, sym, subst}
-use Rattle.tile_map.specs.Plane.{MapValue, IsMap, site}
-use Rattle.tile_map.specs.Edges.{pairs_of}
-use Rattle.tile_map.specs.Tables.{IsSharedArea}
+use Rattle.std.proofs.Common.{rules, arith, ◌≤◌, ◌+◌, [], ◌++◌, sym, subst}
 use Rattle.tile_map.proofs.PlaneLaws.{plane}
 use Rattle.border_cache.specs.Borders.{IsAreaOf, site_of}
-use Rattle.border_cache.specs.Copies.{HoldsWindow}
 use Rattle.border_cache.specs.News.{NewsIn}
 use Rattle.border_cache.specs.Shared.{IsInRow, IsInWindowOf}
-use Rattle.border_cache.specs.Windows.{sites_on}
 use Rattle.border_cache.proofs.Open.{open_adds, centre_stays}
 use Rattle.border_cache.proofs.Runs.{adds_none, adds_then}
 use Rattle.border_cache.proofs.Taken.{takes_none, takes_news, takes_same}

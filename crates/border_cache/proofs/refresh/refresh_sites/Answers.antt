@@ -1,7 +1,5 @@
-use Rattle.std.proofs.Common.{rules, arith, ◌≡◌, ◌<◌, ◌+◌, ℕ, Option, Some, [], ◌++◌, sym, ◌∙◌, subst}
-use Rattle.tile_map.specs.Plane.{MapValue, site}
+use Rattle.std.proofs.Common.{rules, arith, ◌≡◌, ◌<◌, ◌+◌, ℕ, Option, Some, [], ◌++◌, subst}
 use Rattle.border_cache.specs.Borders.{site_of}
-use Rattle.border_cache.specs.Copies.{HoldsWindow}
 use Rattle.border_cache.specs.News.{Covers, NewsIn}
 use Rattle.border_cache.specs.Shared.{TakesAt}
 use Rattle.border_cache.specs.Windows.{place_in}

@@ -1,4 +1,4 @@
-use Rattle.std.proofs.Common.{◌≡◌, Some, subst}
+use Rattle.std.proofs.Common.{Some, subst}
 use Rattle.tile_map.specs.Tables.{IsSharedArea}
 use Rattle.border_cache.specs.Borders.{IsBorderOf, IsCentreOf}
 use Rattle.border_cache.proofs.refresh.take_news.Goals as goal
