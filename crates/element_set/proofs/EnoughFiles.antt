@@ -1,6 +1,7 @@
 -- Names find the same in the flat files within their own bounds as in all of them.
-use Rattle.std.proofs.Common.{◌≡◌, ℕ, ◌+◌, ◌<◌, ◌≤◌, ◌⊎◌, inl, inr, refl, sym, ap, subst, ◌∙◌, List, [], ◌∷◌, ◌++◌, length, map, take, drop, Bool, true, false, ◌||◌, cond, Ok, Err, Some, Result, Vec, IfOk, arith, length-append, length-take-le, take-append-drop}
+use Rattle.std.proofs.Common.{◌≡◌, ℕ, ◌+◌, ◌<◌, ◌≤◌, ◌⊎◌, inl, inr, refl, sym, ap, subst, ◌∙◌, List, [], ◌∷◌, ◌++◌, length, map, take, drop, Bool, true, false, ◌||◌, cond, Ok, Err, Some, Result, IfOk, arith, length-append, length-take-le, take-append-drop}
 use Rattle.std.specs.List.{flat_map, list_all}
+use Rattle.std.specs.Global.{Vec}
 use Rattle.std.proofs.lemmas.Bool.{cases_lt, ltb-true}
 use Rattle.std.proofs.lemmas.List.{map-append, take_all}
 use Rattle.ulam_tree.specs.Found.{◌>>=◌}
