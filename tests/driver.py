@@ -12,7 +12,7 @@ The parts, in the order in which they are begun:
   tables      the tables of tests/tables
   errors      the examples of docs/errors.md
   audits      audits of the reports of the cases
-  edits       each crate has its edits that the check must refuse, and each can be applied
+  edits       each crate has its edits that the check must refuse, each can be applied, and they show its public calls
   sources     what scripts find in the sources: answers of NoMemory, libraries, statements, clauses
   release     tools/release, and the released folder used without the kit
   editors     the files for editors: colours of each token, places of refusals

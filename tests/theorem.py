@@ -137,9 +137,10 @@ class Block:
     end: int
 
 
-def is_indented(lines: list[str], at: int) -> bool:
-    """Whether there is a line, and it belongs to a block."""
-    return at < len(lines) and lines[at].startswith("    ")
+def is_of_block(lines: list[str], at: int) -> bool:
+    """Whether a line is one of a block: it is indented, or is blank before one that is."""
+    following = lines[at + 1:at + 2]
+    return lines[at].startswith("    ") or (not lines[at] and following != [] and following[0].startswith("    "))
 
 
 def blocks(lines: list[str]) -> Iterator[Block]:
@@ -147,7 +148,7 @@ def blocks(lines: list[str]) -> Iterator[Block]:
     for at, line in enumerate(lines):
         if found := LINE.fullmatch(line):
             begin = end = at + 2
-            while end < len(lines) and (lines[end].startswith("    ") or not lines[end] and is_indented(lines, end + 1)):
+            while end < len(lines) and is_of_block(lines, end):
                 end += 1
             yield Block([Name(found[1], name) for name in re.findall(r"`([^`]+)`", found[2])], begin, end)
 

@@ -1,7 +1,7 @@
 -- Events that are made one after another and taken back.
 use Rattle.std.proofs.Common.{ℕ, ◌≡◌, ◌<◌, ◌+◌, ◌*◌, List, [], ◌∷◌, ◌++◌, All, Bool, true, false, length, get_or, take, refl, sym, ap, subst, ◌∙◌, arith}
 use Rattle.std.proofs.lemmas.List.{same_from_push, take_more, length_push}
-use Rattle.event_film.proofs.Records.{no_record}
+use Rattle.event_film.proofs.Records.{record_at}
 use Rattle.window_sites.specs.Window.{WindowValue}
 use Rattle.cell_grid.specs.Grid.{ArePlanesAlike, GridValue, IsLive, event, window_of}
 use Rattle.cell_grid.specs.Records.{replay}
@@ -30,19 +30,19 @@ module _ (after : WindowValue → ℕ → WindowValue) where
   replay_push g [] r = refl
   replay_push g (x ∷ rs) r = replay_push (event after g x.x x.y x.seed) rs r
 
-  film_more : (g : GridValue) (records : List Record) (k : ℕ) → k < length records → film_of after g (take (k + 1) records) ≡ film_of after g (take k records) ++ kept_of (replay after g (take k records)) (get_or records k no_record) ∷ []
-  film_more g records k lt = ap (film_of after g) (take_more records k no_record lt) ∙ film_push g (take k records) (get_or records k no_record)
+  film_more : (g : GridValue) (records : List Record) (k : ℕ) → k < length records → film_of after g (take (k + 1) records) ≡ film_of after g (take k records) ++ kept_of (replay after g (take k records)) (record_at records k) ∷ []
+  film_more g records k lt = ap (film_of after g) (take_more records k (record_at [] 0) lt) ∙ film_push g (take k records) (record_at records k)
 
   replay_more : (g : GridValue) (records : List Record) (k : ℕ) → k < length records →
-      replay after g (take (k + 1) records) ≡ event after (replay after g (take k records)) (get_or records k no_record).x (get_or records k no_record).y (get_or records k no_record).seed
-  replay_more g records k lt = ap (replay after g) (take_more records k no_record lt) ∙ replay_push g (take k records) (get_or records k no_record)
+      replay after g (take (k + 1) records) ≡ event after (replay after g (take k records)) (record_at records k).x (record_at records k).y (record_at records k).seed
+  replay_more g records k lt = ap (replay after g) (take_more records k (record_at [] 0) lt) ∙ replay_push g (take k records) (record_at records k)
 
   -- one event more
   pub made : (start : GridValue) (records : List Record) (k : ℕ) (film film' : FilmValue) (grid grid' : GridValue) → k < length records → IsAt after start records k (reel film grid) →
-      film'.kept ≡ film.kept ++ kept_of grid (get_or records k no_record) ∷ [] → film'.spare + 1 ≡ film.spare →
-      grid' ≡ event after grid (get_or records k no_record).x (get_or records k no_record).y (get_or records k no_record).seed → IsAt after start records (k + 1) (reel film' grid')
+      film'.kept ≡ film.kept ++ kept_of grid (record_at records k) ∷ [] → film'.spare + 1 ≡ film.spare →
+      grid' ≡ event after grid (record_at records k).x (record_at records k).y (record_at records k).seed → IsAt after start records (k + 1) (reel film' grid')
   made start records k film film' grid grid' lt at kept spare is =
-      let r = get_or records k no_record in
+      let r = record_at records k in
       record {
         kept = kept ∙ (λ i. at.kept i ++ kept_of (at.grid_is i) r ∷ []) ∙ sym (film_more start records k lt);
         spare = omega (arith, spare, at.spare);
@@ -53,16 +53,16 @@ module _ (after : WindowValue → ℕ → WindowValue) where
   pub can_undo : (start : GridValue) (records : List Record) (k : ℕ) (film : FilmValue) (grid : GridValue) → k < length records → All (λ (r : Record). IsLive start r.x r.y) records → ArePlanesAlike start grid →
       IsAt after start records (k + 1) (reel film grid) → CanUndo film grid
   can_undo start records k film grid lt live alike at kept last is =
-      let same = same_from_push kept (film_of after start (take k records)) last (kept_of (replay after start (take k records)) (get_or records k no_record)) (sym is ∙ at.kept ∙ film_more start records k lt) in
-      subst (λ (e : Kept). IsLive grid e.x e.y) (sym same.1) (live_alike start grid (get_or records k no_record).x (get_or records k no_record).y alike (live k no_record lt))
+      let same = same_from_push kept (film_of after start (take k records)) last (kept_of (replay after start (take k records)) (record_at records k)) (sym is ∙ at.kept ∙ film_more start records k lt) in
+      subst (λ (e : Kept). IsLive grid e.x e.y) (sym same.1) (live_alike start grid (record_at records k).x (record_at records k).y alike (live k (record_at [] 0) lt))
 
   pub taken_back : (start : GridValue) (records : List Record) (k : ℕ) (film film' : FilmValue) (grid grid' : GridValue) (b : Bool) → k < length records → IsAt after start records (k + 1) (reel film grid) →
       Undoes film film' grid grid' b → IsAt after start records k (reel film' grid')
   taken_back start records k film film' grid grid' false lt at u =
       let some = ap length (sym u.0 ∙ at.kept ∙ film_more start records k lt) in
-      absurd (omega (arith, some, length_push (film_of after start (take k records)) (kept_of (replay after start (take k records)) (get_or records k no_record))))
+      absurd (omega (arith, some, length_push (film_of after start (take k records)) (kept_of (replay after start (take k records)) (record_at records k))))
   taken_back start records k film film' grid grid' true lt at u =
-      let r = get_or records k no_record in
+      let r = record_at records k in
       let g = replay after start (take k records) in
       let same = same_from_push film'.kept (film_of after start (take k records)) u.0 (kept_of g r) (sym u.1 ∙ at.kept ∙ film_more start records k lt) in
       record {

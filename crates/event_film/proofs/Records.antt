@@ -1,5 +1,7 @@
--- A record to read where a list of records has none.
+-- Reading a list of records.
+use Rattle.std.proofs.Common.{ℕ, List, get_or}
 use Rattle.cell_grid.specs.declared.record.Record.{Record}
 
-abbrev pub no_record : Record
-no_record = record { stamp = 0; tile = 0; attempt = 0; x = 0; y = 0; seed = 0 }
+-- record k of a list, or one of zeros
+abbrev pub record_at : List Record → ℕ → Record
+record_at records k = get_or records k (record { stamp = 0; tile = 0; attempt = 0; x = 0; y = 0; seed = 0 })

@@ -11,7 +11,8 @@ use Rattle.cell_grid.specs.declared.record.Record.{Record}
 use Rattle.draw_stream.specs.declared.attempt.Attempt.{Attempt}
 use Rattle.draw_stream.specs.Plans.{PlanValue}
 use Rattle.report_text.specs.Forms.{abandoned_form, count_form, is_atom, is_header, is_name_state, record_form, take_below}
-use Rattle.report_text.specs.Reading.{Said, Wants, abandoned, abandoned_count, atom_count, atoms, fields_step, header, nothing, nothing_said, put_record, read_lines, record_count, record_step, records, want_abandoned, want_atoms, want_records}
+use Rattle.report_text.specs.Entries.{entries}
+use Rattle.report_text.specs.Reading.{Said, entries_said, Wants, abandoned, abandoned_count, atom_count, atoms, fields_step, header, nothing, nothing_said, put_record, read_lines, record_count, record_step, records, want_abandoned, want_atoms, want_records}
 use Rattle.report_text.specs.JournalText.{abandoned_fields, abandoned_lines, count_fields, record_fields, record_lines}
 use Rattle.event_journal.specs.declared.abandoned.Abandoned.{Abandoned}
 use Rattle.report_text.proofs.ReadLines.{walk_line, walk_start}
@@ -147,7 +148,7 @@ module _ (m : MapValue) (lists : List (List Attempt)) where
   unfolding fields_step is_header one_field
   header_read n d is = refl
 
-  atoms_counted : (n k : ℕ) (d : Said) → k < 2 ^ 32 → fields_step m lists n d atom_count (count_fields (codes "atoms") k) ≡ Ok (record d { wants = want_atoms k })
+  atoms_counted : (n k : ℕ) (d : Said) → k < 2 ^ 32 → fields_step m lists n d atom_count (count_fields (codes "atoms") k) ≡ Ok (record d { wants = want_atoms k; sites = k })
   unfolding fields_step
   atoms_counted n k d low = rw (count_again (codes "atoms") k refl low) refl
 
@@ -183,12 +184,13 @@ module _ (m : MapValue) (lists : List (List Attempt)) where
     last : ℕ
     reads : read_lines m lists n d (ended (map record_fields rs) ++ ts) ≡ read_lines m lists last said ts
     wants : said.wants ≡ abandoned_count
+    sites : said.sites ≡ d.sites
     journal : said.journal ≡ d.journal ++ rs
     gone : said.gone ≡ d.gone
 
   events_read : (n : ℕ) (d : Said) (rs : List Record) (ts : List (Option (List ℕ))) → All IsSmallRecord rs → All (IsInPlace m lists) rs → InOrder Comes rs → IsAhead d.before d.lasts rs → d.wants ≡ want_records (length rs) →
       EventsRead n d rs ts
-  events_read n d [] ts small place order ahead is = record { said = d; last = n; reads = refl; wants = is; journal = sym (append-nil d.journal); gone = refl }
+  events_read n d [] ts small place order ahead is = record { said = d; last = n; reads = refl; wants = is; sites = refl; journal = sym (append-nil d.journal); gone = refl }
   events_read n d (r ∷ rs) ts small place order ahead is =
       let e = put_record n d (want_records (length rs)) r in
       let one = All-head IsSmallRecord r rs small in
@@ -199,6 +201,7 @@ module _ (m : MapValue) (lists : List (List Attempt)) where
         last = rest.last;
         reads = one_line n d e (records (length rs)) (record_fields r) (ended (map record_fields rs) ++ ts) is (record_line r (record_words r one)) (event_read n (length rs) d r rs one here ahead) ∙ rest.reads;
         wants = rest.wants;
+        sites = rest.sites;
         journal = rest.journal ∙ append_assoc d.journal (r ∷ []) rs;
         gone = rest.gone;
       }
@@ -215,11 +218,12 @@ module _ (m : MapValue) (lists : List (List Attempt)) where
   record EndsRead (n : ℕ) (d : Said) (gs : List Abandoned) : Type 0 where
     said : Said
     reads : read_lines m lists n d (ended (map abandoned_fields gs)) ≡ Ok said
+    sites : said.sites ≡ d.sites
     journal : said.journal ≡ d.journal
     gone : said.gone ≡ d.gone ++ gs
 
   ends_read : (n : ℕ) (d : Said) (gs : List Abandoned) → All IsSmallAbandoned gs → d.wants ≡ want_abandoned (length gs) → EndsRead n d gs
-  ends_read n d [] small is = record { said = d; reads = over n d is; journal = refl; gone = sym (append-nil d.gone) }
+  ends_read n d [] small is = record { said = d; reads = over n d is; sites = refl; journal = refl; gone = sym (append-nil d.gone) }
   ends_read n d (g ∷ gs) small is =
       let e = record d { wants = want_abandoned (length gs); gone = d.gone ++ g ∷ [] } in
       let one = All-head IsSmallAbandoned g gs small in
@@ -227,21 +231,22 @@ module _ (m : MapValue) (lists : List (List Attempt)) where
       record {
         said = rest.said;
         reads = one_line n d e (abandoned (length gs)) (abandoned_fields g) (ended (map abandoned_fields gs)) is (abandoned_line g (abandoned_words g one)) (given_up_read n (length gs) d g one) ∙ rest.reads;
+        sites = rest.sites;
         journal = rest.journal;
         gone = rest.gone ∙ append_assoc d.gone (g ∷ []) gs;
       }
 
   -- the lines of a report, one kind after another
   report_read : (names : List (List ℕ)) (ss : List Shown) (rs : List Record) (gs : List Abandoned) → All (IsToldAtom names) ss → All IsSmallRecord rs → All (IsInPlace m lists) rs → InOrder Comes rs → All IsSmallAbandoned gs →
-      length ss < 2 ^ 32 → length rs < 2 ^ 32 → length gs < 2 ^ 32 → (d : Said) × (read_lines m lists 1 (nothing_said m) (ended (report_lines names ss rs gs)) ≡ Ok d) × (d.journal ≡ rs) × (d.gone ≡ gs)
+      length ss < 2 ^ 32 → length rs < 2 ^ 32 → length gs < 2 ^ 32 → (d : Said) × (read_lines m lists 1 (nothing_said m) (ended (report_lines names ss rs gs)) ≡ Ok d) × (d.journal ≡ rs) × (d.gone ≡ gs) × (d.sites ≡ length ss)
   report_read names ss rs gs told small place order ends many_atoms many_records many_abandoned =
       let line = λ (l : List (List ℕ)). Some (line_text l) in
       let start = nothing_said m in
       let behind = record_lines rs ++ abandoned_lines gs in
       let counting = record start { wants = atom_count } in
-      let listing = record start { wants = want_atoms (length ss) } in
-      let listed = record start { wants = record_count } in
-      let telling = record start { wants = want_records (length rs) } in
+      let listing = record start { wants = want_atoms (length ss); sites = length ss } in
+      let listed = record listing { wants = record_count } in
+      let telling = record listing { wants = want_records (length rs) } in
       let n = 1 + 1 + 1 + length ss in
       let events = events_read (n + 1) telling rs (ended (abandoned_lines gs)) small place order (start_ahead (tiles_of m) rs) refl in
       let ending = record events.said { wants = want_abandoned (length gs) } in
@@ -261,6 +266,7 @@ module _ (m : MapValue) (lists : List (List Attempt)) where
             ∙ rest.reads,
         rest.journal ∙ events.journal,
         rest.gone ∙ ap (λ z. z ++ gs) events.gone,
+        rest.sites ∙ events.sites,
       )
 
 -- the lines of a report can be read one by one
@@ -299,4 +305,5 @@ read_again names m plan formed p = λ v left.
     let lines = report_lines names (shown g) rs gs in
     let all = lines_are names (shown g) rs gs told.each small ends many_atoms many_records many_abandoned in
     let r = report_read m plan.lists names (shown g) rs gs told.each small place order ends many_atoms many_records many_abandoned in
-    (r.0, sym (walk_start m plan.lists (text_of lines)) ∙ ap (read_lines m plan.lists 1 (nothing_said m)) (ended_again lines all) ∙ r.1, r.2, r.3)
+    ap entries_said (sym (walk_start m plan.lists (text_of lines)) ∙ ap (read_lines m plan.lists 1 (nothing_said m)) (ended_again lines all) ∙ r.1)
+    ∙ (λ i. Ok (entries (r.4 i) (r.2 i) (r.3 i)))

@@ -1,6 +1,7 @@
 pub mod Again
 pub mod Cursors
 pub mod Cuts
+pub mod Entries
 pub mod Forms
 pub mod JournalText
 pub mod Lengths
