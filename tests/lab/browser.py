@@ -12,6 +12,9 @@ from pathlib import Path
 from typing import Any
 
 NAMES = ("chromium", "chromium-browser", "google-chrome", "chrome")
+# What the browser says of a page that it leaves while something is asked of it.
+LEFT = "Inspected target navigated"
+# How long a page or the browser may take, in seconds.
 PATIENCE = 300.0
 KEYS = {"ArrowLeft": 37, "ArrowUp": 38, "ArrowRight": 39, "ArrowDown": 40, "End": 35, "Home": 36, " ": 32, "Tab": 9, "0": 48}
 SHIFT = 8
@@ -108,10 +111,19 @@ class Browser:
     def wait(self, ready: str) -> None:
         """Waits until an expression is true in the page."""
         end = time.monotonic() + PATIENCE
-        while not self.value(ready):
+        while not self.is_so(ready):
             if time.monotonic() > end:
                 raise AssertionError(f"in the page this never comes: {ready}")
             time.sleep(0.05)
+
+    def is_so(self, expression: str) -> bool:
+        """Whether an expression is true in the page; a page that is just being left is asked again."""
+        try:
+            return bool(self.value(expression))
+        except AssertionError as fault:
+            if LEFT not in str(fault):
+                raise
+            return False
 
     def value(self, expression: str) -> Any:
         """The value of an expression in the page."""

@@ -230,8 +230,8 @@ class Refused(ChainCase):
 
     def test_another_chain(self) -> None:
         self.passes(*self.words(1, "--step"))
-        self.refused("begun with --step set, not not set", *self.words(2))
-        self.refused("begun with --seed 3, not 4", *self.words(2, "--step", "--seed", "4"))
+        self.refused("chain: the chain was begun with --step; give it again, or name another folder", *self.words(2))
+        self.refused("begun with --seed 3, not 4; give --seed 3, or name another folder", *self.words(2, "--step", "--seed", "4"))
         self.refused("begun with --keep none, not reports", *self.words(2, "--step", "--keep", "reports"))
         other = self.file("other.ulam", ELEMENTS + " ")
         self.refused("begun with other elements", "chain", self.chain, "--legs", "2", "--step", self.world, other)

@@ -60,7 +60,7 @@ class Chains(SmallCase):
         """Rates are those of the legs together, and atoms are those at the end."""
         told = self.passes("chain", self.chain, "--legs", "2", "--step", "--keep", "reports",
                            "--at", "5:clear:0,0,1,1", self.world, ELEMENTS)
-        self.assertEqual(told.splitlines()[1:], ["--at 5:clear:0,0,1,1: still to come; the chain has 2 legs so far"])
+        self.assertEqual(told.splitlines()[1:], ["--at 5:clear:0,0,1,1: still to come; the chain has 2 legs so far, and --legs 5 or more does it"])
         legs = []
         for leg in (1, 2):
             report = self.file(f"{leg}", self.passes("unpack", self.chain / f"000{leg}.kept.gz"))

@@ -120,10 +120,11 @@ class Build:
         for work in self.works:
             work.take_in(sessions)
         self.progress.at_work({work.crate.name: work.spent for work in self.works})
-        for work in [work for work in self.works if work.is_done()]:
-            self.works.remove(work)
-            self.libraries.finish(work.crate)
-            self.progress.finish(work.crate.name)
+        for work in list(self.works):
+            if work.is_done():
+                self.works.remove(work)
+                self.libraries.finish(work.crate)
+                self.progress.finish(work.crate.name)
 
     def end(self) -> None:
         """Ends what is under way."""

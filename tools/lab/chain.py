@@ -108,8 +108,9 @@ def make(arguments: argparse.Namespace) -> None:
     course = made(arguments, Progress(max(arguments.legs, 1)))
     print(course.summary(arguments.folder))
     for text in arguments.at:
-        if int(text.partition(":")[0]) >= len(course.legs):
-            print(f"--at {text}: still to come; the chain has {len(course.legs) - 1} legs so far")
+        leg = int(text.partition(":")[0])
+        if leg >= len(course.legs):
+            print(f"--at {text}: still to come; the chain has {len(course.legs) - 1} legs so far, and --legs {leg} or more does it")
 
 
 def made(arguments: argparse.Namespace, progress: Progress) -> Course:

@@ -280,11 +280,11 @@ def refuse_other(folder: Folder, was: Begun, now: Begun, world: Path) -> None:
     for option in ("step", "seed", "keep"):
         old, new = getattr(was, option), getattr(now, option)
         if old != new:
-            raise LabError(f"{folder.path}: the chain was begun with --{option} {said(old)}, not {said(new)}")
+            raise LabError(f"{folder.path}: {other_option(option, old, new)}, or name another folder")
 
 
-def said(value: object) -> str:
-    """The value of an option in words."""
-    if isinstance(value, bool):
-        return "set" if value else "not set"
-    return str(value)
+def other_option(option: str, old: object, new: object) -> str:
+    """That a chain was begun with another value of an option, and what to do."""
+    if isinstance(old, bool):
+        return f"the chain was begun with --{option}; give it again" if old else f"the chain was begun without --{option}; leave it out"
+    return f"the chain was begun with --{option} {old}, not {new}; give --{option} {old}"

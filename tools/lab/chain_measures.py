@@ -7,6 +7,7 @@ from lab.errors import LabError
 from lab.failure_finder import Finder
 from lab.files import read_text
 from lab.kept import read_report
+from lab.layout import Layout
 from lab.legs import Maker
 from lab.measures import measured, measures_of
 from lab.progress import Progress
@@ -44,3 +45,21 @@ def with_failures(maker: Maker, course: Course) -> Maker:
     course.changed()
     maker.folder.write_course(course)
     return replace(maker, finder=finder)
+
+
+def carried_on(maker: Maker, course: Course, before: Course) -> tuple[Maker, list[str]]:
+    """The chain with the columns that another's course has; and those measures that its elements have no members for."""
+    can = [name for name in before.measures if is_measurable(name, maker.layout)]
+    maker = with_measures(maker, course, can)
+    if before.has_failures:
+        maker = with_failures(maker, course)
+    return maker, [name for name in before.measures if name not in can]
+
+
+def is_measurable(name: str, layout: Layout) -> bool:
+    """Whether elements have what a measure is of."""
+    try:
+        measures_of([name], layout)
+    except LabError:
+        return False
+    return True

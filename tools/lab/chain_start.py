@@ -91,7 +91,8 @@ def with_acts(maker: Maker, course: Course, acts: Sequence[Act]) -> Maker:
         if known[act.text] > 0:
             known[act.text] -= 1
         elif act.leg <= done:
-            raise LabError(f"--at {act.text}: leg {act.leg} is done, and nothing of the kind was done before it")
+            raise LabError(f"--at {act.text}: leg {act.leg} is done, and nothing of the kind was done before it; "
+                           f"a branch can do it: ./lab chain --from {maker.folder.path} {act.leg - 1} NEW --at .. --legs N")
         else:
             maker.rule.acts.setdefault(act.leg, []).append(act)
             texts = [*texts, act.text]

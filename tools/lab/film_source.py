@@ -35,7 +35,10 @@ class Source:
         if words[0].is_dir():
             return chain_source(program, words[0], words[1:])
         if len(words) < 3:
-            raise LabError("the words have to be WORLD REPORT FILE.., or the folder DIR of a chain")
+            missing = "a report and the element files" if len(words) == 1 else "the element files"
+            here = "" if words[0].exists() else f"{words[0]} is not there; "
+            raise LabError(f"{here}the words have to be WORLD REPORT FILE.., or the folder DIR of a chain; {missing} "
+                           f"should follow {words[-1]}")
         world, path, *files = words
         report = Report.read(path)
         leg = Reported(world, len(report.journal), path, report)

@@ -9,6 +9,7 @@ from typing import Any
 from lab.carets import with_caret
 from lab.chain_folder import Course, Folder
 from lab.chain_fork import anew, fork, free_folder
+from lab.chain_measures import carried_on
 from lab.errors import LabError
 from lab.failure_finder import Finder
 from lab.legs import Maker
@@ -132,6 +133,7 @@ class Live:
                 with ExitStack() as held:
                     held.enter_context(folder.held())
                     maker, course = start.opened(folder)
+                    maker, lost = carried_on(maker, course, self.session.course)
                     before, self.held = self.held, held.pop_all()
         except Refusal as refusal:
             raise LabError(with_caret(str(refusal))) from refusal
@@ -139,7 +141,8 @@ class Live:
         self.begin(maker, course)
         last.end()
         before.close()
-        return f"The elements are read again; the chain goes on in {folder.path.name}."
+        told = f" No longer measured: {', '.join(lost)}." if lost else ""
+        return f"The elements are read again; the chain goes on in {folder.path.name}.{told}"
 
 
 def strings(order: dict[str, Any], name: str) -> list[str]:

@@ -38,7 +38,7 @@ def check(program: Program, sweep: Sweep, number: int, room: Path, copies: dict[
         layout = Layout.of(program, [room / element for element in elements])
         for act in acts_of(sweep.acts_of(run), World.read(room / start), layout, run.seed):
             if act.leg > legs:
-                raise LabError(f"--at {act.text}: a run has {legs} legs")
+                raise LabError(f"--at {act.text}: a run has {legs} leg{'s' * (legs > 1)}; give --legs {act.leg} or more")
     except Refusal as refusal:
         line = str(refusal)
         original = next((f"{file}{line[len(copy):]}" for copy, file in copies.items() if line.startswith(f"{copy}:")), line)

@@ -13,8 +13,8 @@ use Rattle.edge_lock.specs.EndLists.{EndLists}
 use Rattle.edge_lock.specs.EndValues.{EndValue}
 use Rattle.border_cache.specs.Cells.{CellValue, cell_value, newer, newest}
 use Rattle.border_cache.specs.Accesses.{Adds}
-use Rattle.border_cache.specs.News.{IsRefresh, found_cell, no_cell}
-use Rattle.border_cache.specs.Windows.{has, centre_of, place_in, end_at, sites_on, border_at, AddsAll, PublishesAll, seen_on, is_shown}
+use Rattle.border_cache.specs.News.{IsRefresh, found_on, no_cell}
+use Rattle.border_cache.specs.Windows.{has, centre_of, end_at, sites_on, border_at, AddsAll, PublishesAll, seen_on, is_shown}
 
 -- a copy: the plane and the tile that it was made for, and a cell for each site of the rectangle that the tile reaches, row by row
 pub record CacheValue : Type 0 where
@@ -124,7 +124,7 @@ pub record Refreshes (c : Site) (e : ℕ) (old new : CopyAt) : Type 0 where
   pub more : List Access
   pub adds : Adds old.lists new.lists e more
   pub reads : IsRefresh (border_at old.cache.map old.cache.tile c e) more
-  pub stores : Stores c (λ n. newer (window_cells old.cache c n) (found_cell (sites_on old.cache.map e) (end_at old.cache.map old.cache.tile e) more (place_in old.cache.map c e n))) old.cache new.cache
+  pub stores : Stores c (λ n. newer (window_cells old.cache c n) (found_on (border_at old.cache.map old.cache.tile c e) more n)) old.cache new.cache
 
 -- a refresh of the window at c from these edges: each live site has the newest of its own cell and those that were seen
 pub record Refreshed (c : Site) (edges : List ℕ) (old new : CopyAt) : Type 0 where

@@ -81,6 +81,10 @@ abbrev pub found_cell : ℕ → ℕ → List Access → Option ℕ → Option Ce
 found_cell sites end accesses None = None
 found_cell sites end accesses (Some k) = found_cell_at sites end accesses k
 
+-- the cell that was found at site n of the window that meets the border
+abbrev pub found_on : Border → List Access → ℕ → Option CellValue
+found_on b accesses n = found_cell b.sites b.end accesses (b.places n)
+
 -- a value was found in the register
 abbrev pub Finds : List Access → ℕ → Type 0
 Finds accesses register = (value : ℕ) × (found_value accesses register ≡ Some value)

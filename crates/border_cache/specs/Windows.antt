@@ -13,7 +13,7 @@ use Rattle.tile_map.specs.Plane.{Site, MapValue, site, is_live, apart}
 use Rattle.tile_map.specs.Edges.{shared_of, low_end, pairs_of, window_site}
 use Rattle.border_cache.specs.Cells.{CellValue}
 use Rattle.border_cache.specs.Accesses.{IsHonest, after_all}
-use Rattle.border_cache.specs.News.{bit_in, Border, border, found_cell}
+use Rattle.border_cache.specs.News.{bit_in, Border, border, found_on}
 
 -- whether e is one of the edges
 abbrev pub has : ℕ → List ℕ → Bool
@@ -97,10 +97,14 @@ abbrev pub and_cell : Option CellValue → List CellValue → List CellValue
 and_cell None cells = cells
 and_cell (Some cell) cells = cell ∷ cells
 
+-- tile t's end of edge e, as the window at c meets it
+abbrev pub border_at : MapValue → ℕ → Site → ℕ → Border
+border_at m t c e = border (sites_on m e) (end_at m t e) (place_in m c e) 41
+
 -- the cells that were seen at site n of the window, edge by edge
 abbrev pub seen_on : MapValue → ℕ → Site → (ℕ → List Access) → ℕ → List ℕ → List CellValue
 seen_on m t c more n [] = []
-seen_on m t c more n (e ∷ es) = and_cell (found_cell (sites_on m e) (end_at m t e) (more e) (place_in m c e n)) (seen_on m t c more n es)
+seen_on m t c more n (e ∷ es) = and_cell (found_on (border_at m t c e) (more e) n) (seen_on m t c more n es)
 
 -- a site as the centre of a window: the plane, the tile whose site it is, and the site
 pub record Centre : Type 0 where
@@ -110,10 +114,6 @@ pub record Centre : Type 0 where
 
 abbrev pub centre_of : MapValue → ℕ → Site → Centre
 centre_of map tile site = record { map = map; tile = tile; site = site }
-
--- tile t's end of edge e, as the window at c meets it
-abbrev pub border_at : MapValue → ℕ → Site → ℕ → Border
-border_at m t c e = border (sites_on m e) (end_at m t e) (place_in m c e) 41
 
 -- a publishing of the cells of the window at c on these edges
 pub record PublishesAll (c : Centre) (edges : List ℕ) (cells : ℕ → CellValue) (lists lists' : ℕ → EndLists) : Type 0 where

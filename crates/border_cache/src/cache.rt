@@ -13,6 +13,7 @@ ghost use Rattle.border_cache.specs.Shared.{Renews};
 ghost use Rattle.plane_grid.specs.PlaneGrids.{IsGridOf};
 ghost use Rattle.border_cache.specs.Copies.{IsFirstCopy, patch, AreAtomsIn, IsCentre, HoldsWindow, IsEndOf, Puts, PutsFor, at, Refreshed, Published, Marked, Stamped, IsCorner, place_held, held_cell, window_cells};
 
+use crate::border::Centre;
 use crate::cell::Cell;
 use crate::cells::Cells;
 use crate::places::{is_whole, site_at};
@@ -105,7 +106,7 @@ impl Cache {
         if needs.len() == 0 {
             return;
         }
-        refresh_needs(self, map, x, y, needs, board);
+        refresh_needs(self, map, Centre { x, y }, needs, board);
     }
 
     /// The window at a centre, as the cells of its live sites show it.
@@ -177,7 +178,7 @@ impl Cache {
         if needs.len() == 0 {
             return;
         }
-        publish_needs(self, map, x, y, needs, board);
+        publish_needs(self, map, Centre { x, y }, needs, board);
     }
 
     /// The tile.

@@ -6,6 +6,7 @@
 //! for its end, and no others.
 #![tactic(auto)]
 
+mod border;
 mod cache;
 mod cell;
 mod cells;

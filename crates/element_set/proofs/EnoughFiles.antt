@@ -1,6 +1,7 @@
--- Names finds the same in enough of the flat files as in all of them.
-use Rattle.std.proofs.Common.{◌≡◌, ℕ, ◌+◌, ◌<◌, ◌≤◌, ◌⊎◌, inl, inr, refl, sym, ap, subst, ◌∙◌, List, [], ◌∷◌, ◌++◌, length, map, take, drop, Bool, true, false, ◌||◌, cond, Ok, Err, arith, length-append, length-take-le, take-append-drop}
+-- Names find the same in the flat files within their own bounds as in all of them.
+use Rattle.std.proofs.Common.{◌≡◌, ℕ, ◌+◌, ◌<◌, ◌≤◌, ◌⊎◌, inl, inr, refl, sym, ap, subst, ◌∙◌, List, [], ◌∷◌, ◌++◌, length, map, take, drop, Bool, true, false, ◌||◌, cond, Ok, Err, Some, Result, IfOk, arith, length-append, length-take-le, take-append-drop}
 use Rattle.std.specs.List.{flat_map, list_all}
+use Rattle.std.specs.Global.{Vec}
 use Rattle.std.proofs.lemmas.Bool.{cases_lt, ltb-true}
 use Rattle.std.proofs.lemmas.List.{map-append, take_all}
 use Rattle.ulam_tree.specs.Found.{◌>>=◌}
@@ -11,13 +12,23 @@ use Rattle.ulam_tree.proofs.Means.{Means, means_at}
 use Rattle.ulam_heirs.specs.Heads.{Heads}
 use Rattle.ulam_heirs.specs.Lines.{Heir}
 use Rattle.ulam_heirs.specs.Files.{all_heirs, class_count, all_count, is_plain, flat_items, flat_files_from, flat_files}
-use Rattle.ulam_heirs.specs.Enough.{enough_members, cut_item, cut_items, cut_files, are_many, enough_files}
+use Rattle.ulam_heirs.specs.Within.{cut_item, cut_items, cut_files, are_above, files_within}
+use Rattle.ulam_heirs.specs.Views.{files_of}
+use Rattle.ulam_heirs.specs.declared.fault.HeirsFault.{HeirsFault}
 use Rattle.ulam_heirs.proofs.Plain.{plain_same}
+use Rattle.ulam_names.specs.Files.{all_items}
+use Rattle.ulam_tree.specs.declared.raw.File.{File}
+use Rattle.element_set.specs.Told.{flat_row}
+use Rattle.element_set.proofs.Telling.{joined as row_of}
 use Rattle.ulam_names.specs.Faults.{Fault, Found}
-use Rattle.ulam_names.specs.Scopes.{Names, no_names, small_names}
+use Rattle.ulam_names.specs.Scopes.{Names, most_classes, no_names, small_names}
 use Rattle.ulam_names.specs.Classes.{Known, Half, HalfClass, new_class, class_names, members, item, items, all_behave, none_cyclic, whole_classes, head_of, member, program}
 use Rattle.ulam_names.specs.ClassRelation.{AreKnown, IsMember, AreMembers, AreItems}
 use Rattle.ulam_names.proofs.ClassMeans.{known_means, items_mean}
+
+-- the most members that names let a class have, 64 of each sort, and one more
+abbrev pub enough_members : ℕ
+enough_members = 193
 
 -- A class with no more of each sort of name than there may be, and how many names it has.
 
@@ -149,14 +160,14 @@ class_enough : (known : Known) (c : t.Class) → (length c.members < 193) ⊎ (1
 class_enough known c (inl short) = ap (members known no_names) (take_all 193 c.members (omega (arith, short)))
 class_enough known c (inr long) = class_by known c (members known no_names (take enough_members c.members)) refl long
 
-item_enough : (known : Known) (x : Item) → item known (cut_item x) ≡ item known x
+item_enough : (known : Known) (x : Item) → item known (cut_item (Some enough_members) x) ≡ item known x
 item_enough known (t.ulam n) = refl
 item_enough known (t.uses w) = refl
 item_enough known (t.class c) = ap (item_of c) (class_enough known c (cases_lt (length c.members) 193))
 
-items_enough : (known : Known) (xs : List Item) → items known (cut_items xs) ≡ items known xs
+items_enough : (known : Known) (xs : List Item) → items known (cut_items (Some enough_members) xs) ≡ items known xs
 items_enough known [] = refl
-items_enough known (x ∷ xs) = ap (λ (z : Found (List HalfClass)). joined z (items known (cut_items xs))) (item_enough known x) ∙ ap (joined (item known x)) (items_enough known xs)
+items_enough known (x ∷ xs) = ap (λ (z : Found (List HalfClass)). joined z (items known (cut_items (Some enough_members) xs))) (item_enough known x) ∙ ap (joined (item known x)) (items_enough known xs)
 
 -- The names of classes do not depend on members.
 
@@ -167,11 +178,11 @@ names_by : (xs ys : List Item) → SameNames xs ys → (z : Found Known) → (z 
 names_by xs ys same (Ok known) = same known
 names_by xs ys same (Err f) = refl
 
-cut_names : (xs : List Item) → SameNames (cut_items xs) xs
+cut_names : (xs : List Item) → SameNames (cut_items (Some enough_members) xs) xs
 cut_names [] done = refl
 cut_names (t.ulam n ∷ xs) done = cut_names xs done
 cut_names (t.uses w ∷ xs) done = cut_names xs done
-cut_names (t.class c ∷ xs) done = names_by (cut_items xs) xs (cut_names xs) (new_class done c)
+cut_names (t.class c ∷ xs) done = names_by (cut_items (Some enough_members) xs) xs (cut_names xs) (new_class done c)
 
 flat_names : (hs : List Heir) (k : ℕ) (xs ys zs : List Item) → SameNames ys zs → SameNames (xs ++ ys) (flat_items hs k xs ++ zs)
 flat_names hs k [] ys zs same done = same done
@@ -202,8 +213,8 @@ program_by xs ys same (Err f) = refl
 abbrev from_names : List Item → Found Known → Found (List r.Class)
 from_names xs z = z >>= λ (known : Known). items known xs >>= rest_of known
 
-program_cut : (xs : List Item) → program (cut_items xs) ≡ program xs
-program_cut xs = ap (from_names (cut_items xs)) (cut_names xs []) ∙ program_by (cut_items xs) xs (λ known. items_enough known xs) (class_names [] xs)
+program_cut : (xs : List Item) → program (cut_items (Some enough_members) xs) ≡ program xs
+program_cut xs = ap (from_names (cut_items (Some enough_members) xs)) (cut_names xs []) ∙ program_by (cut_items (Some enough_members) xs) xs (λ known. items_enough known xs) (class_names [] xs)
 
 -- where too many classes have names, one is refused
 known_count : (done : Known) (xs : List Item) (known : Known) → AreKnown done xs known → length done ≤ 256 → (length known ≤ 256) × (length known ≡ length done + class_count xs)
@@ -234,12 +245,12 @@ count_all : (fs : List (List Item)) → class_count (in_row fs) ≡ all_count fs
 count_all [] = refl
 count_all (f ∷ fs) = count_row f (in_row fs) ∙ ap (λ n. class_count f + n) (count_all fs)
 
-cut_row : (fs : List (List Item)) → in_row (cut_files fs) ≡ cut_items (in_row fs)
+cut_row : (fs : List (List Item)) → in_row (cut_files (Some enough_members) fs) ≡ cut_items (Some enough_members) (in_row fs)
 cut_row [] = refl
-cut_row (f ∷ fs) = ap (λ (xs : List Item). cut_items f ++ xs) (cut_row fs) ∙ sym (map-append cut_item f (in_row fs))
+cut_row (f ∷ fs) = ap (λ (xs : List Item). cut_items (Some enough_members) f ++ xs) (cut_row fs) ∙ sym (map-append (cut_item (Some enough_members)) f (in_row fs))
 
-enough_by : (fs : List (List Item)) (hs : List Heads) → length fs ≡ length hs → (plain many : Bool) → list_all is_plain hs ≡ plain → are_many fs ≡ many →
-    program (in_row (cond (plain || many) fs (cut_files (flat_files fs hs)))) ≡ program (in_row (flat_files fs hs))
+enough_by : (fs : List (List Item)) (hs : List Heads) → length fs ≡ length hs → (plain many : Bool) → list_all is_plain hs ≡ plain → are_above most_classes fs ≡ many →
+    program (in_row (cond (plain || many) fs (cut_files (Some enough_members) (flat_files fs hs)))) ≡ program (in_row (flat_files fs hs))
 enough_by fs hs long true many p m = ap (λ (gs : List (List Item)). program (in_row gs)) (sym (plain_same fs hs long p).1)
 enough_by fs hs long false true p m =
     let more : 256 < all_count fs = ltb-true 256 (all_count fs) m in
@@ -247,5 +258,17 @@ enough_by fs hs long false true p m =
     program_many (in_row fs) (in_row (flat_files fs hs)) (all_names (all_heirs fs hs) 0 fs) (omega (arith, more, same))
 enough_by fs hs long false false p m = ap program (cut_row (flat_files fs hs)) ∙ program_cut (in_row (flat_files fs hs))
 
-pub enough : (fs : List (List Item)) (hs : List Heads) → length fs ≡ length hs → program (in_row (enough_files fs hs)) ≡ program (in_row (flat_files fs hs))
-enough fs hs long = enough_by fs hs long (list_all is_plain hs) (are_many fs) refl refl
+pub enough : (fs : List (List Item)) (hs : List Heads) → length fs ≡ length hs → program (in_row (files_within most_classes enough_members fs hs)) ≡ program (in_row (flat_files fs hs))
+enough fs hs long = enough_by fs hs long (list_all is_plain hs) (are_above most_classes fs) refl refl
+
+-- so in what the calls give that make flat files, whole and within bounds
+
+pub found_whole : (fs : List (List Item)) (hs : List Heads) (r : Result (Vec File) HeirsFault) → IfOk r (λ v. files_of v.items ≡ flat_files fs hs) →
+    IfOk r (λ v. program (all_items v.items) ≡ program (flat_row fs hs))
+found_whole fs hs (Ok v) e = ap program (row_of v.items ∙ ap in_row e)
+found_whole fs hs (Err f) e = e
+
+pub found_within : (fs : List (List Item)) (hs : List Heads) (r : Result (Vec File) HeirsFault) → length fs ≡ length hs → IfOk r (λ v. files_of v.items ≡ files_within most_classes enough_members fs hs) →
+    IfOk r (λ v. program (all_items v.items) ≡ program (flat_row fs hs))
+found_within fs hs (Ok v) long e = ap program (row_of v.items ∙ ap in_row e) ∙ enough fs hs long
+found_within fs hs (Err f) long e = e

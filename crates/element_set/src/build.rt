@@ -13,13 +13,13 @@ ghost use Rattle.element_set.specs.Stages as stage;
 ghost use Rattle.element_set.specs.Told.{Tells, trees_value};
 
 use crate::fault::BuildFault;
+use crate::flat::flat_files;
 use crate::set::ElementSet;
 use crate::trees::{Trees, read_trees};
 use atom_layout::{Layout, layout};
 use code_gen::compile;
 use feast_base::Source;
 use std::alloc::Global;
-use ulam_heirs::flatten;
 use ulam_names::resolve;
 use ulam_tree::File;
 use ulam_tree::resolved::Program;
@@ -74,7 +74,7 @@ fn flat_set(alloc: Global, trees: Trees) -> Result<ElementSet, BuildFault>
     ensures { Tells set_value (stage.flat_set (trees_value trees)) result }
 {
     let Trees { files, heads } = trees;
-    let flat = flatten(alloc, files, heads.as_slice())?;
+    let flat = flat_files(alloc, files, heads.as_slice())?;
     drop(heads);
     named_set(alloc, flat)
 }

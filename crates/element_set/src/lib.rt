@@ -10,6 +10,7 @@ mod build;
 mod crossing;
 mod elements;
 mod fault;
+mod flat;
 mod law;
 mod lengths;
 mod names;

@@ -26,7 +26,8 @@ use Rattle.feast_base.specs.TypeNames.{is_type_name, is_word_byte, longest_name,
 use Rattle.feast_run.specs.Stages.{journal_limit}
 use Rattle.text_lines.specs.Lines.{ended_line, more_text, text_of}
 use Rattle.tile_map.specs.Plane.{MapValue}
-use Rattle.report_text.proofs.Bounds.{IsSmallAbandoned, IsSmallRecord, abandoned_small, events_few, given_up_few, records_small}
+use Rattle.report_text.proofs.Bounds.{abandoned_small, events_few, given_up_few, records_small}
+use Rattle.report_text.specs.ReportForm.{IsSmallAbandoned, IsSmallRecord}
 use Rattle.report_text.specs.Again.{AreFormed, IsLeft, IsDrawablePlan}
 use Rattle.report_text.specs.Report.{Shown, atom_fields, atom_lines, report, report_lines, report_value, shown, shown_at, shown_from}
 

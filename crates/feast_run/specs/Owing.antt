@@ -4,8 +4,10 @@ use Rattle.cell_grid.specs.declared.record.Record.{Record}
 use Rattle.cell_grid.specs.Grid.{GridValue}
 use Rattle.event_journal.specs.declared.abandoned.Abandoned.{Abandoned}
 use Rattle.event_journal.specs.Serial.{Course, IsSerial}
-use Rattle.feast_run.specs.Stages.{JournalValue, ReadyValue}
-use Rattle.report_text.specs.Report.{report}
+use Rattle.report_text.specs.Entries.{Entries}
+use Rattle.feast_run.specs.Stages.{ReadyValue}
+use Rattle.report_text.specs.Again.{entries_in}
+use Rattle.report_text.specs.Report.{report, report_value}
 use Rattle.tile_map.specs.Plane.{tiles_of}
 use Rattle.world_runs.specs.Fresh.{world_course}
 use Rattle.world_runs.specs.OneTile.{events_of}
@@ -33,5 +35,5 @@ pub record Reports (r : ReadyValue) (text : List ℕ) : Type 0 where
   pub shown : text ≡ report r.names grid records abandoned
 
 -- the events and the abandoned attempts of the run that it is the report of
-abbrev pub reported : {r : ReadyValue} {text : List ℕ} → Reports r text → JournalValue
-reported run = record { records = run.records; abandoned = run.abandoned }
+abbrev pub reported : {r : ReadyValue} {text : List ℕ} → Reports r text → Entries
+reported run = entries_in (report_value run.grid run.records run.abandoned)

@@ -1,9 +1,11 @@
 -- The stepped run of a world.
 use Rattle.std.specs.Prelude.{ℕ, List}
 use Rattle.event_journal.specs.Logs.{LogValue, abandoned_in, records_in}
+use Rattle.report_text.specs.Entries.{Entries}
 use Rattle.feast_run.specs.Owing.{IsRun, course_of}
-use Rattle.feast_run.specs.Stages.{JournalValue, ReadyValue}
-use Rattle.report_text.specs.Report.{report}
+use Rattle.feast_run.specs.Stages.{ReadyValue}
+use Rattle.report_text.specs.Again.{entries_in}
+use Rattle.report_text.specs.Report.{of_logs, report}
 use Rattle.serial_order.specs.declared.outcome.Outcome.{Outcome}
 use Rattle.stepped_world.specs.Ends.{IsOutcome, logs_in}
 use Rattle.stepped_world.specs.Machine.{Machine, stepped}
@@ -19,8 +21,8 @@ abbrev pub stepped_logs : ReadyValue → List LogValue
 stepped_logs r = logs_in r.world.plane (machine_of r)
 
 -- its events in the order of the journal, and its abandoned attempts
-abbrev pub stepped_journal : ReadyValue → JournalValue
-stepped_journal r = record { records = records_in (stepped_logs r); abandoned = abandoned_in (stepped_logs r) }
+abbrev pub stepped_journal : ReadyValue → Entries
+stepped_journal r = entries_in (of_logs (machine_of r).grid (stepped_logs r))
 
 -- its report: its grid, its events in the order of the journal, and its abandoned attempts
 abbrev pub stepped_report : ReadyValue → List ℕ

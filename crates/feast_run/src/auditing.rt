@@ -5,7 +5,7 @@ ghost use Rattle.feast_run.specs.Forms.{audit, most_files, texts};
 ghost use Rattle.feast_run.specs.Outputs.{IsWritable, output_text};
 ghost use Rattle.feast_run.specs.Replies.{TellsForm};
 ghost use Rattle.feast_run.specs.Tellings.{Moves, Tells};
-ghost use Rattle.feast_run.specs.Values.{IsReady, journal_value, ready_value};
+ghost use Rattle.feast_run.specs.Values.{IsReady, ready_value};
 
 use crate::halt::Halt;
 use crate::journals::read_loaded;
@@ -26,7 +26,7 @@ fn audit_line(
     journal: &ReadJournal,
 ) -> Result<Vec<u8>, NoMemory>
     requires { IsReady ready.now }
-    ensures { IfOk result (λ v. Audits (ready_value ready.now) bytes.now (journal_value journal.now) v.items) }
+    ensures { IfOk result (λ v. Audits (ready_value ready.now) bytes.now journal.now v.items) }
 {
     let grid = start(alloc, &ready.world)?;
     let mut actor = ready.elements.actor(alloc)?;

@@ -43,7 +43,7 @@ fn replay_rest<'a, F: Shelf>(
     ensures writable { IfOk result IsWritable }
 {
     let journal = load_journal(alloc, shelf, word, &ready.world)?;
-    let text = replay_text(alloc, &ready, journal.records.as_slice())?;
+    let text = replay_text(alloc, &ready, journal.records())?;
     Ok(Output::Text(text))
 }
 

@@ -35,12 +35,12 @@ pub fn audit<B: Behave>(
     requires plan { IsPlanOf map.now plan.now }
     requires start { IsPlaneGrid map.now start }
     ensures verdict { IfOk result (IsVerdict (course map.now plan.now (B.after behave.old) start)
-        journal.now.records.items journal.now.abandoned.items) }
+        journal.now.records journal.now.abandoned) }
     ensures meaning { B.after behave.new ≡ B.after behave.old }
 {
     map.laws();
-    let records = journal.records.as_slice();
-    let abandoned = journal.abandoned.as_slice();
+    let records = journal.records();
+    let abandoned = journal.abandoned();
     if !is_accounted(alloc, map, plan, records, abandoned)? {
         return Ok(Verdict::NotAccounted);
     }

@@ -1,12 +1,11 @@
 -- A grid of a plane without an atom: its size, the rectangles of the tiles, and what is left of the marks.
-use Rattle.std.proofs.Common.{ℕ, ◌≡◌, ◌≤◌, ◌<◌, ◌+◌, ◌-◌, ◌*◌, ◌/◌, ◌%◌, ◌==◌, ◌&&◌, Bool, true, false, not, length, get_or, refl, sym, ap, subst, ◌∙◌, arith}
+use Rattle.std.proofs.Common.{ℕ, ◌≡◌, ◌≤◌, ◌<◌, ◌+◌, ◌*◌, ◌/◌, ◌%◌, ◌==◌, ◌&&◌, Bool, true, false, not, length, get_or, refl, sym, ap, subst, ◌∙◌, arith}
 use Rattle.std.specs.Prelude.{◌||◌, nat_le, nat_lt}
 use Rattle.std.proofs.lemmas.Bool.Decides.{nat_tests}
 use Rattle.std.proofs.lemmas.List.{length-replicate, get_or-replicate}
 use Rattle.std.proofs.lemmas.List.FromFn.{get_or-map-range_with_len}
 use Rattle.std.proofs.lemmas.Nat.{div-mul-add, mod-mul-add, mul-add-lt}
 use Rattle.std.proofs.Math.Bool.{or-true}
-use Rattle.list_laws.proofs.Numbers.{mul_less_one}
 use Rattle.list_laws.proofs.Tests.{both, together}
 use Rattle.bit_field.specs.Atom.{empty_atom}
 use Rattle.tile_map.specs.Plane.{Site, MapValue, IsMap, site, site_in, tiles_of, is_on, is_live, owner_of, is_owned}

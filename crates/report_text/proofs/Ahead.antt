@@ -15,16 +15,13 @@ use Rattle.draw_stream.specs.declared.attempt.Attempt.{Attempt}
 use Rattle.draw_stream.specs.Plans.{PlanValue, attempts}
 use Rattle.event_journal.specs.Accounts.{IsAccounted, IsEventOf, events_at}
 use Rattle.event_journal.specs.Logs.{is_before}
-use Rattle.report_text.specs.Reading.{first_of, is_at_home, is_attempt, is_behind, not_later, record_fault}
+use Rattle.report_text.specs.Reading.{first_of, is_attempt, is_behind, not_later, record_fault}
 use Rattle.event_journal.specs.declared.abandoned.Abandoned.{Abandoned}
 use Rattle.event_journal.proofs.Journals.{before_of}
 use Rattle.tile_map.specs.Plane.{MapValue, site_in}
 use Rattle.report_text.proofs.Bounds.{IsOfPlan, event_of_plan}
 use Rattle.report_text.specs.Again.{IsDrawablePlan}
-
--- an event that may come behind another: in the order of a journal, and of its tile with a greater attempt
-abbrev pub Comes : Record → Record → Type 0
-Comes r s = (is_before r s ≡ true) × (r.tile ≡ s.tile → r.attempt < s.attempt)
+use Rattle.report_text.specs.ReportForm.{Comes, IsInPlace}
 
 -- events of a journal that is accounted for, from some event on
 record IsTail (m : MapValue) (plan : PlanValue) (rs : List Record) : Type 0 where
@@ -118,12 +115,6 @@ ahead_more n before lasts r rs is order = record {
     | inr other ↦ is.later t q (sym (get_or-set_other lasts r.tile t (Some (n, r.attempt)) None other.1) ∙ e) s (inr i) tile
   ];
 }
-
--- an event that is an attempt of the plan's, at the site of its centre
-pub record IsInPlace (m : MapValue) (lists : List (List Attempt)) (r : Record) : Type 0 where
-  pub some : 1 ≤ r.stamp
-  pub home : is_at_home m r ≡ true
-  pub attempt : is_attempt m (first_of (drop r.attempt (get_or lists r.tile []))) r ≡ true
 
 first_at : (list : List Attempt) (i : ℕ) (a : Attempt) → slice_get list i ≡ Some a → first_of (drop i list) ≡ Some a
 first_at [] i a h = cc h

@@ -19,6 +19,7 @@ use Rattle.tile_map.proofs.PlaneLaws.{needs, owner-one, positions, site_in_low}
 use Rattle.tile_map.proofs.Pairs.{pairs_bounded}
 use Rattle.report_text.proofs.Counting.{HasKey, few_keyed, key_low, key_there, keys_count, keys_from}
 use Rattle.report_text.proofs.Stamps.{stamps_low}
+use Rattle.report_text.specs.ReportForm.{IsSmallAbandoned, IsSmallRecord}
 use Rattle.report_text.specs.Again.{IsDrawable, IsDrawablePlan}
 use Rattle.report_text.specs.OneReport.{AreAbandonedWords, AreRecordWords, IsWord}
 
@@ -89,24 +90,7 @@ of_plan m plan t i x y a p is at =
       owner = ap (owner_of m) at ∙ owner_there m t a.centre p.map tile fits.0;
     }
 
--- numbers that a line of an event, and one of an abandoned attempt, may have
-pub record IsSmallRecord (r : Record) : Type 0 where
-  pub stamp : r.stamp < 2 ^ 32
-  pub tile : r.tile < 2 ^ 32
-  pub attempt : r.attempt < 2 ^ 64
-  pub x : r.x < 2 ^ 32
-  pub y : r.y < 2 ^ 32
-  pub seed : IsWord r.seed
-
-pub record IsSmallAbandoned (a : Abandoned) : Type 0 where
-  pub tile : a.tile < 2 ^ 32
-  pub attempt : a.attempt < 2 ^ 64
-  pub x : a.x < 2 ^ 32
-  pub y : a.y < 2 ^ 32
-  pub edge : a.edge < 2 ^ 32
-  pub holder : a.holder < 2 ^ 32
-  pub holder_attempt : a.holder_attempt < 2 ^ 64
-
+-- such numbers are of at most 64 bits
 pub record_words : (r : Record) → IsSmallRecord r → AreRecordWords r
 record_words r p = (let s = p.stamp in omega (arith, s), let s = p.tile in omega (arith, s), p.attempt, let s = p.x in omega (arith, s), let s = p.y in omega (arith, s), p.seed)
 

@@ -2,13 +2,17 @@ pub mod Ahead
 pub mod AtomLengths
 pub mod Bounds
 pub mod Counting
+pub mod Exact
+pub mod FormRead
 pub mod LineLengths
 pub mod Lists
 pub mod Pairs
 pub mod PrintedLines
 pub mod Putting
 pub mod ReadAgain
+pub mod ReadForm
 pub mod ReadLines
+pub mod ReadSteps
 pub mod Reported
 pub mod Shorter
 pub mod Stamps

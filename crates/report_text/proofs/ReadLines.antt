@@ -12,10 +12,10 @@ use Rattle.tile_map.specs.Plane.{MapValue}
 use Rattle.report_text.specs.declared.journal_fault.LineFault.{LineFault}
 use Rattle.report_text.specs.declared.journal_fault.LineFault.TheVariants.{BadForm}
 use Rattle.report_text.specs.declared.cursors.LogCursor.{LogCursor}
-use Rattle.report_text.specs.Reading.{Said, fields_step, line_step, read_report, read_lines, nothing_said, is_over, go_on, IsFault, fault_of}
-use Rattle.report_text.specs.Cursors.{Serves, last_of, lasts_of, ReadsAs, ReadsJournal, ReadsSaid}
+use Rattle.report_text.specs.Entries.{Entries}
+use Rattle.report_text.specs.Reading.{Said, entries_said, fields_step, line_step, read_report, read_lines, nothing_said, is_over, go_on, IsFault, fault_of}
+use Rattle.report_text.specs.Cursors.{Serves, last_of, lasts_of, ReadsJournal, ReadsSaid}
 use Rattle.report_text.specs.declared.journal_fault.JournalFault.{JournalFault}
-use Rattle.report_text.specs.declared.reader.ReadJournal.{ReadJournal}
 
 pub walk_start : (m : MapValue) (lists : List (List Attempt)) (bytes : List ℕ) → read_lines m lists 1 (nothing_said m) (ended_lines bytes) ≡ read_report m lists bytes
 unfolding read_report
@@ -56,15 +56,15 @@ walk_short m lists n d [] lacks h = ap (read_lines m lists n d) ended_none ∙ r
 walk_short m lists n d (b ∷ bs) lacks h = ap (read_lines m lists n d) (ended_open (b ∷ bs) (λ e. absurd (cc e)) lacks) ∙ walk_open m lists n d
 
 -- an answer by a fault
-pub read_stops : (m : MapValue) (lists : List (List Attempt)) (bytes : List ℕ) (r : Result ReadJournal JournalFault) (fault : JournalFault) → IsErrAnd r (λ e. e ≡ fault) →
+pub read_stops : (m : MapValue) (lists : List (List Attempt)) (bytes : List ℕ) (r : Result Entries JournalFault) (fault : JournalFault) → IsErrAnd r (λ e. e ≡ fault) →
     IsFault (read_report m lists bytes) (fault_of fault) → ReadsJournal m lists bytes r
-read_stops m lists bytes (Ok j) fault is h = absurd is
+read_stops m lists bytes (Ok e) fault is h = absurd is
 read_stops m lists bytes (Err e) fault is h = subst (λ f. IsFault (read_report m lists bytes) (fault_of f)) (sym is) h
 
 -- an answer by what the lines that are left are read as
-pub read_on : (m : MapValue) (lists : List (List Attempt)) (bytes : List ℕ) (asked : Result Said (ℕ × LineFault)) (r : Result ReadJournal JournalFault) → asked ≡ read_report m lists bytes →
+pub read_on : (m : MapValue) (lists : List (List Attempt)) (bytes : List ℕ) (asked : Result Said (ℕ × LineFault)) (r : Result Entries JournalFault) → asked ≡ read_report m lists bytes →
     ReadsSaid asked r → ReadsJournal m lists bytes r
-read_on m lists bytes asked (Ok j) is h = subst (λ q. ReadsAs q j) is h
+read_on m lists bytes asked (Ok e) is h = subst (λ q. entries_said q ≡ Ok e) is h
 read_on m lists bytes asked (Err fault) is h = subst (λ q. IsFault q (fault_of fault)) is h
 
 replicate_more : (n : ℕ) → replicate n None ++ None ∷ [] ≡ replicate {A = Option (ℕ × ℕ)} (suc n) None

@@ -1,15 +1,14 @@
 -- Reports that are read again.
 use Rattle.std.specs.Prelude.{ℕ, ◌≡◌, ◌≤◌, ◌<◌, ◌*◌, List, All, Ok, length, sum_by, true}
-use Rattle.cell_grid.specs.declared.record.Record.{Record}
 use Rattle.draw_stream.specs.declared.attempt.Attempt.{Attempt}
 use Rattle.draw_stream.specs.Plans.{PlanValue, attempts}
-use Rattle.report_text.specs.Reading.{Said, read_report}
+use Rattle.report_text.specs.Entries.{Entries, entries}
+use Rattle.report_text.specs.Reading.{entries_said, read_report}
 use Rattle.event_journal.specs.Serial.{OwesNothing}
-use Rattle.event_journal.specs.declared.abandoned.Abandoned.{Abandoned}
 use Rattle.feast_base.specs.TypeNames.{is_type_name}
 use Rattle.tile_map.specs.Plane.{MapValue, IsMap, tiles_of}
 use Rattle.report_text.specs.OneReport.{IsWord}
-use Rattle.report_text.specs.Report.{AreNamed, ReportValue, report_of}
+use Rattle.report_text.specs.Report.{AreNamed, ReportValue, report_of, shown}
 
 -- each is the name of a type
 abbrev pub AreFormed : List (List ℕ) → Type 0
@@ -35,10 +34,14 @@ pub record IsLeft (names : List (List ℕ)) (m : MapValue) (plan : PlanValue) (v
   pub named : AreNamed names v.grid.atoms
   pub owes : OwesNothing m plan v.records v.abandoned
 
--- the text of a report says these events and these abandoned attempts
-abbrev pub SaysThese : MapValue → List (List Attempt) → List ℕ → List Record → List Abandoned → Type 0
-SaysThese m lists bytes records abandoned = (d : Said) × (read_report m lists bytes ≡ Ok d) × (d.journal ≡ records) × (d.gone ≡ abandoned)
+-- the entries of a report: a site is shown if it is not empty
+abbrev pub entries_in : ReportValue → Entries
+entries_in v = entries (length (shown v.grid)) v.records v.abandoned
 
--- the report of whatever a run of the plan left says its events and its abandoned attempts
+-- the text of a report says these entries
+abbrev pub SaysThese : MapValue → List (List Attempt) → List ℕ → Entries → Type 0
+SaysThese m lists bytes e = entries_said (read_report m lists bytes) ≡ Ok e
+
+-- the report of whatever a run of the plan left says its entries
 abbrev pub AreReadAgain : List (List ℕ) → MapValue → PlanValue → Type 0
-AreReadAgain names m plan = (v : ReportValue) → IsLeft names m plan v → SaysThese m plan.lists (report_of names v) v.records v.abandoned
+AreReadAgain names m plan = (v : ReportValue) → IsLeft names m plan v → SaysThese m plan.lists (report_of names v) (entries_in v)

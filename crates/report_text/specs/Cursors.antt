@@ -1,15 +1,15 @@
 -- What the reader of a report keeps: for each tile the attempts that are left.
-use Rattle.std.specs.Prelude.{ℕ, ◌≡◌, ◌+◌, ◌<◌, ◌==◌, List, [], Option, Some, None, drop, length, map, slice_index_or, Result, Ok, Err, if◌then◌else◌}
+use Rattle.std.specs.Prelude.{ℕ, ◌≡◌, ◌+◌, ◌<◌, ◌≤◌, ◌==◌, List, [], Option, Some, None, drop, length, map, slice_index_or, Result, Ok, Err, if◌then◌else◌}
 use Rattle.draw_stream.specs.declared.attempt.Attempt.{Attempt}
 use Rattle.tile_map.specs.Plane.{MapValue}
 use Rattle.report_text.specs.declared.cursors.LogCursor.{LogCursor}
 use Rattle.report_text.specs.declared.reading.Reading.{Reading}
 use Rattle.report_text.specs.declared.reading.Wants.{Wants as CodeWants}
 use Rattle.report_text.specs.declared.reading.Wants.TheVariants.{Header, AtomCount, Atoms, RecordCount, Records, AbandonedCount, Abandoned, Nothing}
-use Rattle.report_text.specs.declared.reader.ReadJournal.{ReadJournal}
 use Rattle.report_text.specs.declared.journal_fault.JournalFault.{JournalFault}
 use Rattle.report_text.specs.declared.journal_fault.LineFault.{LineFault}
-use Rattle.report_text.specs.Reading.{Said, Wants, header, atom_count, atoms, record_count, records, abandoned_count, abandoned, nothing, read_report, IsFault, Steps, fault_of}
+use Rattle.report_text.specs.Entries.{Entries}
+use Rattle.report_text.specs.Reading.{Said, Wants, header, atom_count, atoms, record_count, records, abandoned_count, abandoned, nothing, read_report, entries_said, IsFault, Steps, fault_of}
 
 -- the line and the attempt of a tile's last record
 abbrev pub last_of : LogCursor → Option (ℕ × ℕ)
@@ -55,22 +55,26 @@ wants_value Nothing = nothing
 
 -- what the lines so far say
 abbrev pub said_value : Reading → Said
-said_value d = record { wants = wants_value d.wants; before = d.before; lasts = lasts_of d.cursors.items; journal = d.journal.items; gone = d.gone.items }
+said_value d = record { wants = wants_value d.wants; sites = d.sites; before = d.before; lasts = lasts_of d.cursors.items; journal = d.journal.items; gone = d.gone.items }
+
+-- how many entries were read
+abbrev pub entry_count : Reading → ℕ
+entry_count d = length d.journal.items + length d.gone.items
+
+-- at most one entry more was read
+abbrev pub IsOneMore : Reading → Reading → Type 0
+IsOneMore old new = entry_count new ≤ entry_count old + 1
 
 -- line n was taken by a step from what the lines before it said
 abbrev pub TakesLine : ℕ → (List (List Attempt) → Said → Result Said LineFault) → Reading → Reading → Result (Unit {0}) JournalFault → Type 0
 TakesLine n step old new result = ForServed old.cursors.items (λ lists. Steps n (step lists (said_value old)) (said_value new) result)
 
--- a report is read as these records and abandoned attempts
-abbrev pub ReadsAs : Result Said (ℕ × LineFault) → ReadJournal → Type 0
-ReadsAs asked j = (d : Said) × (asked ≡ Ok d) × (d.journal ≡ j.records.items) × (d.gone ≡ j.abandoned.items)
-
--- at Ok the records and the abandoned attempts that a report says, otherwise its first fault
-abbrev pub ReadsJournal : MapValue → List (List Attempt) → List ℕ → Result ReadJournal JournalFault → Type 0
-ReadsJournal m lists bytes (Ok j) = ReadsAs (read_report m lists bytes) j
+-- at Ok the entries that a report says, otherwise its first fault
+abbrev pub ReadsJournal : MapValue → List (List Attempt) → List ℕ → Result Entries JournalFault → Type 0
+ReadsJournal m lists bytes (Ok e) = entries_said (read_report m lists bytes) ≡ Ok e
 ReadsJournal m lists bytes (Err fault) = IsFault (read_report m lists bytes) (fault_of fault)
 
--- lines are read: at Ok the records and the abandoned attempts that they say, otherwise their first fault
-abbrev pub ReadsSaid : Result Said (ℕ × LineFault) → Result ReadJournal JournalFault → Type 0
-ReadsSaid asked (Ok j) = ReadsAs asked j
+-- lines are read: at Ok the entries that they say, otherwise their first fault
+abbrev pub ReadsSaid : Result Said (ℕ × LineFault) → Result Entries JournalFault → Type 0
+ReadsSaid asked (Ok e) = entries_said asked ≡ Ok e
 ReadsSaid asked (Err fault) = IsFault asked (fault_of fault)

@@ -10,6 +10,7 @@ use Rattle.report_text.specs.declared.journal_fault.LineFault.{LineFault}
 use Rattle.report_text.specs.declared.journal_fault.LineFault.TheVariants.{BadForm, OutOfTurn, ElsewhereThanTile, OtherThanAttempt}
 use Rattle.report_text.specs.declared.journal_fault.JournalFault.{JournalFault}
 use Rattle.report_text.specs.declared.journal_fault.JournalFault.TheVariants.{BadLine, OutOfOrder, NotOwned, NotDrawn, NoMemory}
+use Rattle.report_text.specs.Entries.{Entries, entries}
 use Rattle.report_text.specs.Forms.{record_form, abandoned_form, is_atom, is_header, count_form}
 use Rattle.event_journal.specs.Logs.{is_before}
 
@@ -36,10 +37,11 @@ abbrev pub want_abandoned : ℕ → Wants
 want_abandoned zero = nothing
 want_abandoned (suc k) = abandoned k
 
--- what the lines so far say: what comes next, the record before, for each tile the line and the
--- attempt of its last record, the records and the abandoned attempts
+-- what the lines so far say: what comes next, how many sites are shown, the record before, for each
+-- tile the line and the attempt of its last record, the records and the abandoned attempts
 pub record Said : Type 0 where
   pub wants : Wants
+  pub sites : ℕ
   pub before : Option Record
   pub lasts : List (Option (ℕ × ℕ))
   pub journal : List Record
@@ -114,6 +116,11 @@ abbrev pub counted : Said → (ℕ → Wants) → Option ℕ → Result Said Lin
 counted d next None = Err BadForm
 counted d next (Some k) = Ok (record d { wants = next k })
 
+-- the line of the count of sites
+abbrev pub put_sites : Said → Option ℕ → Result Said LineFault
+put_sites d None = Err BadForm
+put_sites d (Some k) = Ok (record d { wants = want_atoms k; sites = k })
+
 -- the line of an abandoned attempt
 abbrev pub put_abandoned : Said → Wants → Option Abandoned → Result Said LineFault
 put_abandoned d next None = Err BadForm
@@ -122,7 +129,7 @@ put_abandoned d next (Some a) = Ok (record d { wants = next; gone = d.gone ++ a 
 -- the fields of line n, by what the line has to be
 unfoldable pub fields_step : MapValue → List (List Attempt) → ℕ → Said → Wants → List (List ℕ) → Result Said LineFault
 fields_step m lists n d header fs = if is_header fs then Ok (record d { wants = atom_count }) else Err BadForm
-fields_step m lists n d atom_count fs = counted d want_atoms (count_form (codes "atoms") fs)
+fields_step m lists n d atom_count fs = put_sites d (count_form (codes "atoms") fs)
 fields_step m lists n d (atoms k) fs = if is_atom fs then Ok (record d { wants = want_atoms k }) else Err BadForm
 fields_step m lists n d record_count fs = counted d want_records (count_form (codes "journal") fs)
 fields_step m lists n d (records k) fs = record_step m lists n d (want_records k) (record_form fs)
@@ -151,11 +158,16 @@ read_lines m lists n d (t ∷ ts) = go_on n (line_step m lists n d t) (λ e. rea
 
 -- before any line
 abbrev pub nothing_said : MapValue → Said
-nothing_said m = record { wants = header; before = None; lasts = replicate (tiles_of m) None; journal = []; gone = [] }
+nothing_said m = record { wants = header; sites = 0; before = None; lasts = replicate (tiles_of m) None; journal = []; gone = [] }
 
 -- what a text says of a map's journal with these attempts of each tile, or its first fault
 unfoldable pub read_report : MapValue → List (List Attempt) → List ℕ → Result Said (ℕ × LineFault)
 read_report m lists bytes = read_lines m lists 1 (nothing_said m) (ended_lines bytes)
+
+-- the entries that were said
+abbrev pub entries_said : {F : Type 0} → Result Said F → Result Entries F
+entries_said (Ok d) = Ok (entries d.sites d.journal d.gone)
+entries_said (Err fault) = Err fault
 
 -- the line and the cause of a fault; None if memory ran out
 abbrev pub fault_of : JournalFault → Option (ℕ × LineFault)

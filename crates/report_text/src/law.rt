@@ -1,8 +1,10 @@
-//! Laws on reports as texts, on reports that are read again, and on reports that are cut short.
+//! Laws on reports as texts, on what is read as a report, on reports that are read again, and on
+//! reports that are cut short.
 ghost use Rattle.report_text.specs.Again.{AreFormed, AreReadAgain, IsDrawablePlan};
 ghost use Rattle.report_text.specs.Cuts.{AreCutShort};
 ghost use Rattle.report_text.specs.OneReport.{AreTypeNames, IsOneReport, IsReported};
 ghost use Rattle.report_text.specs.Report.{AreNamed, of_logs};
+ghost use Rattle.report_text.specs.ReportForm.{AreReports};
 
 use crate::fitting::is_reported;
 use cell_grid::Grid;
@@ -10,6 +12,19 @@ use draw_stream::AttemptPlan;
 use event_journal::Journal;
 use feast_base::Name;
 use tile_map::Map;
+
+/// Which bytes are read as a report of a map and a plan, and as which entries: exactly those that
+/// are the one text of these entries. Its lines of sites have their form, and its events fit the
+/// map and the plan. So `read` answers `Ok` exactly for such bytes, if there is memory. The call
+/// does nothing: its contract is the law.
+pub fn reports(map: &Map, plan: &AttemptPlan)
+    ensures { AreReports map.now plan.now.lists }
+{
+    // The proof takes from the first reading what holds of every map; the plan is read so that it
+    // is not unused.
+    let _tiles = map.tiles();
+    let _origin = plan.origin();
+}
 
 /// The report of any run of a plan, printed with these names of types and read with the map and the
 /// plan, says the events and the abandoned attempts that the run left. The call does nothing: its

@@ -24,7 +24,7 @@ mod writer;
 
 pub use journal_fault::{JournalFault, LineFault};
 pub use journal_lengths::{count_len, entries_text_len, journal_text_len, number_len};
-pub use law::{cuts, one_report, reads_again};
+pub use law::{cuts, one_report, reads_again, reports};
 pub use printed::{count_fields, print, print_entries};
 pub use reader::{ReadJournal, read};
 pub use shown::atoms;

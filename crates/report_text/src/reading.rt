@@ -2,8 +2,8 @@
 ghost use Rattle.std.specs.Prelude.{◌≡◌, ◌≤◌, IsOk, length};
 ghost use Rattle.text_lines.specs.Fields.{fields};
 ghost use Rattle.tile_map.specs.Plane.{tiles_of};
-ghost use Rattle.report_text.specs.Reading.{Steps, counted, fields_step, is_over, put_abandoned, record_step, want_abandoned, want_atoms, want_records};
-ghost use Rattle.report_text.specs.Cursors.{StillServe, TakesLine, said_value, wants_value};
+ghost use Rattle.report_text.specs.Reading.{Steps, counted, fields_step, is_over, put_abandoned, put_sites, record_step, want_abandoned, want_atoms, want_records};
+ghost use Rattle.report_text.specs.Cursors.{IsOneMore, StillServe, TakesLine, said_value, wants_value};
 
 use crate::cursors::LogCursor;
 use crate::forms::{abandoned_form, count_form, is_atom, is_header, record_form};
@@ -30,6 +30,7 @@ pub(crate) enum Wants {
 #[derive(Drop)]
 pub(crate) struct Reading {
     pub(crate) wants: Wants,
+    pub(crate) sites: u32,
     pub(crate) before: Option<Record>,
     pub(crate) cursors: Vec<LogCursor>,
     pub(crate) journal: Vec<Record>,
@@ -76,6 +77,20 @@ pub(crate) fn is_over(wants: Wants) -> bool
     matches!(wants, Wants::Nothing)
 }
 
+/// Takes the count of sites in line `n`, or says why it can't be there.
+fn take_sites(n: u64, reading: &mut Reading, count: Option<u32>) -> Result<(), JournalFault>
+    ensures steps { Steps n (put_sites (said_value reading.old) count) (said_value reading.new) result }
+    ensures one { IsOk result → IsOneMore reading.old reading.new }
+    ensures kept { reading.new.cursors ≡ reading.old.cursors }
+{
+    let Some(sites) = count else {
+        return Err(JournalFault::BadLine(n));
+    };
+    reading.sites = sites;
+    reading.wants = want_atoms(sites);
+    Ok(())
+}
+
 /// Takes the record of line `n`, or says why it can't be there.
 #[tactic(auto, unfolding(crate::specs::Reading::record_step))]
 fn take_record(
@@ -88,6 +103,7 @@ fn take_record(
     requires line { 1 ≤ n }
     requires cursors { length reading.old.cursors.items ≡ tiles_of map.now }
     ensures steps { TakesLine n (λ lists said. record_step map.now lists n said (want_records left) entry) reading.old reading.new result }
+    ensures one { IsOk result → IsOneMore reading.old reading.new }
     ensures many { length reading.new.cursors.items ≡ length reading.old.cursors.items }
     ensures serve { IsOk result → StillServe reading.old.cursors.items reading.new.cursors.items }
 {
@@ -113,6 +129,7 @@ fn take_abandoned(
     entry: Option<Abandoned>,
 ) -> Result<(), JournalFault>
     ensures steps { Steps n (put_abandoned (said_value reading.old) (want_abandoned left) entry) (said_value reading.new) result }
+    ensures one { IsOk result → IsOneMore reading.old reading.new }
     ensures kept { reading.new.cursors ≡ reading.old.cursors }
 {
     let Some(a) = entry else {
@@ -134,10 +151,12 @@ pub(crate) fn take_fields(
     requires line { 1 ≤ n }
     requires cursors { length reading.old.cursors.items ≡ tiles_of map.now }
     ensures steps { TakesLine n (λ lists said. fields_step map.now lists n said said.wants (fields text.now)) reading.old reading.new result }
+    ensures one { IsOk result → IsOneMore reading.old reading.new }
     ensures many { length reading.new.cursors.items ≡ length reading.old.cursors.items }
     ensures serve { IsOk result → StillServe reading.old.cursors.items reading.new.cursors.items }
 {
     let next = match reading.wants {
+        Wants::AtomCount => return take_sites(n, reading, count_form(b"atoms", Some(text))),
         Wants::Records(left) => {
             let entry = record_form(Some(text));
             return take_record(map, n, reading, left, entry);
@@ -149,7 +168,6 @@ pub(crate) fn take_fields(
             abandoned_form(Some(text)),
         ),
         Wants::Header if is_header(text) => Some(Wants::AtomCount),
-        Wants::AtomCount => count_form(b"atoms", Some(text)).map(want_atoms),
         Wants::Atoms(left) if is_atom(Some(text)) => Some(want_atoms(left)),
         Wants::RecordCount => count_form(b"journal", Some(text)).map(want_records),
         Wants::AbandonedCount => count_form(b"abandoned", Some(text)).map(want_abandoned),

@@ -1,10 +1,15 @@
 -- Files that have to be made, and files that stay.
-use Rattle.std.proofs.Common.{◌≡◌, List, Some, None, Bool, true, false, ◌||◌, cond, refl, sym, ap}
+use Rattle.std.proofs.Common.{◌≡◌, ◌<◌, ◌≤◌, ◌∙◌, ℕ, List, [], ◌∷◌, length, Some, None, Bool, true, false, ◌||◌, cond, refl, sym, ap}
+use Rattle.std.proofs.lemmas.Bool.{lt-ltb, le-ltb}
+use Rattle.std.proofs.lemmas.List.{length-map}
 use Rattle.std.specs.List.{list_all}
-use Rattle.ulam_tree.specs.Raw.{Item}
+use Rattle.ulam_tree.specs.Raw.{Item, ulam, uses, class}
+use Rattle.ulam_heirs.specs.declared.heir.Heir.{Heir as CodeHeir}
 use Rattle.ulam_heirs.specs.Heads.{Heads}
-use Rattle.ulam_heirs.specs.Files.{flat_files, is_plain}
-use Rattle.ulam_heirs.specs.Enough.{AreSmall, cut_files, are_many, made_files, enough_files}
+use Rattle.ulam_heirs.specs.Files.{all_heirs, all_count, flat_files, is_plain}
+use Rattle.ulam_heirs.specs.Within.{cut_item, cut_items, cut_files, are_above, made_within, files_within}
+use Rattle.ulam_heirs.specs.Views.{heir_of, heirs_of}
+use Rattle.ulam_heirs.proofs.Counts.{count_all}
 
 some_by : {A : Type 0} (plain many : Bool) (x cut made : A) → plain ≡ false → Some made ≡ cond many None (Some cut) → made ≡ cond (plain || many) x cut
 some_by true many x cut made p e = cc
@@ -16,26 +21,37 @@ none_by true many x cut p e = cc
 none_by false true x cut p e = refl
 none_by false false x cut p e = cc
 
-pub made_some : (fs : List (List Item)) (hs : List Heads) (gs : List (List Item)) → list_all is_plain hs ≡ false → Some gs ≡ made_files fs hs → gs ≡ enough_files fs hs
-made_some fs hs gs p e = some_by (list_all is_plain hs) (are_many fs) fs (cut_files (flat_files fs hs)) gs p e
+pub made_some : (classes members : ℕ) (fs : List (List Item)) (hs : List Heads) (gs : List (List Item)) → list_all is_plain hs ≡ false → Some gs ≡ made_within classes members fs hs → gs ≡ files_within classes members fs hs
+made_some classes members fs hs gs p e = some_by (list_all is_plain hs) (are_above classes fs) fs (cut_files (Some members) (flat_files fs hs)) gs p e
 
-pub made_none : (fs : List (List Item)) (hs : List Heads) → list_all is_plain hs ≡ false → None ≡ made_files fs hs → fs ≡ enough_files fs hs
-made_none fs hs p e = none_by (list_all is_plain hs) (are_many fs) fs (cut_files (flat_files fs hs)) p e
+pub made_none : (classes members : ℕ) (fs : List (List Item)) (hs : List Heads) → list_all is_plain hs ≡ false → None ≡ made_within classes members fs hs → fs ≡ files_within classes members fs hs
+made_none classes members fs hs p e = none_by (list_all is_plain hs) (are_above classes fs) fs (cut_files (Some members) (flat_files fs hs)) p e
 
-pub plain_stay : (fs : List (List Item)) (hs : List Heads) → list_all is_plain hs ≡ true → fs ≡ enough_files fs hs
-plain_stay fs hs p = sym (ap (λ (b : Bool). cond (b || are_many fs) fs (cut_files (flat_files fs hs))) p)
+pub plain_stay : (classes members : ℕ) (fs : List (List Item)) (hs : List Heads) → list_all is_plain hs ≡ true → fs ≡ files_within classes members fs hs
+plain_stay classes members fs hs p = sym (ap (λ (b : Bool). cond (b || are_above classes fs) fs (cut_files (Some members) (flat_files fs hs))) p)
 
-cut_whole : {A : Type 0} (many : Bool) (cut flat made : A) → Some made ≡ cond many None (Some cut) → cut ≡ flat → made ≡ flat
-cut_whole true cut flat made e same = cc
-cut_whole false cut flat made e same = cc
+-- without a bound nothing is cut off
 
-few_made : {A B : Type 0} (many : Bool) (cut : A) (x y : B) → None ≡ cond many None (Some cut) → many ≡ false → x ≡ y
-few_made true cut x y e few = cc
-few_made false cut x y e few = cc
+whole_item : (x : Item) → cut_item None x ≡ x
+whole_item (ulam n) = refl
+whole_item (uses w) = refl
+whole_item (class c) = refl
 
--- where no size is refused, nothing is cut off
-pub whole_some : (fs : List (List Item)) (hs : List Heads) (gs : List (List Item)) → Some gs ≡ made_files fs hs → AreSmall fs hs → gs ≡ flat_files fs hs
-whole_some fs hs gs e small = cut_whole (are_many fs) (cut_files (flat_files fs hs)) (flat_files fs hs) gs e small.1
+whole_items : (xs : List Item) → cut_items None xs ≡ xs
+whole_items [] = refl
+whole_items (x ∷ xs) = ap (λ (y : Item). y ∷ cut_items None xs) (whole_item x) ∙ ap (λ (ys : List Item). x ∷ ys) (whole_items xs)
 
-pub whole_none : (fs : List (List Item)) (hs : List Heads) → None ≡ made_files fs hs → AreSmall fs hs → fs ≡ flat_files fs hs
-whole_none fs hs e small = few_made (are_many fs) (cut_files (flat_files fs hs)) fs (flat_files fs hs) e small.0
+pub whole_files : (fs : List (List Item)) → cut_files None fs ≡ fs
+whole_files [] = refl
+whole_files (f ∷ fs) = ap (λ (xs : List Item). xs ∷ cut_files None fs) (whole_items f) ∙ ap (λ (ys : List (List Item)). f ∷ ys) (whole_files fs)
+
+-- there are as many classes as were gathered
+pub as_many : (fs : List (List Item)) (hs : List Heads) (xs : List CodeHeir) → length fs ≡ length hs → heirs_of xs ≡ all_heirs fs hs → all_count fs ≡ length xs
+as_many fs hs xs long e = count_all fs hs long ∙ ap length (sym e) ∙ length-map xs heir_of
+
+-- more classes than so many, or no more
+pub above_none : (classes members : ℕ) (fs : List (List Item)) (hs : List Heads) → classes < all_count fs → None ≡ made_within classes members fs hs
+above_none classes members fs hs more = sym (ap (λ (b : Bool). cond b None (Some (cut_files (Some members) (flat_files fs hs)))) (lt-ltb classes (all_count fs) more))
+
+pub above_some : (classes members : ℕ) (fs : List (List Item)) (hs : List Heads) → all_count fs ≤ classes → Some (cut_files (Some members) (flat_files fs hs)) ≡ made_within classes members fs hs
+above_some classes members fs hs few = sym (ap (λ (b : Bool). cond b None (Some (cut_files (Some members) (flat_files fs hs)))) (le-ltb classes (all_count fs) few))

@@ -5,7 +5,7 @@ pub mod PlaceSets
 pub mod Flat
 pub mod Faults
 pub mod Files
-pub mod Enough
+pub mod Within
 pub mod Laws
 pub mod Behind
 pub mod Simple

@@ -1,5 +1,5 @@
 -- The code's trees and lists as plain ones.
-use Rattle.std.specs.Prelude.{ℕ, ◌≡◌, List, [], ◌∷◌, ◌++◌, map, take, Option, Some, None, option_map, slice_get, Result, IfOk}
+use Rattle.std.specs.Prelude.{ℕ, ◌≡◌, List, [], ◌∷◌, ◌++◌, map, Option, Some, None, option_map, slice_get, Result, IfOk}
 use Rattle.std.specs.Global.{Vec}
 use Rattle.std.specs.Option.{option_and_then}
 use Rattle.feast_base.specs.declared.place.Place.{Place}
@@ -16,7 +16,7 @@ use Rattle.ulam_heirs.specs.declared.heir.Heir.{Heir}
 use Rattle.ulam_heirs.specs.Heads as spec
 use Rattle.ulam_heirs.specs.Lines as lines
 use Rattle.ulam_heirs.specs.Flat.{own_members}
-use Rattle.ulam_heirs.specs.Enough.{enough_members}
+use Rattle.ulam_heirs.specs.Within.{first_of}
 
 abbrev pub base_view : Base → spec.Base
 base_view b = record { class = b.class; base = word_of b.base }
@@ -68,9 +68,9 @@ MakesFiles result fs = IfOk result (λ v. files_of v.items ≡ fs)
 abbrev pub Adds : {X A : Type 0} → (X → A) → Vec X → Vec X → List A → Type 0
 Adds view old new more = map view new.items ≡ map view old.items ++ more
 
--- the same, as far as the first members that are enough go
-abbrev pub AddsEnough : {X A : Type 0} → (X → A) → Vec X → Vec X → List A → Type 0
-AddsEnough view old new more = take enough_members (map view new.items) ≡ take enough_members (map view old.items ++ more)
+-- the same, as far as the first members go, if there is a bound
+abbrev pub AddsFirst : {X A : Type 0} → Option ℕ → (X → A) → Vec X → Vec X → List A → Type 0
+AddsFirst most view old new more = first_of most (map view new.items) ≡ first_of most (map view old.items ++ more)
 
 -- Parts of trees
 

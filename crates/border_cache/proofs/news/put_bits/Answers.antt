@@ -1,20 +1,21 @@
 use Rattle.std.proofs.Common.{rules, arith, [], ◌++◌}
-use Rattle.border_cache.proofs.Runs.{held_adds, adds_none, adds_then}
+use Rattle.border_cache.proofs.Open.{open_adds}
+use Rattle.border_cache.proofs.Runs.{adds_none, adds_then}
 use Rattle.border_cache.proofs.Marks.{bits_begin, bits_more, bits_all}
 use Rattle.edge_lock.proofs.BoardLaws.{same_end, same_end_here}
 use Rattle.border_cache.proofs.news.put_bits.Goals as goal
 
 pub loop-word-init : goal.loop-word-init
 loop-word-init g c = record {
-  put = ([], adds_none (g.D.Board.end c.args.board.now).lists c.args.edge, bits_begin c.args.sites c.args.end c.args.bit c.args.masks.now);
+  put = ([], adds_none (g.D.Board.end c.args.board.now).lists c.args.border.edge, bits_begin c.args.border.sites c.args.border.end c.args.bit c.args.masks.now);
   same = same_end_here (g.D.Board.end c.args.board.now);
   moved = search rules;
 }
 
-pub put_word-requires-clause-held : goal.put_word-requires-clause-held
-put_word-requires-clause-held g c =
+pub put_word-requires-clause-hold : goal.put_word-requires-clause-hold
+put_word-requires-clause-hold g c =
     let r = c.loop-word.invariant.put in
-    held_adds (g.D.Board.end c.args.board.now).lists (g.D.Board.end c.loop-word.board).lists c.args.edge r.0 c.requires.held r.1
+    open_adds (g.D.Board.end c.args.board.now) (g.D.Board.end c.loop-word.board) c.args.border r.0 c.requires.hold c.loop-word.invariant.same r.1
 
 pub loop-word-preserved : goal.loop-word-preserved
 loop-word-preserved g c =
@@ -24,13 +25,13 @@ loop-word-preserved g c =
     let a = (g.D.Board.end c.args.board.now).lists in
     let b = (g.D.Board.end c.loop-word.board).lists in
     let d = (g.D.Board.end c.put_word.new.board).lists in
-    let e = c.args.edge in
+    let e = c.args.border.edge in
     let j = c.loop-word.word in
     record {
       put = (
         r.0 ++ q.0,
-        adds_then a b d e r.0 q.0 c.requires.held r.1 q.1,
-        bits_more c.args.sites c.args.end c.args.bit c.args.masks.now j r.0 q.0 (c.type_inv.masks j).fits r.2 q.2,
+        adds_then a b d e r.0 q.0 c.requires.hold.held r.1 q.1,
+        bits_more c.args.border.sites c.args.border.end c.args.bit c.args.masks.now j r.0 q.0 (c.type_inv.masks j).fits r.2 q.2,
       );
       same = same_end (g.D.Board.end c.args.board.now) (g.D.Board.end c.loop-word.board) (g.D.Board.end c.put_word.new.board) i.same c.put_word.ensures.same;
       moved = search rules;
@@ -39,4 +40,4 @@ loop-word-preserved g c =
 pub returns-clause-put : goal.returns-clause-put
 returns-clause-put g c =
     let r = c.loop-word.invariant.put in
-    (r.0, r.1, bits_all c.args.sites c.args.end c.args.bit c.args.masks.now c.loop-word.word r.0 (omega (arith, c.loop-word-test.false)) r.2)
+    (r.0, r.1, bits_all c.args.border.sites c.args.border.end c.args.bit c.args.masks.now c.loop-word.word r.0 (omega (arith, c.loop-word-test.false)) r.2)

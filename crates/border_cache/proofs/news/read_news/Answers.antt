@@ -1,22 +1,23 @@
 use Rattle.std.proofs.Common.{rules, arith, refl, [], ◌++◌, ◌<◌, ◌∙◌}
 use Rattle.std.proofs.lemmas.List.{length-set}
-use Rattle.border_cache.proofs.Runs.{held_adds, adds_none, adds_then}
+use Rattle.border_cache.proofs.Open.{open_adds}
+use Rattle.border_cache.proofs.Runs.{adds_none, adds_then}
 use Rattle.border_cache.proofs.Refreshes.{news_begin, news_more_words, news_all}
 use Rattle.edge_lock.proofs.BoardLaws.{same_end, same_end_here}
 use Rattle.border_cache.proofs.news.read_news.Goals as goal
 
 pub loop-word-init : goal.loop-word-init
 loop-word-init g c = record {
-  read = ([], adds_none (g.D.Board.end c.args.board.now).lists c.args.edge, news_begin c.args.sites c.args.end c.args.masks.now _);
+  read = ([], adds_none (g.D.Board.end c.args.board.now).lists c.args.border.edge, news_begin c.args.border.sites c.args.border.end c.args.masks.now _);
   long = refl;
   same = same_end_here (g.D.Board.end c.args.board.now);
   moved = search rules;
 }
 
-pub read_word-requires-clause-held : goal.read_word-requires-clause-held
-read_word-requires-clause-held g c =
+pub read_word-requires-clause-hold : goal.read_word-requires-clause-hold
+read_word-requires-clause-hold g c =
     let r = c.loop-word.invariant.read in
-    held_adds (g.D.Board.end c.args.board.now).lists (g.D.Board.end c.loop-word.board).lists c.args.edge r.0 c.requires.held r.1
+    open_adds (g.D.Board.end c.args.board.now) (g.D.Board.end c.loop-word.board) c.args.border r.0 c.requires.hold c.loop-word.invariant.same r.1
 
 pub loop-word-preserved : goal.loop-word-preserved
 loop-word-preserved g c =
@@ -26,14 +27,14 @@ loop-word-preserved g c =
     let a = (g.D.Board.end c.args.board.now).lists in
     let b = (g.D.Board.end c.loop-word.board).lists in
     let d = (g.D.Board.end c.read_word.new.board).lists in
-    let e = c.args.edge in
+    let e = c.args.border.edge in
     let j = c.loop-word.word in
-    let inside : j < 9 = omega (arith, c.loop-word-test.true, c.requires.few) in
+    let inside : j < 9 = omega (arith, c.loop-word-test.true, c.requires.hold.few) in
     record {
       read = (
         r.0 ++ q.0,
-        adds_then a b d e r.0 q.0 c.requires.held r.1 q.1,
-        news_more_words c.args.sites c.args.end c.args.masks.now j c.loop-word.news c.read_word.result r.0 q.0 (c.type_inv.masks j).fits (omega (arith, inside, i.long)) r.2 q.2,
+        adds_then a b d e r.0 q.0 c.requires.hold.held r.1 q.1,
+        news_more_words c.args.border.sites c.args.border.end c.args.masks.now j c.loop-word.news c.read_word.result r.0 q.0 (c.type_inv.masks j).fits (omega (arith, inside, i.long)) r.2 q.2,
       );
       long = length-set c.loop-word.news j c.read_word.result ∙ i.long;
       same = same_end (g.D.Board.end c.args.board.now) (g.D.Board.end c.loop-word.board) (g.D.Board.end c.read_word.new.board) i.same c.read_word.ensures.same;
@@ -43,4 +44,4 @@ loop-word-preserved g c =
 pub returns-clause-read : goal.returns-clause-read
 returns-clause-read g c =
     let r = c.loop-word.invariant.read in
-    (r.0, r.1, news_all c.args.sites c.args.end c.args.masks.now c.loop-word.word c.loop-word.news r.0 (omega (arith, c.loop-word-test.false)) r.2)
+    (r.0, r.1, news_all c.args.border.sites c.args.border.end c.args.masks.now c.loop-word.word c.loop-word.news r.0 (omega (arith, c.loop-word-test.false)) r.2)

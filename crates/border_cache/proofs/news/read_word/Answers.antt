@@ -5,7 +5,7 @@ use Rattle.border_cache.proofs.news.read_word.Goals as goal
 
 pub returns-then-mask-eq0-clause-read : goal.returns-then-mask-eq0-clause-read
 returns-then-mask-eq0-clause-read g c =
-    ([], adds_none (g.D.Board.end c.args.board.now).lists c.args.edge, inl (c.if-mask-eq0.true, refl, refl))
+    ([], adds_none (g.D.Board.end c.args.board.now).lists c.args.border.edge, inl (c.if-mask-eq0.true, refl, refl))
 
 pub returns-clause-read : goal.returns-clause-read
 returns-clause-read g c =
@@ -14,6 +14,6 @@ returns-clause-read g c =
     let w = c.news_word.result in
     let v = c.read.result in (
       Read w v ∷ [],
-      adds_read a b c.args.edge w v c.read.ensures.change.lists c.read.ensures.value,
+      adds_read a b c.args.border.edge w v c.read.ensures.change.lists c.read.ensures.value,
       inr (c.if-mask-eq0.false, v, ap (λ r. Read r v ∷ []) c.news_word.ensures.value, refl),
     )

@@ -1,8 +1,9 @@
 use Rattle.std.proofs.Common.{rules, arith, ◌≤◌, ◌+◌, ◌⊎◌, [], ◌++◌, replicate, refl}
-use Rattle.tile_map.specs.Plane.{site}
 use Rattle.tile_map.proofs.PlaneLaws.{plane}
+use Rattle.border_cache.specs.Borders.{site_of}
 use Rattle.border_cache.specs.Shared.{IsInRow, IsInWindowOf, shared_cell}
-use Rattle.border_cache.proofs.Runs.{held_adds, adds_none, adds_then}
+use Rattle.border_cache.proofs.Open.{open_adds}
+use Rattle.border_cache.proofs.Runs.{adds_none, adds_then}
 use Rattle.border_cache.proofs.Written.{puts_none, puts_both, puts_same}
 use Rattle.border_cache.specs.Windows.{place_at, place_in}
 use Rattle.border_cache.proofs.Bits.{masks_by}
@@ -15,18 +16,18 @@ use Rattle.border_cache.proofs.publish.put_rows.Goals as goal
 pub loop-j-init : goal.loop-j-init
 loop-j-init g c =
     let a = c.args.area in
-    let s = site c.args.x c.args.y in
+    let s = site_of c.args.centre in
     record {
       marks = rows_begin a s (replicate 9 0) refl (λ k. no_bits 9 k 0 refl);
-      put = ([], adds_none (g.D.Board.end c.args.board.now).lists c.args.edge, puts_none (IsAbove a s 0) (shared_cell c.args.cache.now c.args.edge) (above_none a s));
+      put = ([], adds_none (g.D.Board.end c.args.board.now).lists c.args.border.edge, puts_none (IsAbove a s 0) (shared_cell c.args.cache.now c.args.border.edge) (above_none a s));
       same = same_end_here (g.D.Board.end c.args.board.now);
       moved = search rules;
     }
 
-pub put_row-requires-clause-held : goal.put_row-requires-clause-held
-put_row-requires-clause-held g c =
+pub put_row-requires-clause-hold : goal.put_row-requires-clause-hold
+put_row-requires-clause-hold g c =
     let r = c.loop-j.invariant.put in
-    held_adds (g.D.Board.end c.args.board.now).lists (g.D.Board.end c.loop-j.board).lists c.args.edge r.0 c.requires.held r.1
+    open_adds (g.D.Board.end c.args.board.now) (g.D.Board.end c.loop-j.board) c.args.border r.0 c.requires.hold c.loop-j.invariant.same r.1
 
 pub loop-j-preserved : goal.loop-j-preserved
 loop-j-preserved g c =
@@ -36,14 +37,14 @@ loop-j-preserved g c =
     let b = (g.D.Board.end c.loop-j.board).lists in
     let d = (g.D.Board.end c.put_row.new.board).lists in
     let a = c.args.area in
-    let s = site c.args.x c.args.y in
+    let s = site_of c.args.centre in
     let j = c.loop-j.j in
-    let cell = shared_cell c.args.cache.now c.args.edge in
+    let cell = shared_cell c.args.cache.now c.args.border.edge in
     record {
       marks = rows_more a s j c.loop-j.masks c.put_row.new.masks i.marks c.put_row.ensures.marks;
       put = (
         p.0 ++ q.0,
-        adds_then (g.D.Board.end c.args.board.now).lists b d c.args.edge p.0 q.0 c.requires.held p.1 q.1,
+        adds_then (g.D.Board.end c.args.board.now).lists b d c.args.border.edge p.0 q.0 c.requires.hold.held p.1 q.1,
         puts_same (λ k. IsAbove a s j k ⊎ IsInRow a s j k) (IsAbove a s (j + 1)) cell (p.0 ++ q.0) (or_above a s j) (above_or a s j) (puts_both (IsAbove a s j) (IsInRow a s j) cell p.0 q.0 p.2 q.2),
       );
       same = same_end (g.D.Board.end c.args.board.now) (g.D.Board.end c.loop-j.board) (g.D.Board.end c.put_row.new.board) i.same c.put_row.ensures.same;
@@ -55,16 +56,16 @@ returns-clause-put g c =
     let p = c.loop-j.invariant.put in
     let v = c.args.cache.now in
     let a = c.args.area in
-    let s = site c.args.x c.args.y in
+    let s = site_of c.args.centre in
     let j = c.loop-j.j in
     let all : 9 ≤ j = omega (arith, c.loop-j-test.false) in
-    let laws = plane v.map c.requires.valid in
-    (p.0, p.1, puts_same (IsAbove a s j) (IsInWindowOf v.map s c.args.edge) (shared_cell v c.args.edge) p.0 (all_above v laws a s c.args.edge c.requires.area.0 c.requires.holds j) (λ k. above_all v laws a s c.args.edge c.requires.area.0 c.requires.holds j k all) p.2)
+    let laws = plane v.map c.requires.centre.plane.valid in
+    (p.0, p.1, puts_same (IsAbove a s j) (IsInWindowOf v.map s c.args.border.edge) (shared_cell v c.args.border.edge) p.0 (all_above v laws a s c.args.border.edge c.requires.area.shared.0 c.requires.centre.holds j) (λ k. above_all v laws a s c.args.border.edge c.requires.area.shared.0 c.requires.centre.holds j k all) p.2)
 
 pub returns-clause-masks : goal.returns-clause-masks
 returns-clause-masks g c =
     let v = c.args.cache.now in
     let a = c.args.area in
-    let s = site c.args.x c.args.y in
-    let laws = plane v.map c.requires.valid in
-    masks_by (place_at a s) (place_in v.map s c.args.edge) 41 c.loop-j.masks (λ n lt. whole_place v.map laws a s c.args.edge n c.requires.area.0) (rows_all a s c.loop-j.j c.loop-j.masks (omega (arith, c.loop-j-test.false)) c.loop-j.invariant.marks)
+    let s = site_of c.args.centre in
+    let laws = plane v.map c.requires.centre.plane.valid in
+    masks_by (place_at a s) (place_in v.map s c.args.border.edge) 41 c.loop-j.masks (λ n lt. whole_place v.map laws a s c.args.border.edge n c.requires.area.shared.0) (rows_all a s c.loop-j.j c.loop-j.masks (omega (arith, c.loop-j-test.false)) c.loop-j.invariant.marks)

@@ -3,8 +3,9 @@ use Rattle.std.proofs.lemmas.List.{append-nil}
 use Rattle.edge_lock.specs.Edges.{registers_of}
 use Rattle.edge_lock.proofs.BoardLaws.{same_end}
 use Rattle.edge_lock.specs.declared.history.Access.{Access}
-use Rattle.tile_map.specs.Plane.{Site, site}
+use Rattle.tile_map.specs.Plane.{Site}
 use Rattle.tile_map.specs.Laws.{IsPlane}
+use Rattle.border_cache.specs.Borders.{site_of}
 use Rattle.border_cache.specs.Accesses.{Adds}
 use Rattle.border_cache.specs.News.{AreMasks, AreNewsRead, IsNewsRead, NewsIn, border}
 use Rattle.border_cache.specs.Windows.{border_at, end_at, place_in, sites_on}
@@ -22,48 +23,61 @@ news_read : (v : CacheValue) (c : Site) (e n end : ℕ) (masks news : List ℕ) 
 news_read v c e n end masks news xs plane count is m r =
     subst (λ (x : ℕ × ℕ). IsNewsRead (border x.0 x.1 (place_in v.map c e) 41) news xs) (λ i. (count i, is i)) (r (place_in v.map c e) 41 m (λ k cov. subst (λ q. k < q) (sym count) (covered_few v.map plane c e k cov)))
 
-pub take_news-requires-clause-held : goal.take_news-requires-clause-held
-take_news-requires-clause-held g c =
+pub read_news-news-requires-clause-hold : goal.read_news-news-requires-clause-hold
+read_news-news-requires-clause-hold g c = record {
+  few = c.shared-sites.ensures.few;
+  two = c.end_of-end.ensures.small;
+  registers = c.requires.edge.registers_on ∙ ap registers_of (sym c.shared-sites.ensures.count);
+  held = c.requires.edge.held;
+}
+
+pub take_news-requires-clause-border : goal.take_news-requires-clause-border
+take_news-requires-clause-border g c = record { edge = c.requires.edge.known; sites = c.shared-sites.ensures.count }
+
+pub take_news-requires-clause-hold : goal.take_news-requires-clause-hold
+take_news-requires-clause-hold g c =
     let q = c.read_news-news.ensures.read in
-    held_adds (g.D.Board.end c.args.board.now).lists (g.D.Board.end c.read_news-news.new.board).lists c.args.edge q.0 c.requires.held q.1
+    record {
+      few = c.shared-sites.ensures.few;
+      two = c.end_of-end.ensures.small;
+      registers = ap (λ f. f c.args.edge) c.read_news-news.ensures.same.1 ∙ (c.requires.edge.registers_on ∙ ap registers_of (sym c.shared-sites.ensures.count));
+      held = held_adds (g.D.Board.end c.args.board.now).lists (g.D.Board.end c.read_news-news.new.board).lists c.args.edge q.0 c.requires.edge.held q.1;
+    }
 
 pub returns-clause-refreshes : goal.returns-clause-refreshes
 returns-clause-refreshes g c =
     let v = c.args.cache.now in
-    let s = site c.args.x c.args.y in
+    let s = site_of c.args.centre in
     let e = c.args.edge in
     let p = c.read_news-news.ensures.read in
     let q = c.take_news.ensures.read in
     let a = (g.D.Board.end c.args.board.now).lists in
     let b = (g.D.Board.end c.read_news-news.new.board).lists in
     let d = (g.D.Board.end c.take_news.new.board).lists in
-    let plane = subst IsPlane c.requires.map c.laws.ensures.plane in
-    let masks = subst (λ m. AreMasks (place_in m s e) 41 c.masks_of-masks.result) c.requires.map c.masks_of-masks.ensures.masks in
-    let count = subst (λ m. c.shared-sites.result ≡ sites_on m e) c.requires.map c.shared-sites.ensures.count in
-    let end = subst (λ m. c.end_of-end.result ≡ end_at m v.tile e) c.requires.map (subst (λ t. c.end_of-end.result ≡ end_at c.args.map.now t e) c.tile.ensures c.end_of-end.ensures.end) in
+    let plane = subst IsPlane c.requires.centre.map c.laws.ensures.plane in
+    let masks = subst (λ m. AreMasks (place_in m s e) 41 c.masks_of-masks.result) c.requires.centre.map c.masks_of-masks.ensures.masks in
+    let count = subst (λ m. c.shared-sites.result ≡ sites_on m e) c.requires.centre.map c.shared-sites.ensures.count in
+    let end = subst (λ m. c.end_of-end.result ≡ end_at m v.tile e) c.requires.centre.map (subst (λ t. c.end_of-end.result ≡ end_at c.args.map.now t e) c.tile.ensures c.end_of-end.ensures.end) in
     let read = news_read v s e c.shared-sites.result c.end_of-end.result c.masks_of-masks.result c.read_news-news.result p.0 plane count end masks p.2 in
-    refreshes_edge s e c.read_news-news.result v c.take_news.new.cache p.0 q.0 plane c.requires.holds read q.2 a d (adds_then a b d e p.0 q.0 c.requires.held p.1 q.1)
+    refreshes_edge s e c.read_news-news.result v c.take_news.new.cache p.0 q.0 plane c.requires.centre.holds read q.2 a d (adds_then a b d e p.0 q.0 c.requires.edge.held p.1 q.1)
 
 pub returns-then-are_clear-clause-refreshes : goal.returns-then-are_clear-clause-refreshes
 returns-then-are_clear-clause-refreshes g c =
     let v = c.args.cache.now in
-    let s = site c.args.x c.args.y in
+    let s = site_of c.args.centre in
     let e = c.args.edge in
     let p = c.read_news-news.ensures.read in
     let news = c.read_news-news.result in
     let a = (g.D.Board.end c.args.board.now).lists in
     let b = (g.D.Board.end c.read_news-news.new.board).lists in
-    let plane = subst IsPlane c.requires.map c.laws.ensures.plane in
-    let masks = subst (λ m. AreMasks (place_in m s e) 41 c.masks_of-masks.result) c.requires.map c.masks_of-masks.ensures.masks in
-    let count = subst (λ m. c.shared-sites.result ≡ sites_on m e) c.requires.map c.shared-sites.ensures.count in
-    let end = subst (λ m. c.end_of-end.result ≡ end_at m v.tile e) c.requires.map (subst (λ t. c.end_of-end.result ≡ end_at c.args.map.now t e) c.tile.ensures c.end_of-end.ensures.end) in
+    let plane = subst IsPlane c.requires.centre.map c.laws.ensures.plane in
+    let masks = subst (λ m. AreMasks (place_in m s e) 41 c.masks_of-masks.result) c.requires.centre.map c.masks_of-masks.ensures.masks in
+    let count = subst (λ m. c.shared-sites.result ≡ sites_on m e) c.requires.centre.map c.shared-sites.ensures.count in
+    let end = subst (λ m. c.end_of-end.result ≡ end_at m v.tile e) c.requires.centre.map (subst (λ t. c.end_of-end.result ≡ end_at c.args.map.now t e) c.tile.ensures c.end_of-end.ensures.end) in
     let read = news_read v s e c.shared-sites.result c.end_of-end.result c.masks_of-masks.result news p.0 plane count end masks p.2 in
     let clear = clear_bits news (sym c.are_clear.ensures ∙ c.if-are_clear.true) in
     let none = takes_none e (NewsIn news (IsInWindowOf v.map s e)) v (λ k h. let zero = clear k in omega (arith, zero, h.1)) in
-    refreshes_edge s e news v v p.0 [] plane c.requires.holds read none a b (subst (Adds a b e) (sym (append-nil p.0)) p.1)
-
-pub take_news-requires-clause-registers : goal.take_news-requires-clause-registers
-take_news-requires-clause-registers g c = ap (λ f. f c.args.edge) c.read_news-news.ensures.same.1 ∙ (c.requires.registers ∙ ap registers_of (sym c.shared-sites.ensures.count))
+    refreshes_edge s e news v v p.0 [] plane c.requires.centre.holds read none a b (subst (Adds a b e) (sym (append-nil p.0)) p.1)
 
 pub returns-clause-same : goal.returns-clause-same
 returns-clause-same g c = same_end (g.D.Board.end c.args.board.now) (g.D.Board.end c.read_news-news.new.board) (g.D.Board.end c.take_news.new.board) c.read_news-news.ensures.same c.take_news.ensures.same

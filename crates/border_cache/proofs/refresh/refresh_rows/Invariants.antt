@@ -1,4 +1,4 @@
-use Rattle.tile_map.specs.Plane.{site}
+use Rattle.border_cache.specs.Borders.{site_of}
 use Rattle.border_cache.specs.Accesses.{AddsSome}
 use Rattle.border_cache.specs.News.{NewsIn}
 use Rattle.border_cache.specs.Shared.{TakesAt}
@@ -8,7 +8,7 @@ use Rattle.border_cache.proofs.refresh.refresh_rows.Given as goal
 
 abbrev pub invariant-loop-j : goal.invariant-loop-j
 invariant-loop-j g l = record {
-  read : AddsSome l.edge (TakesAt l.edge (NewsIn l.news (IsAbove l.area (site l.x l.y) l.j)) l.fn.cache l.cache) (g.D.Board.end l.fn.board) (g.D.Board.end l.board);
+  read : AddsSome l.border.edge (TakesAt l.border.edge (NewsIn l.news (IsAbove l.area (site_of l.centre) l.j)) l.fn.cache l.cache) (g.D.Board.end l.fn.board) (g.D.Board.end l.board);
   same : SameEnd (g.D.Board.end l.fn.board) (g.D.Board.end l.board);
   moved : g.D.Board.moved l.fn.board l.board;
 }

@@ -8,14 +8,15 @@ use Rattle.report_text.proofs.reader.read_lines.Goals as goal
 pub loop-text-init : goal.loop-text-init
 loop-text-init c =
     let m = c.args.map.now in
-    let start : record { wants = header; before = None; lasts = lasts_of c.args.cursors.items; journal = c.new.result.items; gone = c.new-2.result.items } ≡ nothing_said m =
-    λ i. record { wants = header; before = None; lasts = c.requires.fresh i; journal = c.new.ensures.items i; gone = c.new-2.ensures.items i } in
+    let start : record { wants = header; sites = 0; before = None; lasts = lasts_of c.args.cursors.items; journal = c.new.result.items; gone = c.new-2.result.items } ≡ nothing_said m =
+    λ i. record { wants = header; sites = 0; before = None; lasts = c.requires.fresh i; journal = c.new.ensures.items i; gone = c.new-2.ensures.items i } in
     record {
       rest = λ lists all. ap (λ d. read_lines m lists 1 d (ended_lines c.args.bytes.now)) start ∙ walk_start m lists c.args.bytes.now;
       serve = λ lists all. all;
       many = c.requires.cursors;
       room = omega arith;
       some = omega arith;
+      few = rw (c.new.ensures.items, c.new-2.ensures.items) (omega arith);
     }
 
 pub loop-text-preserved : goal.loop-text-preserved
@@ -34,6 +35,7 @@ loop-text-preserved c =
       many = c.in_ok-take_fields.ensures.many ∙ c.loop-text.invariant.many;
       room = omega (arith, c.in-Some.ensures.1, c.loop-text.invariant.room);
       some = omega arith;
+      few = let one = c.in_ok-take_fields.ensures.one refl in omega (arith, one, c.loop-text.invariant.few);
     }
 
 pub returns-in_err-take_fields : goal.returns-in_err-take_fields

@@ -1,4 +1,4 @@
-use Rattle.std.proofs.Common.{List, ◌≡◌, ◌+◌, ◌≤◌, length}
+use Rattle.std.proofs.Common.{List, ◌≡◌, ◌+◌, ◌<◌, ◌≤◌, length}
 use Rattle.text_lines.specs.Lines.{ended_lines}
 use Rattle.draw_stream.specs.declared.attempt.Attempt.{Attempt}
 use Rattle.tile_map.specs.Plane.{tiles_of}
@@ -13,6 +13,7 @@ invariant-loop-text l = record {
   many : length l.reading.cursors.items ≡ tiles_of l.map;
   room : l.n + length l.left ≤ length l.bytes + 1;
   some : 1 ≤ l.n;
+  few : length l.reading.journal.items + length l.reading.gone.items < l.n;
 }
 
 abbrev pub decreases-loop-text : goal.decreases-loop-text

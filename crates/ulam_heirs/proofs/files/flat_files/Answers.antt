@@ -5,7 +5,7 @@ use Rattle.ulam_tree.specs.declared.raw.Item.{Item}
 use Rattle.ulam_tree.specs.declared.raw.File.{File}
 use Rattle.ulam_heirs.specs.Lines.{Heir}
 use Rattle.ulam_heirs.specs.Files.{class_count, all_count, flat_items}
-use Rattle.ulam_heirs.specs.Enough.{cut_items}
+use Rattle.ulam_heirs.specs.Within.{cut_items}
 use Rattle.ulam_heirs.specs.Views.{heirs_of, files_of}
 use Rattle.ulam_heirs.proofs.NextFile.{file_on, count_on}
 use Rattle.ulam_heirs.proofs.files.flat_files.Goals as goal
@@ -28,8 +28,8 @@ loop-file-preserved c =
     record {
       flat =
           c.loop-file.invariant.flat
-          ∙ file_on hs xs c.loop-file.found.items c.push.new.self.items c.loop-file.file-index c.loop-file.number c.in_ok-items.next c.file-item.result c.in_ok-items.items c.loop-file-test.true c.file-item.is
-          (c.in_ok-items.ensures.items ∙ ap (λ (zs : List Item). cut_items (flat_items hs c.loop-file.number (map item_of zs))) seen)
+          ∙ file_on c.args.most hs xs c.loop-file.found.items c.push.new.self.items c.loop-file.file-index c.loop-file.number c.in_ok-items.next c.file-item.result c.in_ok-items.items c.loop-file-test.true c.file-item.is
+          (c.in_ok-items.ensures.items ∙ ap (λ (zs : List Item). cut_items c.args.most (flat_items hs c.loop-file.number (map item_of zs))) seen)
           (c.in_ok-items.ensures.next ∙ ap (λ (zs : List Item). c.loop-file.number + class_count (map item_of zs)) seen)
           c.in_ok-push.ensures.items;
       next =

@@ -5,7 +5,7 @@ use Rattle.ulam_tree.specs.RawViews.{item_of}
 use Rattle.ulam_tree.specs.declared.raw.Item.{Item}
 use Rattle.ulam_heirs.specs.Lines.{Heir}
 use Rattle.ulam_heirs.specs.Files.{class_count, flat_items}
-use Rattle.ulam_heirs.specs.Enough.{cut_items}
+use Rattle.ulam_heirs.specs.Within.{cut_items}
 use Rattle.ulam_heirs.specs.Views.{heirs_of}
 use Rattle.ulam_heirs.proofs.NextFile.{count_one, item_on, number_on}
 use Rattle.ulam_heirs.proofs.files.flat_items.Goals as goal
@@ -30,11 +30,11 @@ loop-item-preserved c =
     record {
       flat =
           c.loop-item.invariant.flat
-          ∙ at_drop_more (λ (zs : List Item). found ++ cut_items (flat_items hs c.loop-item.number (map item_of zs))) xs c.loop-item.item-index item c.loop-item-test.true
-          ∙ ap (λ (x : Item). found ++ cut_items (flat_items hs c.loop-item.number (item_of x ∷ rest))) (sym c.item-item.is)
-          ∙ ap (λ (zs : List t.Item). found ++ zs) (item_on hs c.loop-item.number c.in_ok-flat.next (item_of item) (item_of c.in_ok-flat.flat) rest c.in_ok-flat.ensures.item c.in_ok-flat.ensures.next)
-          ∙ sym (append_assoc found (item_of c.in_ok-flat.flat ∷ []) (cut_items (flat_items hs c.in_ok-flat.next rest)))
-          ∙ ap (λ (zs : List t.Item). zs ++ cut_items (flat_items hs c.in_ok-flat.next rest)) (sym (ap (map item_of) c.in_ok-push.ensures.items ∙ map-append item_of c.loop-item.found.items (c.in_ok-flat.flat ∷ [])));
+          ∙ at_drop_more (λ (zs : List Item). found ++ cut_items c.args.most (flat_items hs c.loop-item.number (map item_of zs))) xs c.loop-item.item-index item c.loop-item-test.true
+          ∙ ap (λ (x : Item). found ++ cut_items c.args.most (flat_items hs c.loop-item.number (item_of x ∷ rest))) (sym c.item-item.is)
+          ∙ ap (λ (zs : List t.Item). found ++ zs) (item_on c.args.most hs c.loop-item.number c.in_ok-flat.next (item_of item) (item_of c.in_ok-flat.flat) rest c.in_ok-flat.ensures.item c.in_ok-flat.ensures.next)
+          ∙ sym (append_assoc found (item_of c.in_ok-flat.flat ∷ []) (cut_items c.args.most (flat_items hs c.in_ok-flat.next rest)))
+          ∙ ap (λ (zs : List t.Item). zs ++ cut_items c.args.most (flat_items hs c.in_ok-flat.next rest)) (sym (ap (map item_of) c.in_ok-push.ensures.items ∙ map-append item_of c.loop-item.found.items (c.in_ok-flat.flat ∷ [])));
       next =
           number_on c.loop-item.number c.in_ok-flat.next (item_of item) rest c.in_ok-flat.ensures.next
           ∙ ap (λ (x : Item). c.loop-item.number + class_count (item_of x ∷ rest)) c.item-item.is

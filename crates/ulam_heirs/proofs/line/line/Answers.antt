@@ -1,6 +1,6 @@
 use Rattle.std.proofs.Common.{◌≡◌, ◌∙◌, ℕ, List, ap}
 use Rattle.std.specs.Prelude.{reverse}
-use Rattle.ulam_heirs.specs.Lines.{Heir, classes_at, line_numbers}
+use Rattle.ulam_heirs.specs.Lines.{Heir, classes_at}
 use Rattle.ulam_heirs.specs.Views.{heirs_of}
 use Rattle.ulam_heirs.proofs.Walks.{numbers_are}
 use Rattle.ulam_heirs.proofs.line.line.Goals as goal

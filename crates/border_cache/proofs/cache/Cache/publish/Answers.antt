@@ -1,4 +1,4 @@
-use Rattle.std.proofs.Common.{sym, ◌∙◌, subst}
+use Rattle.std.proofs.Common.{rules, sym, ◌∙◌, subst}
 use Rattle.std.specs.Prelude.{All}
 use Rattle.std.proofs.lemmas.List.{nil_from_length}
 use Rattle.tile_map.specs.Plane.{site}
@@ -9,8 +9,12 @@ use Rattle.border_cache.proofs.Needs.{publishes_all_begin}
 use Rattle.border_cache.proofs.Stored.{centre_holds, needs_ready}
 use Rattle.border_cache.proofs.cache.Cache.publish.Goals as goal
 
-pub publish_needs-requires-clause-holds : goal.publish_needs-requires-clause-holds
-publish_needs-requires-clause-holds g c = centre_holds c.args.self.now.map (subst IsPlane c.requires.map c.laws.ensures.plane) c.args.self.now.tile (site c.args.x c.args.y) c.requires.centre
+pub publish_needs-requires-clause-centre : goal.publish_needs-requires-clause-centre
+publish_needs-requires-clause-centre g c = record {
+  map = c.requires.map;
+  plane = record { valid = search rules; x = search rules; y = search rules };
+  holds = centre_holds c.args.self.now.map (subst IsPlane c.requires.map c.laws.ensures.plane) c.args.self.now.tile (site c.args.x c.args.y) c.requires.centre;
+}
 
 pub publish_needs-requires-clause-needs : goal.publish_needs-requires-clause-needs
 publish_needs-requires-clause-needs g c =

@@ -1,4 +1,4 @@
-use Rattle.std.proofs.Common.{sym, ◌∙◌, subst}
+use Rattle.std.proofs.Common.{rules, sym, ◌∙◌, subst}
 use Rattle.std.specs.Prelude.{All}
 use Rattle.std.proofs.lemmas.List.{nil_from_length}
 use Rattle.tile_map.specs.Plane.{site}
@@ -8,8 +8,12 @@ use Rattle.border_cache.specs.Copies.{Refreshed, copy_at}
 use Rattle.border_cache.proofs.Stored.{centre_holds, needs_ready, refreshed_none}
 use Rattle.border_cache.proofs.cache.Cache.refresh.Goals as goal
 
-pub refresh_needs-requires-clause-holds : goal.refresh_needs-requires-clause-holds
-refresh_needs-requires-clause-holds g c = centre_holds c.args.self.now.map (subst IsPlane c.requires.map c.laws.ensures.plane) c.args.self.now.tile (site c.args.x c.args.y) c.requires.centre
+pub refresh_needs-requires-clause-centre : goal.refresh_needs-requires-clause-centre
+refresh_needs-requires-clause-centre g c = record {
+  map = c.requires.map;
+  plane = record { valid = search rules; x = search rules; y = search rules };
+  holds = centre_holds c.args.self.now.map (subst IsPlane c.requires.map c.laws.ensures.plane) c.args.self.now.tile (site c.args.x c.args.y) c.requires.centre;
+}
 
 pub refresh_needs-requires-clause-needs : goal.refresh_needs-requires-clause-needs
 refresh_needs-requires-clause-needs g c =
