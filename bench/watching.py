@@ -11,7 +11,7 @@ from enum import Enum
 from pathlib import Path
 from typing import Optional, Sequence
 
-from first_call.processes import Process, processes
+from processes import Process, processes
 
 # the toolchain's program that checks crates
 CHECKER = "rattle"

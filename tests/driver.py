@@ -4,21 +4,21 @@
 The parts, in the order in which they are begun:
 
   lab         the lab
+  hostile     the quick part of hostile use
   pages       the pages: links, paths, files, commands and what they write
+  python      what a type checker and a linter find in Python (mypy and flake8, where they are there)
   first_call  the first call of ./feast, on a toolchain that only pretends
   cases       the cases of tests/cases
   tables      the tables of tests/tables
   errors      the examples of docs/errors.md
   audits      audits of the reports of the cases
-  edits       each crate has its edits that the check must refuse, and each can be applied
+  edits       each crate has its edits that the check must refuse, each can be applied, and they show its public calls
   sources     what scripts find in the sources: answers of NoMemory, libraries, statements, clauses
-  python      what a type checker and a linter find in Python (mypy and flake8, where they are there)
   release     tools/release, and the released folder used without the kit
   editors     the files for editors: colours of each token, places of refusals
-  hostile     the quick part of hostile use
 
-Some parts are tried side by side, if there are processors for it; hostile use, which also looks at times, is tried by
-itself at the end.
+As many parts are tried side by side as there are processors; long ones are cut into pieces for that. What looks at times
+is tried by itself at the end.
 
 A check is named PART/NAME. `-k` chooses those whose names have the word in them, or match it if it has a `*`; it may be
 given several times. The program is the built one, or the one that FEAST_PROGRAM names. The last line counts all
@@ -29,11 +29,14 @@ from __future__ import annotations
 import argparse
 import concurrent.futures
 import importlib.util
+import itertools
 import multiprocessing
 import os
 import signal
 import sys
 import time
+import unittest
+from collections import Counter
 from dataclasses import dataclass, replace
 from pathlib import Path
 from types import ModuleType
@@ -45,7 +48,7 @@ sys.dont_write_bytecode = True
 # (a file and a package of tools are called `lab` and `first_call` here too: tools goes first, and parts have other names)
 sys.path[0:0] = [str(TOP / "tools"), str(HERE)]
 
-from checks import Choice, Outcome, tried  # noqa: E402
+from checks import Check, Choice, Outcome, tried  # noqa: E402
 from lab.errors import LabError  # noqa: E402
 from lab.program import Program  # noqa: E402
 
@@ -53,17 +56,22 @@ from lab.program import Program  # noqa: E402
 @dataclass(frozen=True)
 class Part:
     """A part of the tests: its file, whether it wants the program, whether several of its checks may be tried at once,
-    and whether it has to be tried by itself. The file has `checks`, which gives the checks of the part for a program."""
+    into how many pieces it is cut, and the checks that have to be tried by themselves. The file has `checks`, which gives
+    the checks of the part for a program."""
 
     file: str
     wants_program: bool = True
     aside: bool = False
-    alone: bool = False
+    pieces: int = 1
+    alone: tuple[str, ...] = ()
 
 
+# The parts, the longest first, so that no long piece is begun at the end.
 PARTS = {
-    "lab": Part("lab.py"),
-    "pages": Part("pages.py"),
+    "lab": Part("lab.py", pieces=16),
+    "hostile": Part("hostile.py", pieces=8, alone=("bases", "workers")),
+    "pages": Part("pages.py", pieces=6),
+    "python": Part("python_code.py", wants_program=False, pieces=2),
     "first_call": Part("first_call.py", wants_program=False, aside=True),
     "cases": Part("run.py", aside=True),
     "tables": Part("tables.py", aside=True),
@@ -71,13 +79,13 @@ PARTS = {
     "audits": Part("audits.py", aside=True),
     "edits": Part("edits.py", wants_program=False),
     "sources": Part("sources.py", wants_program=False, aside=True),
-    "python": Part("python_code.py", wants_program=False),
     "release": Part("release.py", aside=True),
     "editors": Part("editors.py", wants_program=False, aside=True),
-    "hostile": Part("hostile.py", alone=True),
 }
-# How many parts are tried side by side at most.
-SIDE_BY_SIDE = 3
+# How many pieces are tried side by side at most.
+SIDE_BY_SIDE = 8
+# In place of the number of a piece: all of a part, or what has to be tried by itself.
+WHOLE, ALONE = -1, -2
 
 
 def module_of(part: str) -> ModuleType:
@@ -90,38 +98,63 @@ def module_of(part: str) -> ModuleType:
     return module
 
 
-def outcomes_of(part: str, program: Optional[Path], choice: Choice, is_list: bool = False) -> list[Outcome]:
-    """Tries the chosen checks of a part, in this process; their names alone, if that is asked for."""
+def key_of(test: unittest.TestCase) -> object:
+    """What tests have in common that stay together: their class, which may make something for all of them."""
+    return test.id() if isinstance(test, Check) else type(test)
+
+
+def piece_of(part: str, tests: Sequence[unittest.TestCase], number: int) -> list[unittest.TestCase]:
+    """The tests of a part that are in one of its pieces."""
+    if number == WHOLE:
+        return list(tests)
+    alone = [test for test in tests if test.id() in PARTS[part].alone]
+    if number == ALONE:
+        return alone
+    groups = [list(group) for _, group in itertools.groupby((it for it in tests if it not in alone), key_of)]
+    return [test for group in groups[number :: PARTS[part].pieces] for test in group]
+
+
+def outcomes_of(part: str, program: Optional[Path], choice: Choice, number: int = WHOLE, is_list: bool = False) -> list[Outcome]:
+    """Tries the chosen checks of a piece of a part, in this process; their names alone, if that is asked for."""
     signal.signal(signal.SIGINT, signal.default_int_handler)
     if program:
         os.environ["FEAST_PROGRAM"] = str(program)
     front = f"part_{part}."
-    checks = module_of(part).checks(program)
-    chosen = [test for test in checks if choice.takes(part, test.id().removeprefix(front))]
+    tests = piece_of(part, list(module_of(part).checks(program)), number)
+    chosen = [test for test in tests if choice.takes(part, test.id().removeprefix(front))]
     outcomes = [Outcome(test.id(), 0.0) for test in chosen] if is_list else tried(chosen, PARTS[part].aside)
     return [replace(outcome, name=outcome.name.removeprefix(front)) for outcome in outcomes]
 
 
-def timed(part: str, program: Optional[Path], choice: Choice, is_list: bool) -> tuple[list[Outcome], float]:
+def timed(part: str, program: Optional[Path], choice: Choice, number: int, is_list: bool) -> tuple[list[Outcome], float]:
     """The same, with how many seconds that took."""
     start = time.monotonic()
-    return outcomes_of(part, program, choice, is_list), time.monotonic() - start
+    return outcomes_of(part, program, choice, number, is_list), time.monotonic() - start
 
 
 Tried = tuple[str, list[Outcome], float]
 
 
 def apart(parts: Sequence[str], program: Optional[Path], choice: Choice, is_list: bool) -> Iterator[Tried]:
-    """Tries parts, each in a process of its own, since modules of several parts have one name; gives each with its
-    outcomes and its seconds as soon as it is over. Those that have to be tried by themselves come last."""
-    most = max(min(len(os.sched_getaffinity(0)) - 1, SIDE_BY_SIDE), 1)
-    alone = [part for part in parts if PARTS[part].alone]
-    for group, lanes in (([part for part in parts if part not in alone], most), (alone, 1)):
+    """Tries parts, each piece in a process of its own, since modules of several parts have one name; gives each part with
+    its outcomes and the seconds of its pieces as soon as it is over."""
+    side = [(part, number) for part in parts for number in ([WHOLE] if is_list else range(PARTS[part].pieces))]
+    last = [(part, ALONE) for part in parts if PARTS[part].alone and not is_list]
+    open_pieces = Counter(part for part, _ in [*side, *last])
+    outcomes: dict[str, list[Outcome]] = {part: [] for part in parts}
+    seconds = dict.fromkeys(parts, 0.0)
+    for pieces, lanes in ((side, min(len(os.sched_getaffinity(0)), SIDE_BY_SIDE)), (last, 1)):
         context = multiprocessing.get_context("spawn")
         with concurrent.futures.ProcessPoolExecutor(lanes, context, max_tasks_per_child=1) as pool:
-            begun = {pool.submit(timed, part, program, choice, is_list): part for part in group}
+            begun = {pool.submit(timed, part, program, choice, number, is_list): part for part, number in pieces}
             for done in concurrent.futures.as_completed(begun):
-                yield begun[done], *done.result()
+                part = begun[done]
+                found, gone = done.result()
+                outcomes[part] += found
+                seconds[part] += gone
+                open_pieces[part] -= 1
+                if open_pieces[part] == 0:
+                    yield part, outcomes[part], seconds[part]
 
 
 def told(part: str, outcomes: Sequence[Outcome], seconds: float) -> None:

@@ -9,11 +9,10 @@ import unittest
 TOP = pathlib.Path(__file__).resolve().parent.parent
 sys.path.insert(0, str(TOP / "tools"))
 
-from first_call import seconds  # noqa: E402
-from first_call.children import GIVING_WAY, Child  # noqa: E402
+from first_call import progress  # noqa: E402
+from first_call.children import GIVING_WAY, Child, spent_by_sessions  # noqa: E402
 from first_call.crates import Crate, chains, crates_of_program  # noqa: E402
-from first_call.processes import spent_by_sessions  # noqa: E402
-from first_call.progress import Progress, Status, wall_time  # noqa: E402
+from first_call.progress import Progress, Status  # noqa: E402
 from first_call.teller import as_bar  # noqa: E402
 
 
@@ -56,26 +55,31 @@ class Estimates(unittest.TestCase):
 
     def test_table_names_crates(self) -> None:
         crates = {crate.name for crate in crates_of_program(TOP)}
-        named = set(seconds.read(seconds.TABLE))
+        named = set(progress.read(progress.TABLE))
         self.assertEqual(named - crates, set())
         self.assertGreater(len(named), len(crates) / 2)
 
     def test_time_of_several_lanes(self) -> None:
         crates = [Crate("low", TOP, ()), Crate("aside", TOP, ()), Crate("high", TOP, ("low",))]
         spent = {"low": 10.0, "aside": 5.0, "high": 20.0}
-        self.assertEqual([wall_time(crates, spent, lanes) for lanes in (1, 2, 4)], [35.0, 20.0, 10.0])
+        self.assertEqual([Progress(crates, lanes, spent, set()).ahead() for lanes in (1, 2, 7, 9)], [35.0, 17.5, 5.0, 5.0])
+
+    def test_crate_that_no_table_has_is_reckoned_by_its_length(self) -> None:
+        crate = next(it for it in crates_of_program(TOP) if it.name == "bit_field")
+        unknown = Crate("unknown", crate.folder, ())
+        self.assertGreater(progress.expected([unknown], TOP / "nothing")["unknown"], progress.LEAST)
 
     def test_measured_speed_corrects_what_is_left(self) -> None:
         crates = [Crate("low", TOP, ()), Crate("high", TOP, ("low",))]
-        progress = Progress(crates, 1, {"low": 100.0, "high": 100.0}, set())
-        self.assertAlmostEqual(progress.status().left, 200.0, delta=0.1)
-        progress.at_work({"low": 130.0})
-        progress.finish("low")
-        progress.start -= 260
-        status = progress.status()
+        build = Progress(crates, 1, {"low": 100.0, "high": 100.0}, set())
+        self.assertAlmostEqual(build.status().left, 200.0, delta=0.1)
+        build.at_work({"low": 130.0})
+        build.finish("low")
+        build.start -= 260
+        status = build.status()
         self.assertAlmostEqual(status.left, 100 * (60 + 260) / (60 + 100), delta=0.1)
         self.assertAlmostEqual(status.share, 0.5)
-        self.assertEqual(progress.measured(), {"low": 130.0})
+        self.assertEqual(build.measured(), {"low": 130.0})
 
 
 class Lines(unittest.TestCase):

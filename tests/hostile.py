@@ -18,7 +18,9 @@ has the figures.
 from __future__ import annotations
 
 import argparse
+import contextlib
 import importlib
+import io
 import pathlib
 import sys
 import time
@@ -50,10 +52,20 @@ def fault(program: str, long: bool, table: str) -> Optional[str]:
     return f"{len(bench.faults)} did not hold" if bench.faults else None
 
 
+def fault_apart(program: str, table: str) -> Optional[str]:
+    """The same of the quick part of a table that may be tried beside others: what it prints comes in one piece."""
+    lines = io.StringIO()
+    try:
+        with contextlib.redirect_stdout(lines):
+            return fault(program, False, table)
+    finally:
+        print(lines.getvalue(), end="", flush=True)
+
+
 def checks(program: pathlib.Path) -> Iterator[Check]:
     """A check for the quick part of each table."""
     for table in TABLES:
-        yield Check(table, partial(fault, str(program), False, table))
+        yield Check(table, partial(fault_apart, str(program), table))
 
 
 def main() -> int:

@@ -4,18 +4,17 @@
 Of each page (*.md): a link leads to a file; a path in backquotes that begins with a folder of the
 repository is there. A block of text after a paragraph that ends with a path in backquotes and a colon is
 that file, or its first lines if the paragraph says so. A block of classes is a file that `check` accepts.
-A block of commands is run by a shell, in a folder that looks like the top of a clone, one block of a page
-after another, and writes nothing to standard error but how far it has come and whether tiles kept pace; a block
-after a paragraph that ends with `writes` has what the last one wrote, and one after `begins with` the first lines
-of it. The map of crates has a row for each crate of crates.txt. The folder `work` looks like the top of a clone to
-commands. A page has at most 200 lines, and the README names each page of docs.
+A block of commands is run by a shell, in a folder that tools/work has made, one block of a page after another, and
+writes nothing to standard error but how far it has come and whether tiles kept pace; a block after a paragraph that
+ends with `writes` has what the last one wrote, and one after `begins with` the first lines of it. The map of crates
+has a row for each crate of crates.txt. tools/work makes no folder where one is, or inside the clone. A page has at
+most 200 lines, and the README names each page of docs.
 """
 from __future__ import annotations
 
 import os
 import pathlib
 import re
-import shutil
 import subprocess
 import sys
 import tempfile
@@ -26,7 +25,7 @@ sys.dont_write_bytecode = True
 from checks import Check  # noqa: E402
 
 TOP = pathlib.Path(__file__).resolve().parent.parent
-FOLDERS = "bench|crates|docs|editors|examples|tests|tools|work"
+FOLDERS = "bench|crates|docs|editors|examples|tests|tools"
 MOST_LINES = 200
 # How the commands of a page begin, and the classes. Commands for no file in particular have NAME in place of one. A
 # block that `check` writes begins like a class, but without a brace.
@@ -59,12 +58,10 @@ def lost_paths(page: str, folder: pathlib.Path) -> list[str]:
     return [f"{name} is not there" for path, name in [*links, *paths] if "NAME" not in name and not path.exists()]
 
 
-def make_top(folder: pathlib.Path, program: str) -> None:
-    """Makes a folder look like the top of a clone, with a program."""
-    shutil.copytree(TOP / "examples", folder / "examples")
+def make_folder(folder: pathlib.Path) -> None:
+    """Makes a folder for the commands of a page, as a reader does, with the place of pictures that one page writes."""
+    subprocess.run([TOP / "tools" / "work", folder], check=True)
     (folder / "docs" / "pictures").mkdir(parents=True)
-    (folder / "feast").symlink_to(program)
-    (folder / "lab").symlink_to(TOP / "lab")
 
 
 def call(program: str, commands: str, folder: pathlib.Path) -> subprocess.CompletedProcess[str]:
@@ -124,13 +121,27 @@ def list_faults() -> list[str]:
     return [f"README.md: {page} is not named" for page in pages if f"`{page}`" not in readme]
 
 
+def walk_faults() -> list[str]:
+    """The files that name one operator (`Xor`) and that the walk to a new one leaves out."""
+    page = (TOP / "docs/changes.md").read_text()
+    walk = page[page.index("## A new operator"):page.index("## A new line of a world")]
+    files = [path for kind in ("*.rt", "*.antt") for path in sorted((TOP / "crates").rglob(kind))]
+    named = [path.relative_to(TOP / "crates") for path in files
+             if "out" not in path.parts and re.search(r"\b(PairOp::|op?\.)Xor\b", path.read_text())]
+    return [f"docs/changes.md: a new operator needs a row in {path} too" for path in named
+            if f"`{path.parts[0]}`" not in walk or path.name not in walk]
+
+
 def work_faults() -> list[str]:
-    """What the folder `work` lacks to look like the top of a clone to the commands, and what git sees of theirs there."""
-    lost = [f"work/{name} is no link to {name}" for name in ("examples", "feast", "lab")
-            if (TOP / "work" / name).resolve() != TOP / name]
-    made = ["work/report", "work/heal/course.csv", "work/fence.html"]
-    ignored = subprocess.run(["git", "check-ignore", *made], cwd=TOP, capture_output=True, text=True, check=False).stdout
-    return lost + [f"{name} is not ignored" for name in made if name not in ignored.split()]
+    """The folders that tools/work ought to refuse, and doesn't in one line that says why."""
+    wrong = []
+    for words, says in (("work", "it is inside "), ("docs/../work", "it is inside "), ("/tmp", "it is there already"),
+                        ("", "usage: "), ("/tmp/one /tmp/two", "usage: ")):
+        done = subprocess.run(["tools/work", *words.split()], cwd=TOP, capture_output=True, text=True, check=False)
+        lines = done.stderr.splitlines()
+        if (done.returncode, done.stdout, len(lines)) != (2, "", 1) or says not in lines[0]:
+            wrong.append(f"tools/work {words} ends with {done.returncode} and says: {done.stderr}")
+    return wrong
 
 
 def faults(program: str, path: pathlib.Path) -> list[str]:
@@ -139,8 +150,8 @@ def faults(program: str, path: pathlib.Path) -> list[str]:
     lines = page.count("\n")
     too_long = [f"it has {lines} lines, at most {MOST_LINES}"] if lines > MOST_LINES else []
     with tempfile.TemporaryDirectory() as name:
-        folder = pathlib.Path(name)
-        make_top(folder, program)
+        folder = pathlib.Path(name, "work")
+        make_folder(folder)
         return [*too_long, *lost_paths(page, path.parent), *wrong_blocks(program, page, folder)]
 
 
@@ -150,13 +161,14 @@ def said(found: list[str]) -> Optional[str]:
 
 
 def checks(program: pathlib.Path) -> Iterator[Check]:
-    """A check for each page, one for the map of crates and one for the list of pages."""
+    """A check for each page, and those of the map of crates, the walks and the list of pages."""
     pages = subprocess.run(["git", "ls-files", "*.md"], cwd=TOP, capture_output=True, text=True, check=True).stdout
     for page in pages.split():
         yield Check(page, partial(page_fault, str(program), TOP / page))
     yield Check("the map of crates", lambda: said(map_faults()))
+    yield Check("the walk to a new operator", lambda: said(walk_faults()))
     yield Check("the list of pages", lambda: said(list_faults()))
-    yield Check("the folder work", lambda: said(work_faults()))
+    yield Check("tools/work", lambda: said(work_faults()))
 
 
 def page_fault(program: str, page: pathlib.Path) -> Optional[str]:

@@ -24,7 +24,7 @@ FILES = {
     "CITATION.cff": "cff-version: 1.2.0\nversion: 0.4.0\n", "CONTRIBUTING.md": "x\n", "LICENSE-APACHE": "x\n",
     "LICENSE-MIT": "x\n", "SECURITY.md": "x\n", "VERSION": "0.4.0\n", "docs/page.md": "x\n", "editors/README.md": "x\n",
     "examples/walker.ulam": "element W { }\n", "lab": "#!/bin/sh\n", "tools/first_call/x.py": "", "tools/lab/x.py": "",
-    "work/.gitignore": "*\n!/.gitignore\n", "crates.txt": "feast:\n", "crates/feast/src/main.rt": "x\n",
+    "crates.txt": "feast:\n", "crates/feast/src/main.rt": "x\n",
     ".gitignore": "out/\n__pycache__/\n",
 }
 PROGRAM = "#!/bin/sh\n# pretends\necho \"did $*\"\n"
@@ -75,7 +75,7 @@ class Repository(unittest.TestCase):
         for name in names:
             (self.top / name).parent.mkdir(parents=True, exist_ok=True)
             if (TOP / name).is_dir():
-                shutil.copytree(TOP / name, self.top / name, symlinks=True, ignore=shutil.ignore_patterns("__pycache__"))
+                shutil.copytree(TOP / name, self.top / name, ignore=shutil.ignore_patterns("__pycache__"))
             else:
                 shutil.copy(TOP / name, self.top / name)
 
@@ -264,26 +264,27 @@ class Real(Repository):
         self.assertEqual((done.returncode, done.stderr), (0, ""))
 
     def copy_files(self, names: list[str]) -> None:
-        """Copies files, and links as links."""
+        """Copies files."""
         for name in names:
             (self.top / name).parent.mkdir(parents=True, exist_ok=True)
-            shutil.copy(TOP / name, self.top / name, follow_symlinks=False)
+            shutil.copy(TOP / name, self.top / name)
 
     def used(self, *words: str) -> str:
-        """What a call writes in the folder's `work`, in which no kit is on the PATH."""
+        """What a call writes in a folder for the pages' commands, with no kit on the PATH."""
         around = {"PATH": f"{Path(sys.executable).parent}:/usr/bin:/bin", "HOME": str(self.room)}
-        done = subprocess.run(words, cwd=self.made / "work", env=around, capture_output=True, text=True, check=False)
+        done = subprocess.run(words, cwd=self.room / "work", env=around, capture_output=True, text=True, check=False)
         self.assertEqual(done.returncode, 0, done.stdout + done.stderr)
         return done.stdout
 
     def test_first_film(self) -> None:
         """The first report is the one that README.md shows, and leads to a film."""
+        subprocess.run([self.made / "tools" / "work", self.room / "work"], check=True)
         walk = ["examples/walk.world", "examples/walker.ulam"]
         written = self.used("./feast", "run", *walk)
         self.assertIn("\n\n" + "".join(f"    {line}\n" for line in written.splitlines()), (TOP / "README.md").read_text())
-        (self.made / "work" / "report").write_text(written)
+        (self.room / "work" / "report").write_text(written)
         self.used("./lab", "film", walk[0], "report", "-o", "walk.html", walk[1])
-        self.assertIn("<html", (self.made / "work" / "walk.html").read_text())
+        self.assertIn("<html", (self.room / "work" / "walk.html").read_text())
 
 
 def checks(_: Path) -> Iterator[unittest.TestCase]:

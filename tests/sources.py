@@ -13,7 +13,8 @@ from checks import Check  # noqa: E402
 
 HERE = Path(__file__).resolve().parent
 # The scripts, with the most that they are to find.
-SCRIPTS = (("memory",), ("waits",), ("uses",), ("statements", "--most", "5"), ("readable", "--long", "5"))
+SCRIPTS = (("memory",), ("waits",), ("uses",), ("statements", "--most", "5"), ("readable", "--long", "5"),
+           ("long", "--functions", "5", "--files", "10"), ("theorem",))
 
 
 def fault(script: str, *options: str) -> Optional[str]:
@@ -23,8 +24,16 @@ def fault(script: str, *options: str) -> Optional[str]:
     return done.stdout if done.returncode else None
 
 
+def links() -> Optional[str]:
+    """The symbolic links that git keeps. The toolchain refuses a tree that has one."""
+    listed = subprocess.run(["git", "ls-files", "-s"], cwd=HERE.parent, capture_output=True, text=True, check=True).stdout
+    found = [line.split("\t")[1] for line in listed.splitlines() if line.startswith("120000 ")]
+    return f"symbolic links, which rt refuses: {', '.join(found)}" if found else None
+
+
 def checks(_: object) -> Iterator[Check]:
-    """A check for each script."""
+    """A check for each script, and one for links."""
+    yield Check("links", links)
     for script, *options in SCRIPTS:
         yield Check(script, partial(fault, script, *options))
 

@@ -4,7 +4,8 @@
 No contract counts the looks at a word or the turns of a loop, and a test could see them only by the clock. So this
 looks at the code of crates/*/src, tests and benches apart, for two things. What lets time go by (`spin_loop`,
 `yield_now`, `sleep` and `park`) stands only where a worker pauses or waits for others between two attempts, and where
-gates rest: in the functions of PAUSES. And what takes an edge, uses it or gives it back makes one step on its words
+gates rest: in the functions of PAUSES, and each of these has what it is said to have (so that a pause also yields the
+processor, which no test can see). And what takes an edge, uses it or gives it back makes one step on its words
 and has no loop: each function of STEPS.
 """
 from __future__ import annotations
@@ -20,11 +21,11 @@ from rust_code import TOP, Code, line_of, shown, sources  # noqa: E402
 
 # What lets time go by.
 PAUSE = re.compile(r"\b(spin_loop|yield_now|sleep\w*|park\w*)\s*\(")
-# Where that may stand: files, with their functions.
+# Where that stands: for a file and the functions of a name, what they have.
 PAUSES = {
-    "feast_base/src/gate.rt": ["rest"],
-    "tile_threads/src/backoff.rt": ["after_attempt"],
-    "tile_threads/src/stride.rt": ["wait"],
+    "feast_base/src/gate.rt": {"rest": {"yield_now", "sleep"}},
+    "tile_threads/src/backoff.rt": {"after_attempt": {"spin_loop", "yield_now"}},
+    "tile_threads/src/stride.rt": {"wait": {"yield_now"}},
 }
 # The steps on an edge's words, and the calls that come to them.
 STEP = re.compile(r"\.\s*(compare_exchange\w*|load|store|swap|fetch_\w+|try_take|read|write|give|give_back)\s*(?:::<\w+>)?\s*\(")
@@ -44,12 +45,19 @@ LOOP = re.compile(r"\b(for|while|loop)\b")
 
 
 def pauses(path: pathlib.Path, code: Code) -> Iterator[str]:
-    """The places of a file where time goes by that isn't a worker's pause."""
+    """The places of a file where time goes by that isn't a worker's pause, and the pauses that lack something."""
     functions = list(code.functions())
-    allowed = set(PAUSES.get(shown(path), []))
+    wanted = PAUSES.get(shown(path), {})
+    found: dict[str, set[str]] = {name: set() for name in wanted}
     for pause in PAUSE.finditer(code.text):
-        if not allowed & {it.name for it in functions if it.body < pause.start() < it.end}:
+        names = {it.name for it in functions if it.body < pause.start() < it.end} & set(wanted)
+        for name in names:
+            found[name].add(pause[1])
+        if not names:
             yield f"{shown(path)}:{line_of(code.text, pause.start())}: `{pause[1]}` where nothing may wait"
+    for name, has in found.items():
+        if has != wanted[name]:
+            yield f"{shown(path)}: `{name}` has {sorted(has)}, not {sorted(wanted[name])}"
 
 
 def steps(path: pathlib.Path, code: Code) -> Iterator[str]:
@@ -71,7 +79,7 @@ def main() -> int:
     """The command."""
     argparse.ArgumentParser(description="Tests that nothing waits at an edge, as far as one can see it in the code.").parse_args()
     files = [path for path in sources("src", ".rt") if not shown(path).startswith(("cases_", "bench_"))]
-    faults = [f"{name}: there is no such file" for name in STEPS if not (TOP / "crates" / name).is_file()]
+    faults = [f"{name}: there is no such file" for name in [*PAUSES, *STEPS] if not (TOP / "crates" / name).is_file()]
     for path in files:
         code = Code(path.read_text())
         faults += [*pauses(path, code), *steps(path, code)]

@@ -11,7 +11,7 @@ from unittest import TestCase
 import films
 from calls import EXAMPLES, LabCase, feast
 
-from lab.drift import drifts, greatest, plans
+from lab.drift import drifts, greatest, of_legs, plans
 from lab.main import main
 from lab.world import World
 
@@ -64,9 +64,11 @@ class Runs(LabCase):
     """Drift of runs, in the tables and in the film."""
 
     def ahead(self, world: Path, reports: Sequence[str]) -> list[Fraction]:
-        """How far each tile was ahead in reports that follow one another, from the ages at every moment."""
+        """How far each tile was ahead in reports of equally many attempts that follow one another, from the ages at
+        every moment of each."""
         journals = [report.split("\njournal ")[1].split("\nabandoned ")[0].splitlines()[1:] for report in reports]
-        return at_each_moment(plans(World.read(world)), [int(line.split()[1]) for lines in journals for line in lines])
+        found = [at_each_moment(plans(World.read(world)), [int(line.split()[1]) for line in lines]) for lines in journals]
+        return [max(column) / len(reports) for column in zip(*found, strict=True)]
 
     def said(self, *words: str | Path) -> str:
         """What a call of the lab writes to standard error, but for its progress."""
@@ -74,6 +76,22 @@ class Runs(LabCase):
         with redirect_stderr(errors):
             self.assertEqual(main([str(word) for word in words]), 0)
         return "".join(line for line in errors.getvalue().splitlines(True) if "% done" not in line)
+
+    def test_legs(self) -> None:
+        """Each leg is judged by its own plan and events, and weighs as much as it has attempts."""
+        short, long = ([2, 2], [0, 0, 1, 1]), ([6, 6], [0, 1, 1])  # tile 0 a whole leg ahead, and then all of it at once
+        self.assertEqual(of_legs([short]), [1.0, 0.0])
+        self.assertEqual(of_legs([short, long]), [0.75, 0.0])
+        self.assertEqual(of_legs([short, short, short, ([2, 2], [1, 0])]), [0.25, 0.25])
+        chain = self.room / "chain"
+        world = self.file("w.world", "feast 1\ntiles 2 1\nsize 16 8\nseed 1\nattempts 20\natom 1 1 Stone\n")
+        self.passes("chain", chain, "--legs", "2", "--step", "--keep", "reports", "--at", "2:attempts:60", world, EXAMPLES / "stone.ulam")
+        found = []
+        for leg, weight in ((1, Fraction(1, 4)), (2, Fraction(3, 4))):
+            path = chain / f"{leg:04}.world"
+            found.append([ahead * weight for ahead in self.ahead(path, [self.passes("unpack", chain / f"{leg:04}.kept.gz")])])
+        rows = csv.DictReader(io.StringIO(self.passes("rates", chain, "--by", "tile")))
+        self.assertEqual([row["drift"] for row in rows], [f"{float(max(column)):.4f}" for column in zip(*found, strict=True)])
 
     def test_rates(self) -> None:
         """Stepped and threaded runs, tiles that are off, and tries that are written out."""

@@ -2,9 +2,10 @@
 import csv
 import io
 import random
+from pathlib import Path
 
 from again import Tally, example_runs, shortened
-from calls import LabCase, Word, feast, lab, program
+from calls import LabCase, Word, feast, here, lab, program
 from drawn_elements import Drawer, world
 
 from lab.program import Program
@@ -49,6 +50,8 @@ atom 4 4 Bad
 atom 2 5 Bad
 atom 6 3 Good
 """
+
+DRAWN = "feast 1\ntiles 1 1\nsize 8 8\nseed 5\nattempts 100\natom 4 4 Bad\n"
 
 # What each operator makes of members whose bits are drawn: the types of a, b and r, and what r becomes.
 SIGNED, UNSIGNED, BITS = ("Int(20)", "Int(9)", "Int(40)"), ("Unsigned(20)", "Unsigned(9)", "Unsigned(40)"), \
@@ -136,6 +139,25 @@ class Failures(LabCase):
         bare = self.room / "bare"
         self.passes("chain", bare, "--legs", "1", start, file)
         self.refused("the chain keeps no reports", "failures", bare)
+        self.refused("--failures takes the reports of the legs that are done", "chain", bare, "--legs", "2", "--failures", start, file)
+        self.assertNotIn("failed", (bare / "course.csv").read_text())
+        self.passes("chain", self.room / "new", "--legs", "3", "--failures", start, file)
+        self.assertEqual(list(csv.reader((self.room / "new" / "course.csv").open())), with_failed)
+        for legs in ("3", "4"):  # the column is added to the legs that are done, and then stays
+            self.passes("chain", folder, "--legs", legs, "--keep", "reports", *(["--failures"] if legs == "3" else []), start, file)
+            self.assertEqual(list(csv.reader((folder / "course.csv").open()))[:5], with_failed)
+            self.assertEqual(self.passes("failures", folder, "--course"), (folder / "course.csv").read_text())
+        self.audited(folder)
+
+    def audited(self, folder: Path) -> None:
+        """The audit of a chain tries its failed events too."""
+        course = folder / "course.csv"
+        text = course.read_text()
+        self.assertEqual(self.passes("chain", "--audit", folder), "yes\n")
+        row = text.splitlines()[2].split(",")
+        course.write_text(text.replace(",".join(row), ",".join([*row[:4], str(int(row[4]) + 1), *row[5:]])))
+        done = here("chain", "--audit", folder)
+        self.assertEqual((done.status, done.wrote), (1, "no leg 1: its row in the course is another\n"))
 
     def test_bad_input(self) -> None:
         """Files that aren't of each other are refused in one line."""
@@ -212,6 +234,8 @@ class Again(LabCase):
             (["failures", start, report, file], "event 3 at 4 4: the window that the lab comes to"),
             (["trace", start, report, "5", file], "event 5 at 2 5: the plane that the lab comes to"),
             (["trace", start, report, file, "--site", "4", "4"], "event 3 at 4 4: the window"),
+            (["chain", self.room / "chain", "--legs", "1", "--failures", self.file("drawn", DRAWN), file],
+             "the lab comes to other atoms than the program"),
         ]
         for words, says in cases:
             done = lab(*words, instead=lying)

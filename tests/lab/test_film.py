@@ -8,7 +8,7 @@ from collections.abc import Sequence
 from pathlib import Path
 
 import films
-from calls import EXAMPLES, LabCase, Word, feast
+from calls import EXAMPLES, LabCase, Word, feast, here
 
 SVG = "{http://www.w3.org/2000/svg}"
 
@@ -252,11 +252,28 @@ class Refusals(FilmCase):
         """Commands of doc comments that don't say a colour or a symbol."""
         front = self.elements.read_text().split("/** Wanders")[0]
         line = front.count("\n") + 2
-        for command in ("\\color red", "\\color #12", "\\symbol long", "\\symbol"):
-            text = self.elements.read_text().replace("/** Wanders,", f"/** Wanders\n{command} */ /*")
-            file = self.file("bad.ulam", text)
-            says = f"{file}:{line}: {command.split()[0]} takes"
-            self.refused(says, "film", self.world, self.report, "-o", self.out, file)
+        text = self.elements.read_text()
+        for number, (command, wanted) in enumerate((("\\color red", "#rgb or #rrggbb, not 'red'"), ("\\color #12", "#rgb or #rrggbb, not '#12'"),
+                                                    ("\\symbol long", "one to three letters, not 'long'"), ("\\symbol", "one to three letters, not ''"))):
+            file = self.file(f"bad{number}.ulam", text.replace("/** Wanders,", f"/** Wanders\n{command} */ /*"))
+            kind = command[1:].partition(" ")[0]
+            for out in ("one.html", "two.svg"):  # it is said once, and in place of it there is one of the lab's own
+                done = here("film", self.world, self.report, "-o", self.room / out, *(["--svg", "3"] if "svg" in out else []), file)
+                warned = f"lab: warning: {file}:{line}: \\{kind} takes {wanted}; the element gets a {kind} of the lab's own\n"
+                self.assertEqual((done.status, done.said), (0, warned if out == "one.html" else ""))
+        file = self.file("bad.ulam", text.replace("/** Wanders,", "/** Wanders\n\\color-by + */ /*"))
+        self.refused(f"{file}:{line}: \\color-by takes the name of a member, not '+'", "film", self.world, self.report, "-o", self.out, file)
+
+    def test_useless(self) -> None:
+        """Options that what is asked for has no place for."""
+        words: list[Word] = ["film", self.world, self.report, self.elements]
+        for options, says in (
+            (["--csv", "--color", "Mouse.n"], "--color: --csv has no colours; --mean Element.member and the like add columns"),
+            (["--svg-movie", "3", "--color", "Mouse.n"], "--color: --svg-movie colours atoms by their elements alone"),
+            (["--svg", "3", "--mean", "Mouse.n"], "mean(Mouse.n): --svg has no place for a measure"),
+            (["--svg-movie", "3", "--count", "Mouse.n=1"], "count(Mouse.n=1): --svg-movie has no place for a measure"),
+        ):
+            self.refused(says, *words, *options)
 
     def test_output(self) -> None:
         """A place where nothing can be written."""

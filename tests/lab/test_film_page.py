@@ -80,7 +80,6 @@ atom 8 7 Kinds 2a95ab56ad5ab56ad5
 
 def setUpModule() -> None:
     if chromium() is None:
-        print("test_film_page is left out: there is no Chromium on this machine")
         raise unittest.SkipTest("no Chromium")
 
 

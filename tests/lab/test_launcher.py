@@ -20,6 +20,13 @@ def without_program() -> dict[str, str]:
     return {name: value for name, value in os.environ.items() if name != "FEAST_PROGRAM"}
 
 
+def handle(interrupts: signal.Handlers) -> None:
+    """Handles interrupts so, and other signals as usual, also where the tests were started to ignore some (by nohup)."""
+    for number in (signal.SIGHUP, signal.SIGQUIT, signal.SIGTERM):
+        signal.signal(number, signal.SIG_DFL)
+    signal.signal(signal.SIGINT, interrupts)
+
+
 class Launcher(LabCase):
     """A folder that looks like a clone with a built program."""
 
@@ -133,7 +140,7 @@ class Launcher(LabCase):
         self.pretend(f"echo $$ >{self.room}/pid; exec sleep 60")
         (self.room / "pid").unlink(missing_ok=True)
         call = subprocess.Popen([self.top / "feast", "run"], stdout=subprocess.DEVNULL, stderr=subprocess.DEVNULL,
-                                env=without_program(), preexec_fn=lambda: signal.signal(signal.SIGINT, interrupts))
+                                env=without_program(), preexec_fn=lambda: handle(interrupts))
         return call, self.wait_for_pid()
 
     def wait_for_pid(self) -> int:

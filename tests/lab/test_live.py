@@ -226,6 +226,27 @@ class Orders(LiveCase):
         for chain in (self.chain, anew):
             self.assertEqual(self.passes("chain", "--audit", chain), "yes\n")
 
+    def test_reload_measures(self) -> None:
+        """The new chain has the columns of the old one, but for what its elements can't be asked for any more."""
+        world, file = self.file("kinds.world", KINDS_WORLD), self.file("kinds.ulam", KINDS)
+        self.passes("chain", self.chain, "--legs", "1", "--step", "--keep", "reports", "--failures", "--sum", "Cell.level",
+                    "--count", "Cell.level>2", world, file)
+        live = self.living("--step", self.chain, world, file)
+        for edit, lost in ((("}\n", "} \n"), ""), (("level", "height"), " No longer measured: sum(Cell.level), count(Cell.level>2).")):
+            file.write_text(KINDS.replace(*edit))
+            status, said = live.order({"do": "reload"})
+            self.assertEqual((status, said.partition(".")[2]), (200, lost))
+            self.does(live, {"do": "leg"})
+            live.shot(leg=1)
+        live.ends(signal.SIGINT)
+        names = ["chain", "chain-reload1", "chain-reload1-reload1"]
+        heads = [(self.room / name / "course.csv").read_text().splitlines() for name in names]
+        self.assertEqual(heads[1][0], heads[0][0])
+        self.assertEqual(heads[2][0], "leg,attempts,events,abandoned,failed,aeps,Cell,Wall")
+        self.assertEqual([len(lines) for lines in heads], [3, 3, 3])
+        for name in names:
+            self.assertEqual(self.passes("chain", "--audit", self.room / name), "yes\n")
+
     def test_reload_without_files(self) -> None:
         """A chain that was opened by its folder alone has no files to read again."""
         self.kinds().ends(signal.SIGINT)
@@ -278,8 +299,8 @@ class Ends(LiveCase):
             port = str(taken.getsockname()[1])
             self.refused(f"--port {port}: can't be served at: address already in use",
                          "live", "--port", port, self.chain, WORLD, ELEMENTS)
-        colored = self.file("colored.ulam", "/** \\color green */\n" + KINDS)
-        self.refused("colored.ulam:1: \\color takes #rgb or #rrggbb, not 'green'",
+        colored = self.file("colored.ulam", "/** \\color-by + */\n" + KINDS)
+        self.refused("colored.ulam:1: \\color-by takes the name of a member, not '+'",
                      "live", "--no-open", self.chain, self.file("kinds.world", KINDS_WORLD), colored)
         self.file("fork.ulam", "element A { }")
         self.refused("fork.ulam:1:9: E33 no behave", "live", self.chain, WORLD, self.room / "fork.ulam")

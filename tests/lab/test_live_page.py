@@ -23,7 +23,6 @@ BLUE, ORANGE = "#0072b2", "#e69f00"
 
 def setUpModule() -> None:
     if chromium() is None:
-        print("test_live_page is left out: there is no Chromium on this machine")
         raise unittest.SkipTest("no Chromium")
 
 

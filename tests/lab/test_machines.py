@@ -22,11 +22,8 @@ LAB = TOP / "lab"
 
 
 def without(name: str) -> Callable[[type[unittest.TestCase]], type[unittest.TestCase]]:
-    """Leaves tests out, with a word, if a program isn't there."""
-    is_there = shutil.which(name) is not None
-    if not is_there:
-        print(f"test_machines: {name} is left out: it is not on this machine")
-    return unittest.skipUnless(is_there, f"no {name}")
+    """Leaves tests out if a program isn't there; the closing line of the driver says so."""
+    return unittest.skipUnless(shutil.which(name), f"{name} is not on this machine")
 
 
 class MachinesCase(LabCase):

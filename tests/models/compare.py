@@ -39,7 +39,8 @@ class Example:
         return {kind: behave for module in modules for kind, behave in module.ELEMENTS.items()}
 
 
-ALONE = ("diffusion", "regulator", "sorter", "fence", "seasons", "life", "forkbomb", "wator", "membrane", "gradient", "wire")
+ALONE = ("diffusion", "regulator", "sorter", "fence", "seasons", "life", "forkbomb", "wator", "membrane", "gradient", "wire",
+         "ants")
 ALL = [*(Example(name) for name in ALONE), Example("swapline", ("stone",)), Example("horde", ("regulator",))]
 
 

@@ -4,7 +4,8 @@
 Life comes to what Conway's rules alone give; the line moves each stone by one column; the membrane
 parts grains from dust, after every hundredth event too; the antidote leaves an empty plane. Each is
 tried on one tile, stepped, and so many times on threads; so is that each site of a field knows its distance, and that
-after every hundredth event each pulse of a wire was heard or is on its way. A threaded run whose tiles have made too
+after every hundredth event each pulse of a wire was heard or is on its way, and no bite of the ants' food is lost. A
+threaded run whose tiles have made too
 few events is not over; what holds before the end has to hold of it too.
 """
 import argparse
@@ -14,7 +15,7 @@ from collections.abc import Callable, Iterator
 
 import machine
 from compare import EXAMPLES, Example
-from elements import gradient, life, membrane, swapline, wire
+from elements import ants, gradient, life, membrane, swapline, wire
 from plane import Atom, Plane, World, read_world
 from program import written
 from window import Elements, act
@@ -77,6 +78,18 @@ def wire_law(world: World, text: str, elements: Elements) -> str:
     return "over" if wire.is_counted(plane) else "wrong"
 
 
+def ants_law(world: World, text: str, elements: Elements) -> str:
+    """There are as many bites as at the start, and the nest has some of them at the end."""
+    plane = world.plane()
+    bites = ants.bites(plane)
+    for number, attempt in enumerate(machine.journal_of(text)):
+        act(plane, attempt, elements)
+        if number % 100 == 0 and ants.bites(plane) != bites:
+            return "wrong"
+    is_fed = any(atom.kind == "Nest" and atom.get(*ants.STORED) for _, _, atom in plane.sites())
+    return "over" if is_fed else "not over"
+
+
 LAWS: list[tuple[Example, Law]] = [
     (Example("life"), life_law),
     (Example("swapline", ("stone",)), line_law),
@@ -84,6 +97,7 @@ LAWS: list[tuple[Example, Law]] = [
     (Example("forkbomb"), bomb_law),
     (Example("gradient"), field_law),
     (Example("wire"), wire_law),
+    (Example("ants"), ants_law),
 ]
 
 

@@ -35,6 +35,7 @@ class Chain:
     def course(self) -> Any:
         """The rows of `course.csv`: an array with leg, attempts, events, abandoned, aeps, the elements and what is measured.
 
+        If the chain looks for failed events, `failed` stands before aeps.
         Without NumPy it is a list of dicts. A measure that a leg has no number for is NaN, or None in a dict.
         """
         elements, sites = self.source.layout.elements, self.source.world.sites
@@ -43,13 +44,13 @@ class Chain:
         events = 0
         for leg in course.legs:
             events += leg.events
-            own = {"leg": leg.number, "attempts": leg.attempts, "events": leg.events, "abandoned": leg.abandoned,
-                   "aeps": events / sites}
+            own: arrays.Row = {"leg": leg.number, "attempts": leg.attempts, "events": leg.events, "abandoned": leg.abandoned}
+            own |= {"failed": leg.failed} if course.has_failures else {}
+            own["aeps"] = events / sites
             measured = [float(number) if number else None for number in leg.measured]
             rows.append(own | dict(zip(elements, leg.counts, strict=True)) | dict(zip(course.measures, measured, strict=True)))
-        names = ["leg", "attempts", "events", "abandoned", "aeps", *elements, *course.measures]
-        kinds = [*["u4"] * len(elements), *["f8"] * len(course.measures)]
-        return arrays.columns(rows, names, ["u4", "u8", "u8", "u8", "f8", *kinds])
+        kinds = [*["u8"] * (3 + course.has_failures), "f8", *["u4"] * len(elements), *["f8"] * len(course.measures)]
+        return arrays.columns(rows, course.head, ["u4", *kinds])
 
     def frame(self) -> Any:
         """The course as a frame of pandas."""

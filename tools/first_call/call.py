@@ -1,6 +1,7 @@
-"""What `./feast WORDS` does if the program isn't built: a lock, a preview, the proof, the program."""
+"""What `./feast WORDS` does if the program isn't built: one call at a time, a preview, the proof, the program."""
 from __future__ import annotations
 
+import fcntl
 import os
 import signal
 from pathlib import Path
@@ -9,14 +10,13 @@ from typing import Optional
 from first_call import children
 from first_call.build import Build, Refused
 from first_call.crates import PROGRAM
-from first_call.lock import Lock
 from first_call.preview import NoPreview, Preview, is_wanted
 from first_call.sources import is_stale
 from first_call.teller import Teller, spoken
 from first_call.toolchain import NoToolchain
 
 FAILED, INTERRUPTED = 1, 130
-SIGNALS = (signal.SIGINT, signal.SIGTERM, signal.SIGHUP)
+KEPT = "crates that are proved are kept, and the same command goes on from there"
 
 
 class Interrupted(Exception):
@@ -27,16 +27,13 @@ class FirstCall:
     """A first call: its words, the program, and the preview that is under way."""
 
     def __init__(self, top: Path, words: list[str]) -> None:
-        self.top = top
-        self.words = words
+        self.top, self.words = top, words
         self.program = top / "crates" / PROGRAM / "out" / PROGRAM
         self.teller = Teller()
         self.preview: Optional[Preview] = None
         self.is_told_to_end = False
-
-    def listen(self) -> None:
-        """Has signals end the call, but for those that it was started to ignore."""
-        for number in SIGNALS:
+        # Signals end the call, but for those that it was started to ignore.
+        for number in (signal.SIGINT, signal.SIGTERM, signal.SIGHUP):
             if signal.getsignal(number) != signal.SIG_IGN:
                 signal.signal(number, self.note_signal)
 
@@ -56,15 +53,21 @@ class FirstCall:
 
     def make_ready(self) -> None:
         """Has the program built, by this call or by another."""
-        lock = Lock(self.program.with_name("first-call.lock"))
-        lock.take(lambda: self.teller.say("another ./feast is building the program: waiting for it"), self.pause)
+        self.program.parent.mkdir(parents=True, exist_ok=True)
+        # (let go when the process ends or runs another program)
+        lock = os.open(self.program.with_name("first-call.lock"), os.O_RDWR | os.O_CREAT, 0o666)
+        if is_taken(lock):
+            self.teller.say("another ./feast is building the program: waiting for it")
+            while is_taken(lock):
+                self.pause()
         if is_stale(self.top, self.program):
             self.build()
 
     def build(self) -> None:
         """Proves and builds the program, with a preview in the meantime."""
         build = Build(self.top, self.program, self.teller, self.pause)
-        build.announce()
+        self.teller.say(build.announcement())
+        self.teller.say(f"you can interrupt this: {KEPT}")
         self.start_preview()
         try:
             build.go()
@@ -94,15 +97,25 @@ class FirstCall:
         return FAILED
 
 
+def is_taken(lock: int) -> bool:
+    """Whether another process has the lock; if none has, this one takes it."""
+    try:
+        fcntl.flock(lock, fcntl.LOCK_EX | fcntl.LOCK_NB)
+    except BlockingIOError:
+        return True
+    except OSError:
+        pass  # Some file systems have no locks: the toolchain's own then have to do.
+    return False
+
+
 def main(top: Path, words: list[str]) -> int:
     """Builds the program if need be and runs it; the status if that can't be."""
     call = FirstCall(top, words)
-    call.listen()
     try:
         call.make_ready()
         return call.run_program()
     except Interrupted:
-        call.teller.say("interrupted: crates that are proved are kept, and the same command goes on from there")
+        call.teller.say(f"interrupted: {KEPT}")
         return INTERRUPTED
     except Refused as fault:
         call.teller.show(str(fault))

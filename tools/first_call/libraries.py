@@ -15,25 +15,20 @@ from first_call.toolchain import Toolchain
 
 
 class Libraries:
-    """The libraries of the repository's crates, which are given lowest first."""
+    """The libraries of the repository's crates, which are given lowest first: the sum that each is to have, and those
+    that stand, with all below them, as the sources are at the start."""
 
     def __init__(self, toolchain: Toolchain, crates: list[Crate]) -> None:
         self.toolchain = toolchain
-        self.crates = crates
         toolchain.libraries.mkdir(parents=True, exist_ok=True)
         self.own = {crate.name: sum_of_sources(crate) for crate in crates}
         self.sums: dict[str, str] = {}
+        self.standing: set[str] = set()
         for crate in crates:
             parts = [self.own[crate.name], *crate.named, *(self.sums[name] for name in crate.below)]
             self.sums[crate.name] = sum_of([toolchain.version(), *(part.encode() for part in parts)])
-
-    def standing(self) -> set[str]:
-        """The crates whose library, with all below it, is of the sources as they were at the start."""
-        found: set[str] = set()
-        for crate in self.crates:
-            if found.issuperset(crate.below) and self.is_made(crate.name):
-                found.add(crate.name)
-        return found
+            if self.standing.issuperset(crate.below) and self.is_made(crate.name):
+                self.standing.add(crate.name)
 
     def is_made(self, name: str) -> bool:
         """Whether there is a library of a crate with the sum that is wanted."""
@@ -66,6 +61,5 @@ def sum_of(parts: Iterable[bytes]) -> str:
     """A sum of a list of texts."""
     found = hashlib.sha256()
     for part in parts:
-        found.update(len(part).to_bytes(8, "little"))
-        found.update(part)
+        found.update(len(part).to_bytes(8, "little") + part)
     return found.hexdigest()

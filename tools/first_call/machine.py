@@ -1,6 +1,4 @@
 """What the machine has: memory and processors, and how many crates it can prove side by side."""
-from __future__ import annotations
-
 import os
 import re
 from pathlib import Path

@@ -9,16 +9,14 @@ import os
 import re
 import stat
 import tempfile
-from dataclasses import dataclass, field
 from pathlib import Path
 from typing import IO, Mapping, Optional
 
 from first_call.children import Child
 from first_call.machine import free_memory
 
-# Names that `rt try` keeps for itself.
+# Names that `rt try` keeps for itself, and its status if the call takes too long or writes too much.
 TAKEN = ("program", "stdin", "stdout", "stderr")
-# Its status if the call takes too long or writes too much.
 NO_ANSWER = 6
 # How many gigabytes of memory there must be for it.
 MEMORY = 4
@@ -31,36 +29,26 @@ class NoPreview(Exception):
     """Why there is no preview, as a reader is told."""
 
 
-@dataclass
-class Call:
-    """A call as `rt try` takes it: its words, and a file for each name in the program's folder."""
-
-    words: list[str] = field(default_factory=list)
-    files: dict[str, str] = field(default_factory=dict)
-
-    def add(self, word: str) -> None:
-        """Adds a word; one that names a file is handed over under the same name, if it can be."""
-        if word and os.path.exists(word):
-            path = os.path.realpath(word)
-            if not stat.S_ISREG(os.stat(path).st_mode) and not os.path.isdir(path) and path != os.devnull:
-                raise NoPreview(f"{word} is no plain file, and can be read only once")
-            name = os.path.normpath(word)
-            first = name.split("/")[0]
-            if os.path.isabs(name) or "=" in word or first in ("..", *TAKEN):
-                word = path
-            elif os.path.isfile(path):
-                self.files[name] = path
-        self.words.append(word)
-
-    def command(self) -> list[str]:
-        """The words of `rt try`."""
-        data = [it for name, path in self.files.items() for it in ("--data", f"{name}={path}")]
-        return ["rt", "try", *data, "--", *self.words]
-
-
 def is_wanted(environment: Mapping[str, str], is_terminal: bool) -> bool:
     """Whether a preview is wanted: not with FEAST_PREVIEW=no, nor in CI without a terminal."""
     return environment.get("FEAST_PREVIEW") != "no" and (is_terminal or not environment.get("CI"))
+
+
+def command(words: list[str]) -> list[str]:
+    """The words of `rt try` for a call. A file that a word names is handed over under the same name, if it can be."""
+    data: list[str] = []
+    handed: list[str] = []
+    for word in words:
+        if word and os.path.exists(word):
+            path, name = os.path.realpath(word), os.path.normpath(word)
+            if not (stat.S_ISREG(os.stat(path).st_mode) or os.path.isdir(path) or path == os.devnull):
+                raise NoPreview(f"{word} is no plain file, and can be read only once")
+            if os.path.isabs(name) or "=" in word or name.split("/")[0] in ("..", *TAKEN):
+                word = path
+            elif os.path.isfile(path) and f"{name}={path}" not in data:
+                data += ["--data", f"{name}={path}"]
+        handed.append(word)
+    return ["rt", "try", *data, "--", *handed]
 
 
 class Preview:
@@ -69,12 +57,9 @@ class Preview:
     def __init__(self, words: list[str], home: Path) -> None:
         if free_memory() < MEMORY:
             raise NoPreview(f"it wants {MEMORY} gigabytes of memory")
-        call = Call()
-        for word in words:
-            call.add(word)
         self.out: IO[bytes] = tempfile.TemporaryFile()
         self.err: IO[bytes] = tempfile.TemporaryFile()
-        self.child = Child(call.command(), home, self.out, self.err)
+        self.child = Child(command(words), home, self.out, self.err)
         self.child.give_way()
 
     def answer(self) -> Optional[str]:
@@ -83,23 +68,16 @@ class Preview:
         if status is None:
             return None
         self.err.seek(0)
-        ended = ENDED.search(self.err.read())
         self.out.seek(0)
-        return shown(self.out.read(), int(ended[1])) if ended else refused(status)
+        if ended := ENDED.search(self.err.read()):
+            return shown(self.out.read(), int(ended[1]))
+        if status == NO_ANSWER:
+            return "feast: no preview: the call takes longer than a minute, or writes more than a mebibyte\n"
+        return f"feast: no preview: rt try ended with status {status}\n"
 
 
 def shown(out: bytes, status: int) -> str:
     """What a preview shows of a call that wrote these bytes."""
-    if NO_TEXT.search(out):
-        text = f"({len(out)} bytes that are no text)\n"
-    else:
-        text = out.decode(errors="replace")
-        text += "" if text.endswith("\n") or not text else "\n"
+    text = f"({len(out)} bytes that are no text)" if NO_TEXT.search(out) else out.decode(errors="replace")
+    text += "" if text.endswith("\n") or not text else "\n"
     return f"feast: preview, not proved yet: the call writes\n{text}feast: end of the preview (status {status})\n"
-
-
-def refused(status: int) -> str:
-    """What is shown if `rt try` gave no answer."""
-    if status == NO_ANSWER:
-        return "feast: no preview: the call takes longer than a minute, or writes more than a mebibyte\n"
-    return f"feast: no preview: rt try ended with status {status}\n"

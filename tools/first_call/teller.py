@@ -21,32 +21,26 @@ def spoken(seconds: float) -> str:
     return f"{minutes} min" if minutes < 90 else f"{minutes // 60} h {minutes % 60} min"
 
 
-def as_left(seconds: float, about: str = "") -> str:
-    """The time that is left, in words; what is nearly over has no seconds, since these are never right."""
-    return f"{about}{spoken(seconds)} left" if seconds >= SOON else "soon done"
+def times_of(status: Status, about: str = "") -> str:
+    """The time that is gone and the time that is left. What is nearly over has no seconds, since these are never right."""
+    left = f"{about}{spoken(status.left)} left" if status.left >= SOON else "soon done"
+    return f"{spoken(status.gone)} gone, {left}"
 
 
 def as_line(status: Status) -> str:
     """How far a build is, in one line."""
-    times = f"{spoken(status.gone)} gone, {as_left(status.left, 'about ')}"
-    return f"{status.done} of {status.crates} crates are proved; {times}; {status.now}"
+    return f"{status.done} of {status.crates} crates are proved; {times_of(status, 'about ')}; {status.now}"
 
 
 def as_bar(status: Status, width: int) -> str:
-    """How far a build is, in one line of a terminal."""
-    full = int(BAR * status.share)
-    bar = "#" * full + "." * (BAR - full)
-    times = f"{spoken(status.gone)} gone, {as_left(status.left)}"
-    front = f"[{bar}] {status.done}/{status.crates} crates, {times}: "
-    return (front + shortened(status.now, width - 1 - len(front)))[: width - 1]
-
-
-def shortened(names: str, room: int) -> str:
-    """As many whole names of a list as there is room for; two dots stand for the others."""
-    if len(names) <= room:
-        return names
-    whole, comma, _ = names[: max(room - 3, 0)].rpartition(",")
-    return f"{whole}, .." if comma else names
+    """How far a build is, in one line of a terminal, with as many whole names as there is room for."""
+    bar = ("#" * int(BAR * status.share)).ljust(BAR, ".")
+    front = f"[{bar}] {status.done}/{status.crates} crates, {times_of(status)}: "
+    names, room = status.now, max(width - 1 - len(front), 0)
+    if len(names) > room:
+        whole, comma, _ = names[: max(room - 3, 0)].rpartition(",")
+        names = f"{whole}, .." if comma else names
+    return (front + names)[: width - 1]
 
 
 class Teller:

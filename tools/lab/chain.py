@@ -34,6 +34,11 @@ and to a chain that was begun already, for a leg that is still to come. The form
 A site is X,Y, and several places have `+` between them: 3,4+0,8,16,2. Random numbers come from the seed of the
 leg, or from one that the act has (LEG:flip:0.1:0,0,8,8:seed=7). Acts of one leg are done in their order.
 
+With --failures each event is made again in Python, which takes much longer than the run, and the course has a column
+`failed`: how many events of each leg did (`./lab failures DIR` says which, and why). Once it is there it is filled for
+further legs too. Of legs that are done it takes the reports. If the program makes an event otherwise than the lab, the
+status is 1.
+
 --audit audits the report of each leg, and tests that each leg begins with exactly what the acts before it make of
 what the one before left. It writes `yes` or `no` with the first leg at fault, and ends with 0 or 1.
 With --leg K it does so for leg K alone, or for the start if K is 0. If it says `yes` for the start and for each leg,
@@ -49,7 +54,7 @@ from lab.alone import Alone
 from lab.branch import begin_branch
 from lab.chain_audit import audit
 from lab.chain_folder import Course, Folder
-from lab.chain_measures import with_measures
+from lab.chain_measures import with_failures, with_measures
 from lab.chain_start import Start
 from lab.errors import LabError
 from lab.files import read_text
@@ -59,6 +64,7 @@ from lab.legs import Maker
 from lab.measures import add_measure_options, measures_of
 from lab.program import Program
 from lab.progress import Progress
+from lab.retraced import status_of
 from lab.until import FORM, Until
 
 
@@ -79,6 +85,7 @@ def add_arguments(parser: argparse.ArgumentParser) -> None:
                         help="what is done to the atoms before a leg, as above; may be given several times")
     parser.add_argument("--until", metavar="RULE", help=f"stop after the first leg at whose end this holds: {FORM}")
     add_measure_options(parser)
+    parser.add_argument("--failures", action="store_true", help="find the events that failed, for a column of the course")
     inputs = [parser.add_argument("world", metavar="WORLD", type=Path, help="the world to begin with"),
               parser.add_argument("files", metavar="FILE", type=Path, nargs="+", help="the element files")]
     setattr(auditing, "needless", [folder, legs, *inputs])
@@ -86,19 +93,23 @@ def add_arguments(parser: argparse.ArgumentParser) -> None:
 
 
 def run(arguments: argparse.Namespace) -> int:
-    """Begins a chain, or goes on with it, and tells how far it has come; or audits one."""
+    """Begins a chain, or goes on with it; or audits one."""
     if arguments.audit is not None:
         return audit(Folder(arguments.audit), arguments.leg)
     if arguments.leg is not None:
         raise LabError(f"--leg {arguments.leg}: it belongs to --audit DIR")
     if arguments.origin is not None:
         begin_branch(arguments)
+    return status_of(lambda: make(arguments))
+
+
+def make(arguments: argparse.Namespace) -> None:
+    """Begins a chain, or goes on with it, and tells how far it has come."""
     course = made(arguments, Progress(max(arguments.legs, 1)))
     print(course.summary(arguments.folder))
     for text in arguments.at:
         if int(text.partition(":")[0]) >= len(course.legs):
             print(f"--at {text}: still to come; the chain has {len(course.legs) - 1} legs so far")
-    return 0
 
 
 def made(arguments: argparse.Namespace, progress: Progress) -> Course:
@@ -113,7 +124,10 @@ def made(arguments: argparse.Namespace, progress: Progress) -> Course:
     folder.make()
     with folder.held():
         maker, course = start.opened(folder)
-        go(with_measures(maker, course, arguments.measures), course, arguments.legs, until, progress)
+        maker = with_measures(maker, course, arguments.measures)
+        if arguments.failures:
+            maker = with_failures(maker, course)
+        go(maker, course, arguments.legs, until, progress)
     return course
 
 
@@ -126,8 +140,9 @@ def go(maker: Maker, course: Course, legs: int, until: Until | None, progress: P
             if until is not None and until.holds(read_text(maker.folder.atoms(number - 1))):
                 break
             progress.at(number - 1, f"leg {number} of {legs}")
-            report = maker.report(number, maker.atoms_before(number))
-            course.legs.append(maker.written(number, report))
+            atoms = maker.atoms_before(number)
+            report = maker.report(number, atoms)
+            course.legs.append(maker.written(number, report, maker.failed(atoms, report)))
             maker.folder.write_course(course)
             keeper.keep(number)
     progress.end()

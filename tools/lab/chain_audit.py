@@ -7,6 +7,7 @@ from pathlib import Path
 from lab.chain_folder import Begun, Course, Folder, Leg
 from lab.chain_rule import Rule, by_legs
 from lab.errors import LabError
+from lab.failure_finder import Finder
 from lab.files import read_text, write_whole
 from lab.kept import AnotherReport, read_report
 from lab.layout import Layout
@@ -15,6 +16,8 @@ from lab.outcome import Outcome, counts
 from lab.program import Program, Refusal
 from lab.progress import Progress
 from lab.starting import drawn_world, first_atoms
+from lab.window_check import Disagreement
+from lab.world import World
 
 
 def audit(folder: Folder, leg: int | None) -> int:
@@ -41,6 +44,7 @@ class Chain:
     rule: Rule
     course: Course
     measures: list[Measure]
+    finder: Finder | None
 
     @staticmethod
     def of(program: Program, folder: Folder, begun: Begun) -> "Chain":
@@ -49,7 +53,8 @@ class Chain:
         layout = Layout.of(program, folder.files)
         rule = Rule(world, begun.seed, begun.step, by_legs(folder.acts(begun, world, layout)))
         course = folder.course(layout.elements, world.sites)
-        return Chain(program, folder, begun, rule, course, measures_of(course.measures, layout))
+        finder = Finder(program, folder.files, world) if course.has_failures else None
+        return Chain(program, folder, begun, rule, course, measures_of(course.measures, layout), finder)
 
     def faults(self, legs: Sequence[int]) -> Iterator[str]:
         """What is wrong with these legs of the chain, leg by leg; 0 is the start."""
@@ -65,7 +70,7 @@ class Chain:
     def start_faults(self) -> Iterator[str]:
         """What is wrong with the start."""
         atoms = first_atoms(self.program, self.folder.start, self.folder.files)
-        yield from self.leaves(Leg(0, 0, 0, 0, counts(atoms, self.course.elements)), atoms)
+        yield from self.leaves(Leg(0, 0, 0, 0, counts(atoms, self.course.elements), failed=0 if self.finder else None), atoms)
 
     def leg_faults(self, number: int) -> Iterator[str]:
         """What is wrong with a leg, if the files of what the leg before left are right."""
@@ -79,7 +84,17 @@ class Chain:
         yield from self.verdict(number, report)
         outcome = Outcome.of(report)
         left = counts(outcome.atoms, self.course.elements)
-        yield from self.leaves(Leg(number, self.rule.attempts(number), outcome.events, outcome.abandoned, left), outcome.atoms)
+        leg = Leg(number, self.rule.attempts(number), outcome.events, outcome.abandoned, left)
+        try:
+            yield from self.leaves(replace(leg, failed=self.failed(number, report)), outcome.atoms)
+        except Disagreement as fault:
+            yield f"leg {number}: {fault}"
+
+    def failed(self, number: int, report: bytes) -> int | None:
+        """How many events of a leg failed, if the course has a column of them."""
+        if self.finder is None:
+            return None
+        return self.finder.failed([atom.text() for atom in World.read(self.folder.world(number)).atoms], report).total()
 
     def verdict(self, number: int, report: bytes) -> Iterator[str]:
         """What the program's audit of a leg finds wrong."""

@@ -1,7 +1,6 @@
 """The folder of a chain: what it was begun with, its legs, and its course."""
 import csv
 import fcntl
-import hashlib
 import io
 import json
 import os
@@ -13,18 +12,18 @@ from typing import Any
 
 from lab.acts import Act
 from lab.errors import LabError
-from lab.files import PART, cause, read_bytes, read_text, write_whole
+from lab.files import PART, cause, read_text, write_whole
+from lab.inputs import Inputs
 from lab.kept import SUFFIX
 from lab.layout import Layout
 from lab.world import World
 
 MANIFEST = "chain.json"
-START = "start.world"
-ELEMENTS = "elements"
 COURSE = "course.csv"
 ACTS = "acts.txt"
 KINDS = [str, list, bool, int, str, list]
 COLUMNS = ["leg", "attempts", "events", "abandoned", "aeps"]
+FAILED = "failed"  # the column before aeps, if failed events are looked for
 
 
 @dataclass(frozen=True)
@@ -41,7 +40,10 @@ class Begun:
 
 @dataclass(frozen=True)
 class Leg:
-    """A row of the course: a leg, the atoms of each element at its end, and what is measured of them. Leg 0 is the start."""
+    """A row of the course: a leg, the atoms of each element at its end, and what is measured of them. Leg 0 is the start.
+
+    `failed` is how many of its events failed, if that is looked for.
+    """
 
     number: int
     attempts: int
@@ -49,16 +51,21 @@ class Leg:
     abandoned: int
     counts: list[int]
     measured: list[str] = field(default_factory=list)
+    failed: int | None = None
 
 
 @dataclass
 class Course:
-    """The legs so far; `sites` is how many live sites the plane has, `measures` are the columns of what is measured."""
+    """The legs so far; `sites` is how many live sites the plane has, `measures` are the columns of what is measured.
+
+    `has_failures` says whether there is a column of the events that failed.
+    """
 
     elements: list[str]
     sites: int
     legs: list[Leg] = field(default_factory=list)
     measures: list[str] = field(default_factory=list)
+    has_failures: bool = False
     rows: list[str] = field(default_factory=list, repr=False)  # the text of the head and of the legs before
     written_events: int = 0  # how many events these legs have
 
@@ -70,12 +77,29 @@ class Course:
     def text(self) -> str:
         """The course as CSV."""
         if not self.rows:
-            self.rows.append(row_of([*COLUMNS, *self.elements, *self.measures]))
+            self.rows.append(row_of(self.head))
         for leg in self.legs[len(self.rows) - 1:]:
             self.written_events += leg.events
             aeps = f"{self.written_events / self.sites:.4f}"
-            self.rows.append(row_of([leg.number, leg.attempts, leg.events, leg.abandoned, aeps, *leg.counts, *leg.measured]))
+            failed = [leg.failed] if self.has_failures else []
+            own = [leg.number, leg.attempts, leg.events, leg.abandoned, *failed, aeps]
+            self.rows.append(row_of([*own, *leg.counts, *leg.measured]))
         return "".join(self.rows)
+
+    @property
+    def head(self) -> list[str]:
+        """The columns."""
+        failed = [FAILED] if self.has_failures else []
+        return [*COLUMNS[:-1], *failed, COLUMNS[-1], *self.elements, *self.measures]
+
+    def changed(self) -> None:
+        """Has the text made anew, since there are other columns."""
+        self.rows.clear()
+        self.written_events = 0
+
+    def upto(self, leg: int) -> "Course":
+        """The course up to a leg."""
+        return Course(self.elements, self.sites, self.legs[:leg + 1], self.measures, self.has_failures)
 
     def summary(self, path: Path) -> str:
         """What the chain has come to, in a line."""
@@ -83,10 +107,8 @@ class Course:
 
 
 @dataclass(frozen=True)
-class Folder:
+class Folder(Inputs):
     """The folder of a chain."""
-
-    path: Path
 
     def world(self, leg: int) -> Path:
         """The world of a leg."""
@@ -116,26 +138,9 @@ class Folder:
         """The report of a leg as the program wrote it, until it is packed."""
         return self.path / f"{leg:04}.report"
 
-    @property
-    def start(self) -> Path:
-        """The world that the chain was begun with."""
-        return self.path / START
-
-    @property
-    def files(self) -> list[Path]:
-        """The copies of the element files, in the order in which they were named."""
-        copies = self.path / ELEMENTS
-        try:
-            return sorted(copies.iterdir())
-        except OSError as error:
-            raise LabError(f"{copies}: can't be read: {cause(error)}") from error
-
     def changed(self, begun: Begun) -> Path | None:
         """The first copy that is not as it was when the chain was begun."""
-        copies, were = [self.start, *self.files], [begun.world, *begun.elements]
-        if len(copies) != len(were):
-            return self.path / ELEMENTS
-        return next((copy for copy, was in zip(copies, were, strict=True) if digest(copy) != was), None)
+        return self.other(begun.world, begun.elements)
 
     @property
     def manifest(self) -> Path:
@@ -164,14 +169,9 @@ class Folder:
 
     def begin(self, begun: Begun, world: Path, files: Sequence[Path], atoms: str, course: Course) -> None:
         """Begins a chain in an empty folder, or in one where a beginning was stopped."""
-        copies = self.path / ELEMENTS
         write_whole(self.coming, json.dumps(asdict(begun), indent=2) + "\n")
-        copies.mkdir(exist_ok=True)
-        for left in (*copies.iterdir(), self.path / ACTS):
-            left.unlink(missing_ok=True)
-        write_whole(self.start, read_bytes(world))
-        for number, file in enumerate(files):
-            write_whole(copies / f"{number:02}-{file.name}", read_bytes(file))
+        (self.path / ACTS).unlink(missing_ok=True)
+        self.copy_in(world, files)
         write_whole(self.atoms(0), atoms)
         if begun.at:
             self.write_acts(begun.at)
@@ -234,10 +234,12 @@ class Folder:
         """The legs that are done."""
         path = self.path / COURSE
         header, *rows = list(csv.reader(io.StringIO(read_text(path)))) or [[]]
-        first = len(COLUMNS) + len(elements)
-        if header[:first] != [*COLUMNS, *elements]:
+        has_failures = FAILED in header[:len(COLUMNS)]
+        course = Course(elements, sites, has_failures=has_failures)
+        first = len(course.head)
+        if header[:first] != course.head:
             raise LabError(f"{path}:1: its columns are not those of this chain")
-        course = Course(elements, sites, measures=header[first:])
+        course.measures = header[first:]
         for number, row in enumerate(rows):
             course.legs.append(leg_of(row, number, course, path))
         if not rows or course.text() != read_text(path):
@@ -254,20 +256,16 @@ def row_of(cells: Sequence[object]) -> str:
 
 def leg_of(row: list[str], number: int, course: Course, path: Path) -> Leg:
     """The leg of a row."""
-    first = len(COLUMNS) + len(course.elements)
+    before = len(COLUMNS) - 1 + course.has_failures
+    first = before + 1 + len(course.elements)
     try:
-        leg, attempts, events, abandoned = map(int, row[:4])
-        counts = list(map(int, row[5:first]))
+        leg, attempts, events, abandoned, *failed = map(int, row[:before])
+        counts = list(map(int, row[before + 1:first]))
     except ValueError as error:
         raise LabError(f"{path}:{number + 2}: no row of a course") from error
-    if leg != number or len(row) != first + len(course.measures):
+    if leg != number or len(row) != len(course.head):
         raise LabError(f"{path}:{number + 2}: the row of leg {number} should stand here")
-    return Leg(leg, attempts, events, abandoned, counts, row[first:])
-
-
-def digest(path: Path) -> str:
-    """The SHA-256 of a file."""
-    return hashlib.sha256(read_bytes(path)).hexdigest()
+    return Leg(leg, attempts, events, abandoned, counts, row[first:], failed[0] if failed else None)
 
 
 def refuse_other(folder: Folder, was: Begun, now: Begun, world: Path) -> None:
@@ -278,8 +276,7 @@ def refuse_other(folder: Folder, was: Begun, now: Begun, world: Path) -> None:
     if was.world != now.world:
         raise LabError(f"{folder.path}: the chain was begun with another world than {world}; its own is {folder.start}")
     if was.elements != now.elements:
-        copies = folder.path / ELEMENTS
-        raise LabError(f"{folder.path}: the chain was begun with other elements; its own are in {copies}")
+        raise LabError(f"{folder.path}: the chain was begun with other elements; its own are in {folder.copies}")
     for option in ("step", "seed", "keep"):
         old, new = getattr(was, option), getattr(now, option)
         if old != new:

@@ -1,17 +1,15 @@
 """Chains that come of others: a copy up to a leg, and a new one that begins with the plane of another."""
-import json
-import os
-import shutil
 import tempfile
 from collections.abc import Iterator, Sequence
 from contextlib import contextmanager
-from dataclasses import asdict, replace
+from dataclasses import replace
 from pathlib import Path
 
-from lab.chain_folder import ELEMENTS, START, Begun, Course, Folder
+from lab.chain_copy import copy_chain
+from lab.chain_folder import Begun, Course, Folder
 from lab.chain_start import Start
 from lab.errors import LabError
-from lab.files import cause, write_whole
+from lab.files import write_whole
 from lab.layout import Layout
 from lab.legs import Maker
 from lab.program import Program
@@ -28,26 +26,8 @@ def free_folder(beside: Path, word: str) -> Path:
 
 
 def fork(folder: Folder, begun: Begun, course: Course, acts: Sequence[str], leg: int, to: Path) -> None:
-    """Copies a chain up to a leg that is done, with the acts before it and the leg behind it, into a new folder.
-
-    The manifest is put in its place last, so a copy that is stopped is no chain.
-    """
-    copy = Folder(to)
-    names = [START, *(path.name for number in range(leg + 1)
-                      for path in (folder.world(number), folder.atoms(number), folder.report(number)) if path.exists())]
-    try:
-        to.mkdir()
-        write_whole(copy.coming, json.dumps(asdict(begun), indent=2) + "\n")
-        shutil.copytree(folder.path / ELEMENTS, to / ELEMENTS)
-        for name in names:
-            shutil.copyfile(folder.path / name, to / name)
-        kept = [text for text in acts if int(text.partition(":")[0]) <= leg + 1]
-        if kept:
-            copy.write_acts(kept)
-        copy.write_course(Course(course.elements, course.sites, course.legs[:leg + 1], course.measures))
-        os.replace(copy.coming, copy.manifest)
-    except OSError as error:
-        raise LabError(f"{to}: the chain can't be copied there: {cause(error)}") from error
+    """Copies a chain up to a leg that is done, with the acts before it and the leg behind it, into a new folder."""
+    copy_chain(folder, Folder(to), begun, course, leg, [text for text in acts if int(text.partition(":")[0]) <= leg + 1])
 
 
 @contextmanager

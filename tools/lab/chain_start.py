@@ -5,10 +5,12 @@ from dataclasses import dataclass
 from pathlib import Path
 
 from lab.acts import Act
-from lab.chain_folder import COURSE, Begun, Course, Folder, Leg, digest, refuse_other
+from lab.chain_folder import COURSE, Begun, Course, Folder, Leg, refuse_other
 from lab.chain_rule import Rule, by_legs
 from lab.errors import LabError
-from lab.files import read_text
+from lab.failure_finder import Finder
+from lab.files import read_bytes, read_text
+from lab.inputs import digest
 from lab.layout import Layout
 from lab.legs import Maker
 from lab.measures import measures_of
@@ -40,7 +42,7 @@ class Start:
         atoms = first_atoms(program, path, files)
         layout = Layout.of(program, files)
         acts = acts_of(at, world, layout, first)
-        begun = Begun(digest(path), [digest(file) for file in files], step, first, keep, [act.text for act in acts])
+        begun = Begun(digest(read_bytes(path)), [digest(read_bytes(file)) for file in files], step, first, keep, [act.text for act in acts])
         return Start(program, path, files, begun, acts, atoms, world.sites, layout.elements)
 
     def opened(self, folder: Folder) -> tuple[Maker, Course]:
@@ -68,7 +70,8 @@ def going_on(program: Program, folder: Folder) -> tuple[Maker, Course]:
     if counts(read_text(folder.atoms(last.number)), course.elements) != last.counts:
         raise LabError(f"{folder.atoms(last.number)}: it has other atoms than {COURSE} says")
     rule = Rule(world, begun.seed, begun.step, by_legs(folder.acts(begun, world, layout)))
-    return Maker(program, folder, begun, rule, layout, measures_of(course.measures, layout)), course
+    finder = Finder(program, folder.files, world) if course.has_failures else None
+    return Maker(program, folder, begun, rule, layout, measures_of(course.measures, layout), finder), course
 
 
 def acts_of(texts: Sequence[str], world: World, layout: Layout, seed: int) -> list[Act]:

@@ -6,6 +6,9 @@ another begins. A tile that has made all of its events holds nobody back.
 
 Tiles whose attempts are written out may have more of them than others. The age of a tile with half as many
 attempts as the one with most goes from 0 to a half, so that tiles that go on side by side have the same age.
+
+At the end of each leg of a chain all tiles have made their attempts, and so have the same age. So each leg is judged by
+its own plan and its own events, and weighs as much as its attempts are of those of all legs.
 """
 from collections import Counter
 from collections.abc import Iterable, Sequence
@@ -61,6 +64,13 @@ def renew(slowest: list[tuple[float, int]], made: Sequence[int], each: Sequence[
             return
         else:
             heapreplace(slowest, (made[tile] * each[tile], tile))
+
+
+def of_legs(legs: Sequence[tuple[Sequence[int], Sequence[int]]]) -> list[float]:
+    """How far each tile was ahead of the slowest in legs that follow one another, each with its plans and its events."""
+    whole = sum(max(planned) for planned, _ in legs) or 1
+    found = [[ahead * (max(planned) / whole) for ahead in drifts(planned, tiles)] for planned, tiles in legs]
+    return [max(column) for column in zip(*found, strict=True)]
 
 
 def greatest(planned: Sequence[int], tiles: Sequence[int]) -> float:

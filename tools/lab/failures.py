@@ -19,7 +19,7 @@ import tempfile
 from collections.abc import Iterator, Sequence
 from pathlib import Path
 
-from lab.chain_folder import COURSE
+from lab.chain_folder import COURSE, FAILED
 from lab.declarations import Declarations
 from lab.errors import LabError
 from lab.files import read_text
@@ -92,7 +92,8 @@ def course_rows(path: Path, ends: Sequence[int], failed: Sequence[int]) -> Itera
     """The rows of a course, with the failed events of each leg behind its abandoned attempts."""
     header, *legs = csv.reader(read_text(path).splitlines())
     at = header.index("abandoned") + 1
-    yield [*header[:at], "failed", *header[at:]]
+    behind = at + (header[at] == FAILED)
+    yield [*header[:at], FAILED, *header[behind:]]
     for number, row in enumerate(legs):
         begin, end = ends[max(number - 1, 0)], ends[number]
-        yield [*row[:at], sum(begin < event <= end for event in failed), *row[at:]]
+        yield [*row[:at], sum(begin < event <= end for event in failed), *row[behind:]]

@@ -16,9 +16,10 @@ import argparse
 import sys
 import tempfile
 from collections.abc import Iterator, Mapping
+from itertools import pairwise
 from pathlib import Path
 
-from lab.drift import MIXED, greatest, plans, tiles_of, warning
+from lab.drift import MIXED, of_legs, plans, tiles_of, warning
 from lab.errors import LabError
 from lab.failure_plane import FailurePlane
 from lab.figure import plane_figure
@@ -40,6 +41,7 @@ from lab.retraced import reported_legs, status_of
 from lab.stack_code import codes
 from lab.tints import tinted, tints
 from lab.words import take_words_anywhere
+from lab.world import World
 
 FRAMES = 400
 PAGES = (".html", ".htm", ".xhtml")
@@ -76,13 +78,10 @@ def run(arguments: argparse.Namespace) -> int:
         raise LabError(f"--frames {arguments.frames}: a film has at least one frame behind the first")
     if arguments.svg_movie is not None and not 0.1 <= arguments.svg_movie <= 3600:
         raise LabError(f"--svg-movie {arguments.svg_movie:g}: a film takes from 0.1 to 3600 seconds")
-    if arguments.svg_movie is not None and arguments.color:
-        raise LabError("--color: a film as SVG colours atoms by their elements alone")
     if arguments.output is None and arguments.svg is None and arguments.svg_movie is None and not arguments.csv:
         raise LabError("a film has to be written to a file: -o FILE.html")
     refuse_outputs(arguments)
-    if arguments.failures and (arguments.svg is not None or arguments.svg_movie is not None):
-        raise LabError("--failures goes with a film or with --csv")
+    refuse_useless(arguments)
     return status_of(lambda: write(arguments))
 
 
@@ -116,6 +115,20 @@ def write(arguments: argparse.Namespace) -> None:
         sys.stdout.write(text)
     else:
         write_whole(arguments.output, text)
+
+
+def refuse_useless(arguments: argparse.Namespace) -> None:
+    """Refuses options that what is asked for has no place for."""
+    if arguments.svg is not None or arguments.svg_movie is not None:
+        form = "--svg" if arguments.svg is not None else "--svg-movie"
+        if arguments.failures:
+            raise LabError(f"--failures goes with a film or with --csv, not with {form}")
+        if arguments.measures:
+            raise LabError(f"{arguments.measures[0]}: {form} has no place for a measure; a film has curves of them, and --csv columns")
+    if arguments.color and arguments.svg_movie is not None:
+        raise LabError("--color: --svg-movie colours atoms by their elements alone; a film and --svg colour them by a member")
+    if arguments.color and arguments.csv:
+        raise LabError("--color: --csv has no colours; --mean Element.member and the like add columns of a member to it")
 
 
 def refuse_outputs(arguments: argparse.Namespace) -> None:
@@ -163,7 +176,9 @@ def table_of(source: Source, films: Iterator[Frame], curves: Curves, has_failure
 
 def told_drift(source: Source, made: bytes) -> float:
     """The drift of the whole run, from the tile of each of its events; warns if its moments mix ages."""
-    drift = greatest(plans(source.world), made)
+    legs = [(plans(World.read(leg.world)), made[begin:end])
+            for leg, (begin, end) in zip(source.legs, pairwise(source.ends), strict=True)] if made else []
+    drift = max(of_legs(legs), default=0.0)
     if drift > MIXED:
         print(f"lab: warning: {source.title}: {warning(drift)}", file=sys.stderr)
     return drift

@@ -1,9 +1,11 @@
 """How the legs of a chain are made, and their files."""
+from collections import Counter
 from collections.abc import Sequence
 from dataclasses import dataclass
 
 from lab.chain_folder import Begun, Folder, Leg
 from lab.chain_rule import Rule
+from lab.failure_finder import Finder
 from lab.files import read_text, write_whole
 from lab.layout import Layout
 from lab.measures import Measure, measured
@@ -13,7 +15,7 @@ from lab.program import Program
 
 @dataclass(frozen=True)
 class Maker:
-    """Makes the legs of a chain, and measures what they leave."""
+    """Makes the legs of a chain, and measures what they leave. With a finder it looks for events that failed."""
 
     program: Program
     folder: Folder
@@ -21,6 +23,7 @@ class Maker:
     rule: Rule
     layout: Layout
     measures: Sequence[Measure] = ()
+    finder: Finder | None = None
 
     def atoms_before(self, number: int) -> Sequence[str]:
         """The lines of the atoms with which a leg begins."""
@@ -32,7 +35,11 @@ class Maker:
         write_whole(world, self.rule.world_of(number, atoms))
         return self.program.call(["step" if self.begun.step else "run", world, *self.folder.files]).output
 
-    def written(self, number: int, report: bytes) -> Leg:
+    def failed(self, atoms: Sequence[str], report: bytes) -> Counter[int] | None:
+        """How many events of a leg that began with these atoms failed at each site, if that is looked for."""
+        return None if self.finder is None else self.finder.failed(atoms, report)
+
+    def written(self, number: int, report: bytes, failed: Counter[int] | None) -> Leg:
         """The leg of a report, when its files are written. It is done once its row stands in the course.
 
         A report that is to be kept is written as it is, and a Keeper packs it.
@@ -42,4 +49,5 @@ class Maker:
             write_whole(self.folder.raw(number), report)
         write_whole(self.folder.atoms(number), outcome.atoms)
         return Leg(number, self.rule.attempts(number), outcome.events, outcome.abandoned,
-                   counts(outcome.atoms, self.layout.elements), measured(self.measures, outcome.atoms))
+                   counts(outcome.atoms, self.layout.elements), measured(self.measures, outcome.atoms),
+                   None if failed is None else failed.total())

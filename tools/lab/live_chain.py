@@ -2,15 +2,17 @@
 import threading
 from collections.abc import Callable, Sequence
 from contextlib import ExitStack
+from dataclasses import replace
 from pathlib import Path
 from typing import Any
 
 from lab.carets import with_caret
 from lab.chain_folder import Course, Folder
 from lab.chain_fork import anew, fork, free_folder
+from lab.chain_measures import carried_on
 from lab.errors import LabError
+from lab.failure_finder import Finder
 from lab.legs import Maker
-from lab.live_failures import Finder
 from lab.live_session import Session
 from lab.live_view import View
 from lab.marks import marks
@@ -45,9 +47,10 @@ class Live:
     def begin(self, maker: Maker, course: Course) -> None:
         """Shows a chain from now on. Refuses a faulty colour or symbol of an element."""
         marked = marks(maker.layout.elements, maker.folder.files)
-        finder = Finder(self.program, maker.folder.files, maker.rule.world) if self.finds_failures else None
+        if self.finds_failures and maker.finder is None:
+            maker = replace(maker, finder=Finder(self.program, maker.folder.files, maker.rule.world))
         self.folder = maker.folder
-        self.session = Session(maker, course, finder)
+        self.session = Session(maker, course)
         self.view = View(self.session, marked)
 
     def end(self) -> str:
@@ -130,6 +133,7 @@ class Live:
                 with ExitStack() as held:
                     held.enter_context(folder.held())
                     maker, course = start.opened(folder)
+                    maker, lost = carried_on(maker, course, self.session.course)
                     before, self.held = self.held, held.pop_all()
         except Refusal as refusal:
             raise LabError(with_caret(str(refusal))) from refusal
@@ -137,7 +141,8 @@ class Live:
         self.begin(maker, course)
         last.end()
         before.close()
-        return f"The elements are read again; the chain goes on in {folder.path.name}."
+        told = f" No longer measured: {', '.join(lost)}." if lost else ""
+        return f"The elements are read again; the chain goes on in {folder.path.name}.{told}"
 
 
 def strings(order: dict[str, Any], name: str) -> list[str]:

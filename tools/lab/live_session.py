@@ -13,9 +13,9 @@ from lab.errors import LabError
 from lab.files import cause, read_text
 from lab.keeper import Keeper
 from lab.legs import Maker
-from lab.live_failures import Finder
 from lab.live_pace import EVERY, Tempo
 from lab.outcome import ABANDONED, Outcome, atom_lines
+from lab.window_check import Disagreement
 
 WINDOW = 2.0  # over so many seconds the speed is measured
 RANDOM = ("erase:", "flip:")
@@ -49,13 +49,12 @@ class Shot:
 class Session:
     """A chain at work. Its folder is held by the caller for as long as it is.
 
-    `mode` is `play`, `pause`, `leg` (one leg, and then a pause) or `end`. With a finder, failed events are looked for.
+    `mode` is `play`, `pause`, `leg` (one leg, and then a pause) or `end`.
     """
 
-    def __init__(self, maker: Maker, course: Course, finder: Finder | None = None) -> None:
+    def __init__(self, maker: Maker, course: Course) -> None:
         self.maker = maker
         self.course = course
-        self.finder = finder
         self.failed: Counter[int] = Counter()
         self.all_failed = 0
         self.changed = threading.Condition()
@@ -163,7 +162,7 @@ class Session:
             began = time.monotonic()
             try:
                 self.make()
-            except (LabError, OSError) as error:
+            except (LabError, Disagreement, OSError) as error:
                 self.fail(f"{error.filename}: {cause(error)}" if isinstance(error, OSError) else str(error))
                 continue
             with self.changed:
@@ -192,17 +191,17 @@ class Session:
         with self.changed:
             self.set_length(number)
         report = self.maker.report(number, lines)
-        failed = self.finder.failed(lines, report) if self.finder else Counter()
+        failed = self.maker.failed(lines, report)
         self.settle()
         outcome = Outcome.of(report)
         with self.changed:
-            self.unsettled = self.writing.submit(self.maker.written, number, report)
+            self.unsettled = self.writing.submit(self.maker.written, number, report, failed if self.course.has_failures else None)
             self.next = number + 1
             self.left = atom_lines(outcome.atoms)
             self.lines = self.maker.rule.before(self.next, self.left)
             self.given_up = report[report.rindex(ABANDONED) + 1:]
-            self.failed = failed
-            self.all_failed += failed.total()
+            self.failed = failed or Counter()
+            self.all_failed += self.failed.total()
             self.events += outcome.events
             self.abandoned += outcome.abandoned
             self.times.append((time.monotonic(), self.events))
@@ -272,7 +271,7 @@ class Session:
         mode = "leg" if self.is_busy and self.mode == "pause" else self.mode
         return Shot(number, self.next - 1, self.events, self.abandoned, self.lines, self.given_up, mode,
                     self.tempo.attempts, self.tempo.by_itself, self.speed(), acts, done,
-                    self.failed if self.finder else None, self.all_failed, fault)
+                    self.failed if self.maker.finder else None, self.all_failed, fault)
 
     def speed(self) -> float:
         """How many events each site has in a second, over the last seconds; 0 in a pause."""

@@ -8,13 +8,16 @@ A source gives them in the doc comment above the element, as Ulam's own sources 
     element Fence { .. }
 
 \\color-by names a member, by whose value the atoms are coloured in place of that: \\color-by dist.
+A colour or a symbol of another form is told on standard error, and the element gets one of the lab's own.
 """
 from __future__ import annotations
 
 import math
 import re
+import sys
 from collections.abc import Iterable, Iterator, Sequence
 from dataclasses import dataclass
+from functools import cache
 from pathlib import Path
 
 from lab.errors import LabError
@@ -75,9 +78,19 @@ def _commands(path: Path, text: str, doc: re.Match[str] | None) -> dict[str, str
         form, wanted = _FORMS[name]
         if not form.fullmatch(value) or not value.isprintable():
             line = text.count("\n", 0, doc.start() + command.start()) + 1
-            raise LabError(f"{path}:{line}: \\{name} takes {wanted}, not '{value}'")
+            fault = f"{path}:{line}: \\{name} takes {wanted}, not '{value}'"
+            if name == "color-by":
+                raise LabError(fault)
+            _warn(f"{fault}; the element gets a {name} of the lab's own")
+            continue
         told[name] = _long(value) if name == "color" else value
     return told
+
+
+@cache
+def _warn(text: str) -> None:
+    """Says once that something is not as it should be."""
+    print(f"lab: warning: {text if text.isprintable() else ascii(text)}", file=sys.stderr)
 
 
 def _long(color: str) -> str:

@@ -14,7 +14,7 @@ from functools import cached_property
 from pathlib import Path
 
 from lab.chain_folder import Folder
-from lab.drift import drifts, plans, tiles_of
+from lab.drift import of_legs, plans, tiles_of
 from lab.errors import LabError
 from lab.files import write_whole
 from lab.heat import heat_map
@@ -27,13 +27,13 @@ from lab.world import World
 class Rates:
     """For each site, numbered row by row, how many events and how many abandoned attempts it had.
 
-    `made` has the tile of each event in their order, as a byte.
+    `legs` has for each run its plans, and the tile of each event in their order, as a byte.
     """
 
     world: World
     events: list[int]
     abandoned: list[int]
-    made: bytes
+    legs: list[tuple[list[int], bytes]]
 
     @staticmethod
     def of(world_path: Path, report_path: Path) -> "Rates":
@@ -51,7 +51,7 @@ class Rates:
         made = ((tile, x, y) for _, tile, _, x, y, _ in map(fields, report.journal.lines))
         given_up = ((tile, x, y) for tile, _, x, y, *_ in map(fields, report.abandoned.lines))
         return Rates(world, counts(world, report_path, first, made),
-                     counts(world, report_path, first + events + 1, given_up), tiles_of(report.journal.lines))
+                     counts(world, report_path, first + events + 1, given_up), [(plans(world), tiles_of(report.journal.lines))])
 
     @staticmethod
     def of_chain(folder: Folder) -> "Rates":
@@ -64,12 +64,12 @@ class Rates:
         found = [Rates.of(folder.world(leg), folder.report(leg)) for leg in legs]
         events, abandoned = ([sum(column) for column in zip(*lists, strict=True)]
                              for lists in ([it.events for it in found], [it.abandoned for it in found]))
-        return Rates(found[0].world, events, abandoned, b"".join(it.made for it in found))
+        return Rates(found[0].world, events, abandoned, [leg for it in found for leg in it.legs])
 
     @cached_property
     def drift(self) -> list[float]:
         """For each tile how far it was ahead of the slowest."""
-        return drifts(plans(self.world), self.made)
+        return of_legs(self.legs)
 
     def live(self) -> list[int]:
         """The sites whose tile is on, row by row."""

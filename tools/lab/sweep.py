@@ -39,7 +39,8 @@ from pathlib import Path
 
 from lab.alone import Alone
 from lab.errors import LabError
-from lab.files import read_byte_text
+from lab.files import read_byte_text, read_bytes
+from lab.inputs import digest
 from lab.layout import Layout
 from lab.measures import add_measure_options, measures_of
 from lab.program import Program
@@ -47,7 +48,7 @@ from lab.progress import Progress
 from lab.starting import drawn_world, first_seed
 from lab.sweep_check import check_runs
 from lab.sweep_gather import audit, gather
-from lab.sweep_plan import FORM, MOST_RUNS, Plan, Run, Sweep, sha, write_plan
+from lab.sweep_plan import FORM, MOST_RUNS, Plan, Run, Sweep, write_plan
 from lab.sweep_run import make_run, rows_of
 from lab.sweep_values import settings
 from lab.until import FORM as RULE_FORM
@@ -123,7 +124,7 @@ def plan_of_words(arguments: argparse.Namespace) -> Plan:
         Until.of(arguments.until, layout)
     texts = [read_byte_text(file) for file in arguments.files]
     sets = settings(arguments.sets, texts, layout.elements, arguments.at)
-    plan = Plan(FORM, sha(arguments.world.read_bytes()), [sha(text.encode("latin-1")) for text in texts], sets, arguments.repeat,
+    plan = Plan(FORM, digest(read_bytes(arguments.world)), [digest(text.encode("latin-1")) for text in texts], sets, arguments.repeat,
                 first_seed(world, arguments.seed), arguments.legs, arguments.step, arguments.keep, arguments.at, arguments.until,
                 measures, [*layout.elements, *measures])
     if plan.runs > MOST_RUNS:

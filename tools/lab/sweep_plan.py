@@ -6,7 +6,6 @@
   runs/NNNNN/  what run NNNNN has come to, from 00001 on; it is put in its place whole, by one rename
   sweep.csv    the rows of all runs, once they are gathered
 """
-import hashlib
 import json
 from collections.abc import Mapping, Sequence
 from dataclasses import asdict, dataclass
@@ -18,14 +17,13 @@ from typing import Any
 from lab.constants import with_values
 from lab.errors import LabError
 from lab.files import PART, cause, read_byte_text, read_bytes, read_text, write_whole
+from lab.inputs import ELEMENTS, START, Inputs
 from lab.seeds import nth
 from lab.sweep_values import OF_WORLD, FILL, set_world
 from lab.world import World
 
 FORM = "feast sweep 1"
 PLAN = "sweep.json"
-START = "start.world"
-ELEMENTS = "elements"
 RUNS = "runs"
 TABLE = "sweep.csv"
 MOST_RUNS = 1_000_000
@@ -83,10 +81,8 @@ class Run:
 
 
 @dataclass(frozen=True)
-class Sweep:
+class Sweep(Inputs):
     """The folder of a sweep."""
-
-    path: Path
 
     @cached_property
     def plan(self) -> Plan:
@@ -96,32 +92,17 @@ class Sweep:
             raise LabError(f"{self.path}: no sweep was planned there: it has no file {PLAN}")
         text = read_text(path)
         plan = plan_of(path, text)
-        copies, were = [self.start, *self.files], [plan.world, *plan.elements]
-        if plan.text() != text or len(copies) != len(were):
+        if plan.text() != text:
             raise LabError(f"{path}: not as the lab wrote it")
-        for copy, was in zip(copies, were, strict=True):
-            if sha(read_bytes(copy)) != was:
-                raise LabError(f"{copy}: not as it was when the sweep was planned")
+        changed = self.other(plan.world, plan.elements)
+        if changed is not None:
+            raise LabError(f"{changed}: not as it was when the sweep was planned")
         return plan
 
     @property
     def is_planned(self) -> bool:
         """Whether a plan is there."""
         return (self.path / PLAN).exists()
-
-    @property
-    def start(self) -> Path:
-        """The copy of the world."""
-        return self.path / START
-
-    @property
-    def files(self) -> list[Path]:
-        """The copies of the element files, in the order in which they were named."""
-        copies = self.path / ELEMENTS
-        try:
-            return sorted(copies.iterdir())
-        except OSError as error:
-            raise LabError(f"{copies}: can't be read: {cause(error)}") from error
 
     @cached_property
     def world(self) -> World:
@@ -201,12 +182,7 @@ def write_plan(sweep: Sweep, plan: Plan, world: Path, files: Sequence[Path]) -> 
         return
     if others:
         raise LabError(f"{sweep.path}: no sweep was planned there, and it has other files, such as {min(others)}")
-    (sweep.path / ELEMENTS).mkdir(exist_ok=True)
-    for left in (sweep.path / ELEMENTS).iterdir():
-        left.unlink()
-    write_whole(sweep.start, read_bytes(world))
-    for number, file in enumerate(files):
-        write_whole(sweep.path / ELEMENTS / f"{number:02}-{file.name}", read_bytes(file))
+    sweep.copy_in(world, files)
     write_whole(sweep.path / PLAN, plan.text())
 
 
@@ -217,8 +193,3 @@ def refuse_other(sweep: Sweep, plan: Plan) -> None:
         if value != now[name]:
             told = "" if name in ("world", "elements", "columns") else f": {json.dumps(value)}, not {json.dumps(now[name])}"
             raise LabError(f"{sweep.path}: the sweep was planned with other {name}{told}; name another folder")
-
-
-def sha(data: bytes) -> str:
-    """The SHA-256 of bytes."""
-    return hashlib.sha256(data).hexdigest()

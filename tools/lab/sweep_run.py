@@ -15,13 +15,13 @@ from contextlib import contextmanager
 from pathlib import Path
 
 from lab import chain
-from lab.branch import with_plain_names
 from lab.chain_folder import COLUMNS, COURSE
 from lab.errors import LabError
 from lab.files import PART, cause, read_text, write_whole
+from lab.inputs import START, digest
 from lab.measures import WHOLE
 from lab.progress import Progress
-from lab.sweep_plan import RUNS, START, Plan, Run, Sweep, sha
+from lab.sweep_plan import RUNS, Plan, Run, Sweep
 
 LABEL = "run.json"
 
@@ -59,7 +59,7 @@ def inputs(sweep: Sweep, run: Run) -> Iterator[tuple[Path, Path, list[Path]]]:
     """A folder on this machine, with the world and the element files of a run."""
     with tempfile.TemporaryDirectory(prefix="feast-sweep-") as name:
         room = Path(name)
-        world, files = room / START, with_plain_names(sweep.files, room)
+        world, files = room / START, sweep.with_plain_names(room)
         write_whole(world, sweep.world_of(run))
         for file, data in zip(files, sweep.elements_of(run), strict=True):
             write_whole(file, data)
@@ -81,7 +81,7 @@ def chain_words(sweep: Sweep, run: Run, folder: Path, world: Path, files: list[P
 
 def label(plan: Plan, run: Run) -> str:
     """What is kept beside a run: of which plan it is, and which of its runs."""
-    told = {"plan": sha(plan.text().encode()), "run": run.number, "values": run.values, "seed": run.seed}
+    told = {"plan": digest(plan.text().encode()), "run": run.number, "values": run.values, "seed": run.seed}
     return json.dumps(told, indent=2) + "\n"
 
 

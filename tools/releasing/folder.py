@@ -10,7 +10,7 @@ from releasing.tree import ReleaseError, unpack
 # What users get of the commit. (The lab and the launcher use several folders of tools.)
 PATHS = [
     "README.md", "CHANGELOG.md", "CITATION.cff", "CONTRIBUTING.md", "LICENSE-APACHE", "LICENSE-MIT", "SECURITY.md",
-    "VERSION", "docs", "editors", "examples", "feast", "lab", "tools", "work",
+    "VERSION", "docs", "editors", "examples", "feast", "lab", "tools",
 ]
 PROGRAM = "bin/feast"
 # The kit's crates of which parts are in the program, and which have licences.
@@ -48,5 +48,5 @@ def copy_licences(kit: Path, folder: Path) -> None:
 
 def checksums(folder: Path) -> str:
     """The SHA-256 of each file of a folder, as `sha256sum -c` reads them."""
-    files = sorted(path for path in folder.rglob("*") if path.is_file() and not path.is_symlink())
+    files = sorted(path for path in folder.rglob("*") if path.is_file())
     return "".join(f"{digest(path)}  {path.relative_to(folder)}\n" for path in files)

@@ -17,7 +17,8 @@ use Rattle.ulam_types.specs.Walk.{expr}
 use Rattle.ulam_types.specs.Bodies.{statement}
 use Rattle.ulam_types.specs.ProgramTyping.{IsTypedProgram}
 use Rattle.ulam_types.proofs.Classes.{program_means as typing_means}
-use Rattle.accepted_laws.specs.Accepted.{AcceptedTrees, flat_items_of}
+use Rattle.accepted_laws.specs.Accepted.{AcceptedTrees}
+use Rattle.element_set.specs.Told.{flat_row}
 use Rattle.accepted_laws.specs.Example.{example_items, example_heads, HasExample}
 
 -- what a stage finds, with what it means
@@ -30,7 +31,7 @@ met P (Ok a) e means = record { value = a; means = means }
 met P (Err f) e means = absurd (false≢true e)
 
 abbrev items : List Item
-items = flat_items_of (example_items ∷ []) (example_heads ∷ [])
+items = flat_row (example_items ∷ []) (example_heads ∷ [])
 
 no_fault : files_fault (example_items ∷ []) (example_heads ∷ []) ≡ None
 unfolding leads upward

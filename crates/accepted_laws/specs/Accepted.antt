@@ -1,5 +1,5 @@
 -- Files that no stage refuses, by their trees.
-use Rattle.std.specs.Prelude.{ℕ, ◌≡◌, List, length, map, flat_map, None, Ok}
+use Rattle.std.specs.Prelude.{ℕ, ◌≡◌, List, length, map, None, Ok}
 use Rattle.feast_base.specs.Outside.{File}
 use Rattle.ulam_tree.specs.Raw.{Item}
 use Rattle.ulam_tree.specs.Resolved as r
@@ -7,16 +7,13 @@ use Rattle.ulam_tree.specs.Typed as t
 use Rattle.ulam_heirs.specs.Heads.{Heads}
 use Rattle.ulam_heirs.specs.Lines.{Heir}
 use Rattle.ulam_heirs.specs.Faults.{files_fault}
-use Rattle.ulam_heirs.specs.Files.{all_heirs, flat_files}
+use Rattle.ulam_heirs.specs.Files.{all_heirs}
 use Rattle.ulam_names.specs.ClassRelation.{IsResolved}
 use Rattle.atom_layout.specs.Layouts.{layout_of}
 use Rattle.ulam_types.specs.ProgramTyping.{IsTypedProgram}
 use Rattle.element_set.specs.Sets.{SetValue}
+use Rattle.element_set.specs.Told.{flat_row}
 use Rattle.element_set.specs.Stages.{more_trees, no_trees}
-
--- the items of files in which each class has the members of its bases
-abbrev pub flat_items_of : List (List Item) → List Heads → List Item
-flat_items_of files heads = flat_map (λ (f : List Item). f) (flat_files files heads)
 
 -- The items of each file, and what was taken out of its tokens; the classes to which names lead once each class has the
 -- members of its bases; and the typed tree of these classes. No class has a fault of bases.
@@ -27,7 +24,7 @@ pub record AcceptedTrees : Type 0 where
   pub tree : List t.Class
   pub each : length files ≡ length heads
   pub sound : files_fault files heads ≡ None
-  pub resolved : IsResolved (flat_items_of files heads) classes
+  pub resolved : IsResolved (flat_row files heads) classes
   pub typed : IsTypedProgram classes tree
 
 -- the classes as they are written, each with the name of its base

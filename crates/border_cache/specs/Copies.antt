@@ -72,12 +72,6 @@ pub record IsCopy (v : CacheValue) (left top width height : ℕ) : Type 0 where
   pub short : rows_of v.map v.tile ≤ 72
   pub count : length v.cells ≡ columns_of v.map v.tile * rows_of v.map v.tile
 
--- a grid of the plane's size, with its live sites
-pub record IsGridOf (m : MapValue) (g : GridValue) : Type 0 where
-  pub wide : g.width ≡ m.tx * m.w
-  pub high : g.height ≡ m.ty * m.h
-  pub live : (x y : ℕ) → x < g.width → y < g.height → slice_index_or g.live (y * g.width + x) false ≡ is_live m (site x y)
-
 -- a copy of a grid's sites, each with stamp 0
 pub record IsFirstCopy (m : MapValue) (t : ℕ) (g : GridValue) (v : CacheValue) : Type 0 where
   pub map : v.map ≡ m

@@ -11,7 +11,8 @@ ghost use Rattle.border_cache.specs.Borders.{IsCentreOf, site_of};
 ghost use Rattle.border_cache.specs.Cells.{cell_value};
 ghost use Rattle.border_cache.specs.Windows.{has, has_corners, IsView, IsWhole};
 ghost use Rattle.border_cache.specs.Shared.{Renews};
-ghost use Rattle.border_cache.specs.Copies.{IsGridOf, IsFirstCopy, patch, AreAtomsIn, IsCentre, IsEndOf, Puts, PutsFor, at, Refreshed, Published, Marked, Stamped, IsCorner, place_held, held_cell, window_cells};
+ghost use Rattle.plane_grid.specs.PlaneGrids.{IsGridOf};
+ghost use Rattle.border_cache.specs.Copies.{IsFirstCopy, patch, AreAtomsIn, IsCentre, IsEndOf, Puts, PutsFor, at, Refreshed, Published, Marked, Stamped, IsCorner, place_held, held_cell, window_cells};
 
 use crate::border::Centre;
 use crate::cell::Cell;

@@ -4,7 +4,7 @@ use Rattle.bit_field.specs.Atom.{AtomValue}
 use Rattle.tile_map.specs.Plane.{MapValue, site, is_live}
 use Rattle.tile_map.specs.Laws.{IsPlane}
 use Rattle.cell_grid.specs.Grid.{GridValue, with_site}
-use Rattle.serial_order.specs.Outcomes.{IsPlaneGrid}
+use Rattle.plane_grid.specs.PlaneGrids.{IsPlaneGrid}
 use Rattle.serial_order.proofs.Grids.{in_columns}
 use Rattle.serial_order.proofs.Filling.{sets}
 

@@ -2,13 +2,13 @@
 ghost use Rattle.std.specs.Prelude.{◌≡◌, ◌<◌, ℕ, All, IfOk, IfSome, IsTrue, length};
 ghost use Rattle.tile_map.specs.Plane.{tiles_of};
 ghost use Rattle.draw_stream.specs.Plans.{attempts};
-ghost use Rattle.border_cache.specs.Copies.{IsGridOf};
+ghost use Rattle.plane_grid.specs.PlaneGrids.{IsGridOf};
 ghost use Rattle.tile_core.specs.Underway.{CanAttempt};
 ghost use Rattle.serial_order.specs.Boards.{HasStopped};
 ghost use Rattle.serial_order.specs.Outcomes.{Settles, values_of};
 ghost use Rattle.serial_order.specs.Words.{histories_on};
 ghost use Rattle.cases_order.specs.Driven.{AreMade, IsDriven};
-ghost use Rattle.serial_order.specs.Scene.{setting};
+ghost use Rattle.event_journal.specs.Serial.{course};
 
 use cell_grid::{Behave, Grid};
 use draw_stream::AttemptPlan;
@@ -34,7 +34,7 @@ pub fn tiles<B: Behave + Copy + Drop>(
     requires lists { length plan.now.lists ≡ tiles_of map.now }
     requires can { (t : ℕ) → t < tiles_of map.now → CanAttempt map.now t (attempts plan.now t) }
     ensures count { IfOk result (λ v. length v.items ≡ tiles_of map.now) }
-    ensures fresh { IfOk result (λ v. AreMade B.after map.now (setting (B.after behave) start.now plan.now) v.items) }
+    ensures fresh { IfOk result (λ v. AreMade B.after (course map.now plan.now (B.after behave) start.now) v.items) }
 {
     let mut tiles = Vec::new(alloc);
     for tile in 0..map.tiles() {

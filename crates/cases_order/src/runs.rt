@@ -2,8 +2,8 @@
 ghost use Rattle.std.specs.Prelude.{◌≡◌, ◌≤◌, IfOk, length};
 ghost use Rattle.tile_map.specs.Plane.{AreSizes, whole_plane};
 ghost use Rattle.serial_order.specs.Fresh.{AreFresh};
-ghost use Rattle.serial_order.specs.Scene.{Setting};
-ghost use Rattle.serial_order.specs.Outcomes.{IsPlaneGrid};
+ghost use Rattle.serial_order.specs.Scene.{InSomeCourse};
+ghost use Rattle.plane_grid.specs.PlaneGrids.{IsPlaneGrid};
 
 use crate::driving::{drive, settled, tiles};
 use crate::plans::{Shape, Try, plan};
@@ -11,7 +11,8 @@ use bit_field::Atom;
 use cell_grid::{Behave, Grid};
 use edge_lock::PlainBoard;
 use feast_base::NoMemory;
-use serial_order::{Outcome, blank_grid};
+use plane_grid::blank_grid;
+use serial_order::Outcome;
 use std::alloc::Global;
 use tile_core::Tile;
 use tile_map::Map;
@@ -50,7 +51,7 @@ pub fn fresh<B: Behave + Copy + Drop>(
     requires sizes { AreSizes shape.tx shape.ty shape.w shape.h }
     requires map { map.now ≡ whole_plane shape.tx shape.ty shape.w shape.h }
     requires few { length tries.now ≤ 100 }
-    ensures { IfOk result (λ v. (g : Setting) × AreFresh B.after map.now g v.items) }
+    ensures { IfOk result (λ v. InSomeCourse map.now (λ c. AreFresh B.after c v.items)) }
 {
     let start = start(alloc, map, site.0, site.1)?;
     let plan = plan(alloc, shape, tries)?;

@@ -1,5 +1,5 @@
 //! Texts of grids and reports, and the memory that they take.
-ghost use Rattle.grid_print.specs.Report.{AreNamed};
+ghost use Rattle.report_text.specs.Report.{AreNamed};
 ghost use Rattle.std.specs.Prelude.{◌≤◌, IfOk, length};
 ghost use Rattle.world_text.specs.Printed.{IsPrintable};
 ghost use Rattle.world_text.specs.Values.{world_value};
@@ -8,7 +8,7 @@ use crate::worlds::{names, world};
 use cell_grid::{Grid, Record};
 use event_journal::Abandoned;
 use feast_base::{Name, NoMemory};
-use grid_print::{grid_text, report_text};
+use report_text::{grid_text, printed_report};
 use std::alloc::Global;
 use std::test::Fail;
 use world_text::World;
@@ -87,7 +87,7 @@ fn are_exact(alloc: Global, grid: &Grid, names: &[Name]) -> Result<bool, NoMemor
     if shown.capacity() != shown.len() {
         return Ok(false);
     }
-    let report = report_text(alloc, grid, names, &EVENTS, &ABANDONED)?;
+    let report = printed_report(alloc, grid, names, &EVENTS, &ABANDONED)?;
     Ok(report.capacity() == report.len())
 }
 

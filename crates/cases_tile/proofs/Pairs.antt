@@ -6,7 +6,7 @@ use Rattle.bit_field.specs.Atom.{AtomValue}
 use Rattle.tile_map.specs.Plane.{MapValue, whole_plane, site, is_live, is_on}
 use Rattle.cell_grid.specs.Grid.{GridValue, empty_grid, with_site}
 use Rattle.draw_stream.specs.declared.attempt.Attempt.{Attempt}
-use Rattle.border_cache.specs.Copies.{IsGridOf}
+use Rattle.plane_grid.specs.PlaneGrids.{IsGridOf}
 use Rattle.tile_core.specs.Underway.{CanAttempt}
 use Rattle.cases_tile.proofs.Plane.{replicated}
 

@@ -6,7 +6,7 @@ use Rattle.tile_map.specs.Plane.{MapValue, whole_plane, site, is_live}
 use Rattle.tile_map.specs.Edges.{has_end}
 use Rattle.bit_field.specs.Atom.{AtomValue}
 use Rattle.cell_grid.specs.Grid.{GridValue, empty_grid, with_site}
-use Rattle.border_cache.specs.Copies.{IsGridOf}
+use Rattle.plane_grid.specs.PlaneGrids.{IsGridOf}
 use Rattle.edge_lock.specs.EndLists.{end_lists}
 use Rattle.edge_lock.specs.PlainEdges.{own_lists}
 use Rattle.edge_lock.specs.PlainBoard.{PlainBoardValue, no_edge, end_of, lists_on}

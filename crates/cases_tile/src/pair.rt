@@ -1,7 +1,7 @@
 //! Two tiles of 16 by 16 beside each other, on one board.
 ghost use Rattle.std.specs.Prelude.{◌≡◌, ◌<◌, IfOk};
 ghost use Rattle.tile_map.specs.Plane.{whole_plane};
-ghost use Rattle.border_cache.specs.Copies.{IsGridOf};
+ghost use Rattle.plane_grid.specs.PlaneGrids.{IsGridOf};
 ghost use Rattle.cell_grid.specs.Tried.{after_turn};
 ghost use Rattle.tile_core.specs.Boards.{IsBoardOf, IsOnBoard};
 ghost use Rattle.cases_tile.specs.Pairs.{IsJustMade, OthersStayOn, AreTwo};

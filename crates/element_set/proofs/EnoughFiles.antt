@@ -21,14 +21,10 @@ use Rattle.ulam_tree.specs.declared.raw.File.{File}
 use Rattle.element_set.specs.Told.{flat_row}
 use Rattle.element_set.proofs.Telling.{joined as row_of}
 use Rattle.ulam_names.specs.Faults.{Fault, Found}
-use Rattle.ulam_names.specs.Scopes.{Names, no_names, small_names}
+use Rattle.ulam_names.specs.Scopes.{Names, most_classes, no_names, small_names}
 use Rattle.ulam_names.specs.Classes.{Known, Half, HalfClass, new_class, class_names, members, item, items, all_behave, none_cyclic, whole_classes, head_of, member, program}
 use Rattle.ulam_names.specs.ClassRelation.{AreKnown, IsMember, AreMembers, AreItems}
 use Rattle.ulam_names.proofs.ClassMeans.{known_means, items_mean}
-
--- the most classes that names let there be
-abbrev pub most_classes : ℕ
-most_classes = 256
 
 -- the most members that names let a class have, 64 of each sort, and one more
 abbrev pub enough_members : ℕ

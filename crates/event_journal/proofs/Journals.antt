@@ -1,6 +1,6 @@
 -- The journal of some logs.
 use Rattle.std.proofs.Common.{ℕ, suc, ◌≡◌, ◌≤◌, ◌<◌, ◌+◌, List, [], ◌∷◌, ◌++◌, refl, sym, ap, subst, arith, ◌⊎◌, inl, inr, ⊎_elim, Bool, true, false, ◌∙◌, length, map, All, eq-eqb, lt-ltb, ltb-true, eqb-true}
-use Rattle.std.specs.Prelude.{◌==◌, ◌&&◌, ◌||◌, nat_lt, AllPairs, flat_map, IsPermutation}
+use Rattle.std.specs.Prelude.{◌==◌, ◌&&◌, ◌||◌, nat_lt, AllPairs, flat_map, fold, max, IsPermutation}
 use Rattle.std.specs.List.{range_with_len}
 use Rattle.std.proofs.lemmas.Bool.Decides.{nat_tests}
 use Rattle.std.proofs.lemmas.List.Elements.{All-head, All-tail, All-contains}
@@ -131,3 +131,7 @@ length-records_in ls = length_permutation (joined (map records_of ls)) (merged i
 -- a stand-in for an event that does not exist
 abbrev pub no_record : Record
 no_record = record { stamp = 0; tile = 0; attempt = 0; x = 0; y = 0; seed = 0 }
+
+-- the greatest of a number and the stamps of some records
+abbrev pub top : ℕ → List Record → ℕ
+top a xs = fold (λ greatest (s : Record). max greatest s.stamp) a xs

@@ -1,12 +1,5 @@
-pub mod Extents
-pub mod Keys
 pub mod Journals
-pub mod LineLengths
-pub mod Lines
+pub mod Keys
 pub mod Merging
-pub mod Pairs
-pub mod Reports
-pub mod Shorter
-pub mod Takings
 pub mod Tournaments
 pub mod WalkSteps

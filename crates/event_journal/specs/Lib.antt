@@ -1,12 +1,7 @@
 pub mod Accounts
-pub mod Cursors
-pub mod Cuts
-pub mod Forms
 pub mod Keys
-pub mod Lengths
 pub mod Logs
 pub mod Merged
-pub mod Reading
-pub mod Text
+pub mod Serial
 pub mod Tournaments
 pub mod Walks

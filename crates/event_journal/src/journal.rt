@@ -60,7 +60,7 @@ impl Journal {
     }
 
     /// The logs of all tiles.
-    pub(crate) fn logs(&self) -> &[TileLog]
+    pub fn logs(&self) -> &[TileLog]
         ensures { result.now ≡ self.now }
     {
         self.logs.as_slice()

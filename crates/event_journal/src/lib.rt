@@ -5,28 +5,13 @@
 #![tactic(auto)]
 
 mod abandoned;
-mod cursors;
-mod fault;
-mod forms;
 mod journal;
-mod law;
-mod lengths;
-mod line;
 mod log;
 mod merge;
-mod placing;
-mod printed;
-mod reader;
-mod reading;
 mod tournament;
 mod walk;
 
 pub use abandoned::Abandoned;
-pub use fault::{JournalFault, LineFault};
 pub use journal::Journal;
-pub use law::cuts;
-pub use lengths::{count_len, entries_text_len, journal_text_len, number_len};
 pub use log::TileLog;
-pub use printed::{count_fields, print, print_entries};
-pub use reader::{ReadJournal, read};
 pub use walk::Walk;

@@ -3,9 +3,10 @@
 use Rattle.std.proofs.Common.{ℕ, ◌≡◌, ◌≤◌, List, ◌++◌, Ok, codes, length, ap, sym, subst, ◌∙◌, inr}
 use Rattle.cell_grid.specs.Grid.{GridValue}
 use Rattle.cell_grid.specs.declared.record.Record.{Record}
-use Rattle.event_journal.specs.Reading.{read_report}
+use Rattle.report_text.specs.Reading.{entries_said, read_report}
 use Rattle.event_journal.specs.declared.abandoned.Abandoned.{Abandoned}
 use Rattle.feast_base.specs.Outside.{File}
+use Rattle.report_text.specs.Entries.{Entries}
 use Rattle.feast_run.proofs.AuditedAgain.{audits_yes}
 use Rattle.feast_run.proofs.Machines.{left_named}
 use Rattle.feast_run.proofs.PlansFit.{HasSize, left_size, plan_fits}
@@ -16,22 +17,22 @@ use Rattle.feast_run.specs.Again.{IsOwnReport, ReplaysTo, SaysJournal}
 use Rattle.feast_run.specs.Elements.{ElementsValue}
 use Rattle.feast_run.specs.Owing.{IsRun}
 use Rattle.feast_run.specs.Promises.{WorldTold}
-use Rattle.feast_run.specs.Stages.{JournalValue, journal_limit, journal_said, ready_with}
-use Rattle.grid_print.proofs.ReadAgain.{read_again}
-use Rattle.grid_print.specs.Again.{IsLeft}
-use Rattle.grid_print.specs.Report.{atoms_text, report, report_value}
+use Rattle.feast_run.specs.Stages.{journal_limit, ready_with}
+use Rattle.report_text.proofs.ReadAgain.{read_again}
+use Rattle.report_text.specs.Again.{IsLeft, entries_in}
+use Rattle.report_text.specs.Report.{atoms_text, report, report_value}
 use Rattle.world_runs.proofs.Valid.{read_draft, world_known}
 use Rattle.world_text.specs.Named.{WorldValue}
 use Rattle.world_text.specs.Printed.{IsNamed}
 
 -- a text says this journal, and is no longer than a journal may be
-record IsReadBack (world : WorldValue) (text : List ℕ) (journal : JournalValue) : Type 0 where
+record IsReadBack (world : WorldValue) (text : List ℕ) (journal : Entries) : Type 0 where
   pub says : SaysJournal world text journal
   pub within : length text ≤ journal_limit
 
 -- the report of what a run of a told world left
 read_back : (files : List File) (word : List ℕ) (world : WorldValue) (e : ElementsValue) (grid : GridValue) (records : List Record) (abandoned : List Abandoned) (text : List ℕ) → AreSound e →
-    WorldTold files word e.names world → IsRun (ready_with world e) grid records abandoned → text ≡ report e.names grid records abandoned → IsReadBack world text (record { records = records; abandoned = abandoned })
+    WorldTold files word e.names world → IsRun (ready_with world e) grid records abandoned → text ≡ report e.names grid records abandoned → IsReadBack world text (entries_in (report_value grid records abandoned))
 read_back files word world e grid records abandoned text sound told run shown =
     let names = e.names in
     let named : IsNamed names world = (told.reads.0, read_draft told.bytes told.reads.0 told.reads.1, told.reads.2) in
@@ -40,22 +41,19 @@ read_back files word world e grid records abandoned text sound told run shown =
       wide = size.wide;
       sites = size.sites;
       named = left_named (ready_with world e) grid records run.replayed sound.brings (world_known names world named);
-      accounted = run.accounted;
-      stamped = run.stamped;
-      excused = run.excused;
+      owes = run.owes;
     } in
     let fits = plan_fits names world named in
     let says = read_again names world.plane world.plan sound.named fits (report_value grid records abandoned) left in
     let short = report_short names world.plane world.plan (formed_short names sound.named) fits grid records abandoned left in
-    let reads : SaysJournal world text (record { records = records; abandoned = abandoned }) =
-    ap (λ bytes. journal_said (read_report world.plane world.plan.lists bytes)) shown ∙ ap journal_said says.1 ∙ (λ i. Ok (record { records = says.2 i; abandoned = says.3 i })) in
+    let reads : SaysJournal world text (entries_in (report_value grid records abandoned)) = ap (λ bytes. entries_said (read_report world.plane world.plan.lists bytes)) shown ∙ says in
     record { says = reads; within = subst (λ bytes. length bytes ≤ journal_limit) (sym shown) short }
 
 pub own_report : (files : List File) (word : List ℕ) (world : WorldValue) (e : ElementsValue) (grid : GridValue) (records : List Record) (abandoned : List Abandoned) (text : List ℕ) → AreSound e →
-    WorldTold files word e.names world → IsRun (ready_with world e) grid records abandoned → text ≡ report e.names grid records abandoned → IsOwnReport (ready_with world e) text (record { records = records; abandoned = abandoned })
+    WorldTold files word e.names world → IsRun (ready_with world e) grid records abandoned → text ≡ report e.names grid records abandoned → IsOwnReport (ready_with world e) text (entries_in (report_value grid records abandoned))
 own_report files word world e grid records abandoned text sound told run shown =
     let back = read_back files word world e grid records abandoned text sound told run shown in
-    let journal : JournalValue = record { records = records; abandoned = abandoned } in
+    let journal = entries_in (report_value grid records abandoned) in
     record {
       says = back.says;
       audited = audits_yes (ready_with world e) text grid journal back.says back.within run shown;
@@ -66,7 +64,7 @@ pub replays_to : (files : List File) (word : List ℕ) (world : WorldValue) (e :
     WorldTold files word e.names world → IsRun (ready_with world e) grid records abandoned → text ≡ report e.names grid records abandoned → ReplaysTo (ready_with world e) text grid
 replays_to files word world e grid records abandoned text sound told run shown =
     let back = read_back files word world e grid records abandoned text sound told run shown in
-    let journal : JournalValue = record { records = records; abandoned = abandoned } in
+    let journal = entries_in (report_value grid records abandoned) in
     λ others at file.
     inr (record {
       value = journal;

@@ -6,17 +6,19 @@ use Rattle.cell_grid.specs.Grid.{GridValue}
 use Rattle.cell_grid.specs.Records.{replay}
 use Rattle.cell_grid.specs.declared.record.Record.{Record}
 use Rattle.element_set.specs.Sets.{Coded}
+use Rattle.event_journal.specs.Serial.{course}
+use Rattle.report_text.specs.Entries.{Entries}
 use Rattle.feast_run.specs.Answer.{rewinds}
-use Rattle.feast_run.specs.Audited.{Audits, judged_world}
+use Rattle.feast_run.specs.Audited.{Audits, judged_course}
 use Rattle.feast_run.specs.Faults.{IsHalt}
 use Rattle.feast_run.specs.Halting.{RefusedValue}
-use Rattle.feast_run.specs.Stages.{JournalValue, ReadyValue, records_refused}
+use Rattle.feast_run.specs.Stages.{ReadyValue, records_refused}
 use Rattle.feast_run.specs.Tellings.{Tells}
 use Rattle.feast_run.specs.declared.halt.Halt.{Halt}
 use Rattle.feast_run.specs.declared.halt.Halt.TheVariants.{Missing, NoMemory, Refused}
-use Rattle.grid_print.specs.Report.{AreNamed}
+use Rattle.report_text.specs.Report.{AreNamed}
 use Rattle.journal_check.specs.Entries.{IsPlanOf}
-use Rattle.report_judge.specs.Judging.{Judges, JudgedWorld, judgement_text}
+use Rattle.report_judge.specs.Judging.{Judges, NamedCourse, judgement_text, named_course}
 use Rattle.report_judge.specs.declared.judgement.Judgement.{Judgement}
 use Rattle.tile_map.specs.Plane.{MapValue}
 use Rattle.window_sites.specs.Window.{WindowValue}
@@ -38,19 +40,19 @@ replay_named names w means g rs h brings is =
     let first = subst (λ (v : GridValue). All (IsKnown n) v.atoms) (sym is) (start_known n w.plane w.atoms (world_known names w h)) in
     replay_known n means g rs brings first
 
--- the setting of a judgement whose parts are a world's
-pub setting_same : (r : ReadyValue) (m : MapValue) (means : WindowValue → ℕ → WindowValue) (names : List (List ℕ)) (g : GridValue) → m ≡ r.world.plane → means ≡ r.meaning → names ≡ r.names → g ≡ start_grid r.world.plane r.world.atoms →
-    record { map = m; plan = r.world.plan; meaning = means; names = names; start = g } ≡ judged_world r
-setting_same r m means names g em ea en eg = λ i. record { map = em i; plan = r.world.plan; meaning = ea i; names = en i; start = eg i }
+-- the course of a judgement whose parts are a world's
+pub course_same : (r : ReadyValue) (m : MapValue) (means : WindowValue → ℕ → WindowValue) (names : List (List ℕ)) (g : GridValue) → m ≡ r.world.plane → means ≡ r.meaning → names ≡ r.names → g ≡ start_grid r.world.plane r.world.atoms →
+    named_course (course m r.world.plan means g) names ≡ judged_course r
+course_same r m means names g em ea en eg = λ i. named_course (course (em i) r.world.plan (ea i) (eg i)) (en i)
 
 -- the line of a right judgement
-pub line_audits : {A E : Type 0} (items : A → List ℕ) (r : ReadyValue) (bytes : List ℕ) (j : JournalValue) (s : JudgedWorld) (judgement : Judgement) (text : Result A E) → s ≡ judged_world r → Judges s bytes j.records j.abandoned judgement →
+pub line_audits : {A E : Type 0} (items : A → List ℕ) (r : ReadyValue) (bytes : List ℕ) (j : Entries) (s : NamedCourse) (judgement : Judgement) (text : Result A E) → s ≡ judged_course r → Judges s bytes j judgement →
     IfOk text (λ v. items v ≡ judgement_text judgement) → IfOk text (λ v. Audits r bytes j (items v))
-line_audits items r bytes j s judgement (Ok v) same right shown = record { judgement = judgement; judges = subst (λ (x : JudgedWorld). Judges x bytes j.records j.abandoned judgement) same right; shown = shown }
+line_audits items r bytes j s judgement (Ok v) same right shown = record { judgement = judgement; judges = subst (λ (x : NamedCourse). Judges x bytes j judgement) same right; shown = shown }
 line_audits items r bytes j s judgement (Err e) same right shown = tt
 
 -- a journal has fewer events than are to be left
-pub few_told : {X : Type 0} (value : X → List ℕ) (word : List ℕ) (k : ℕ) (r : ReadyValue) (j : JournalValue) (halt : Halt) → length j.records < k → IsHalt (records_refused word (length j.records)) halt → Tells value (rewinds word k r j) (Err halt)
+pub few_told : {X : Type 0} (value : X → List ℕ) (word : List ℕ) (k : ℕ) (r : ReadyValue) (j : Entries) (halt : Halt) → length j.records < k → IsHalt (records_refused word (length j.records)) halt → Tells value (rewinds word k r j) (Err halt)
 few_told value word k r j (Refused s) few is = ((few, is.0), subst Coded (sym (ap (λ (v : RefusedValue). v.refusal.code) is.0)) is.1)
 few_told value word k r j (Missing v) few is = absurd is
 few_told value word k r j NoMemory few is = absurd is

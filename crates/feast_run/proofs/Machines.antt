@@ -1,17 +1,16 @@
 -- What a stepped run comes to is what the stepped machine of its world leaves, and owes what a run does, as what a run with a
 -- worker for each tile comes to does.
-use Rattle.std.proofs.Common.{ℕ, ◌≡◌, ◌≢◌, List, All, Result, Ok, Err, ap, length, refl, subst, sym, ◌∙◌}
+use Rattle.std.proofs.Common.{ℕ, ◌≡◌, ◌≢◌, List, All, Result, Ok, Err, length, refl, subst, sym}
 use Rattle.std.specs.Result.{IfOk}
 use Rattle.cell_grid.specs.Grid.{GridValue}
 use Rattle.cell_grid.specs.Records.{replay}
 use Rattle.cell_grid.specs.declared.record.Record.{Record}
-use Rattle.event_journal.specs.Accounts.{AreExcused, IsAccounted, IsStamped}
 use Rattle.event_journal.specs.Logs.{LogValue, abandoned_in, records_in}
-use Rattle.feast_run.specs.Owing.{Reports}
+use Rattle.feast_run.specs.Owing.{IsRun, Reports}
 use Rattle.feast_run.specs.Stages.{ReadyValue}
 use Rattle.feast_run.specs.Stepped.{IsOutcomeOf, IsSteppedRun, machine_of, stepped_logs}
 use Rattle.feast_run.specs.Threaded.{IsThreadedOf}
-use Rattle.grid_print.specs.Report.{AreNamed, report}
+use Rattle.report_text.specs.Report.{AreNamed, report}
 use Rattle.serial_order.specs.declared.outcome.Outcome.{Outcome}
 use Rattle.tile_map.specs.Plane.{tiles_of}
 use Rattle.window_sites.specs.Window.{WindowValue}
@@ -31,16 +30,7 @@ machine_logs r o h = h.journal
 -- what was left is a run's
 pub is_run : (r : ReadyValue) (o : Outcome) → IsOutcomeOf r o → IsSteppedRun r
 is_run r o h =
-    let m = r.world.plane in
-    let plan = r.world.plan in
-    let logs = machine_logs r o h in
-    let s = h.settled in
-    record {
-      replayed = sym (machine_grid r o h) ∙ (s.grid ∙ ap (λ (ls : List LogValue). replay r.meaning (start_grid m r.world.atoms) (records_in ls)) logs);
-      accounted = subst (λ (ls : List LogValue). IsAccounted m plan (records_in ls) (abandoned_in ls)) logs s.accounted;
-      stamped = subst (λ (ls : List LogValue). IsStamped m (records_in ls)) logs s.stamped;
-      excused = subst (λ (ls : List LogValue). AreExcused m plan (records_in ls) (abandoned_in ls)) logs s.excused;
-    }
+    subst (λ (left : GridValue × List LogValue). IsRun r left.0 (records_in left.1) (abandoned_in left.1)) (λ i. (machine_grid r o h i, machine_logs r o h i)) h.in_order.serial
 
 -- each atom that was left has a name
 pub left_named : (r : ReadyValue) (left : GridValue) (records : List Record) → left ≡ replay r.meaning (start_grid r.world.plane r.world.atoms) records → BringsNone (length r.names) r.meaning → ArePlacedKnown (length r.names) r.world.atoms →
@@ -54,12 +44,11 @@ left_named r left records is brings placed =
 -- the report of what a run with a worker for each of several tiles came to
 pub threaded_reports : (r : ReadyValue) (o : Outcome) → IsThreadedOf r o → tiles_of r.world.plane ≢ 1 → Reports r (report r.names o.grid (records_in o.journal) (abandoned_in o.journal))
 threaded_reports r o h several =
-    let s = h.settled in
     record {
       grid = o.grid;
       records = records_in o.journal;
       abandoned = abandoned_in o.journal;
-      run = record { replayed = s.grid; accounted = s.accounted; stamped = s.stamped; excused = s.excused };
+      run = h.serial;
       alone = λ one. absurd (several one);
       shown = refl;
     }

@@ -16,9 +16,9 @@ use Rattle.draw_stream.specs.Plans.{attempts, count_of, seeded, tiles_on}
 use Rattle.draw_stream.specs.Words.{tile_step, tile_word}
 use Rattle.draw_stream.specs.declared.attempt.Attempt.{Attempt}
 use Rattle.draw_stream.proofs.Plans.{length_seeded_attempts, length_seeded_lists, seeded_attempts_at, seeded_lists_at, sum_seeded_lists}
-use Rattle.grid_print.specs.Again.{IsDrawablePlan}
-use Rattle.grid_print.specs.OneReport.{IsWord}
-use Rattle.serial_order.specs.BlankGrid.{blank_grid, plane_sites}
+use Rattle.report_text.specs.Again.{IsDrawablePlan}
+use Rattle.report_text.specs.OneReport.{IsWord}
+use Rattle.plane_grid.specs.BlankGrid.{blank_grid, plane_sites}
 use Rattle.tile_map.specs.Plane.{MapValue}
 use Rattle.window_sites.specs.Window.{WindowValue}
 use Rattle.world_runs.proofs.Valid.{world_valid}

@@ -5,6 +5,7 @@ use Rattle.element_set.specs.Sets.{SetValue, check_text, code_text}
 use Rattle.feast_base.specs.Outside.{File, Grows, ShelfState, SinkState}
 use Rattle.feast_base.specs.Refusals.{refusal_line, unreadable_line}
 use Rattle.event_journal.specs.Logs.{abandoned_in, records_in}
+use Rattle.report_text.specs.Entries.{Entries}
 use Rattle.feast_run.proofs.Again.{own_report, replays_to}
 use Rattle.feast_run.proofs.AuditedLater.{audited_later}
 use Rattle.feast_run.proofs.CodeStages.{codes_are}
@@ -28,7 +29,7 @@ use Rattle.feast_base.specs.Stages.{IsSure, Stage, and_then}
 use Rattle.feast_run.specs.Halting.{Accepts, FormOutcome, HaltValue, IsRefusal, RefusedValue, misses, refuses}
 use Rattle.feast_run.specs.Promises.{Agrees, AuditTold, Complete, Exactly, Gains, GainsLine, GenTold, HasShown, Headline, IsCodeFile, IsDue, IsReadAgain, IsSet, KnownReport, NoneNoted, RanTold, ReplayTold, ReportWords, RewindTold, SetTold, Shows, SteppedTold, UsageExactly, report_words}
 use Rattle.feast_run.specs.Owing.{Reports, reported}
-use Rattle.feast_run.specs.Stages.{JournalValue, ReadyValue, journal_in, journal_limit, load, ready_by, ready_with, set_of, sourced}
+use Rattle.feast_run.specs.Stages.{ReadyValue, journal_in, journal_limit, load, ready_by, ready_with, set_of, sourced}
 use Rattle.feast_run.specs.Stepped.{IsSteppedRun, machine_of, stepped_journal, stepped_logs, stepped_report}
 use Rattle.feast_run.specs.declared.status.Status.{Status}
 use Rattle.feast_run.specs.declared.status.Status.TheVariants as how
@@ -89,7 +90,7 @@ stepped_told elements S IsTold files world text are h =
     }
 
 -- a world with the elements of a set, and the journal that its report says
-abbrev report_known : (files : List File) (words : ReportWords) (r : ReadyValue) (s : ReadyTold source_elements (set_of (Some files) words.elements) files words.world r) (bytes : List ℕ) (journal : JournalValue) →
+abbrev report_known : (files : List File) (words : ReportWords) (r : ReadyValue) (s : ReadyTold source_elements (set_of (Some files) words.elements) files words.world r) (bytes : List ℕ) (journal : Entries) →
     load (Some files) journal_limit words.report (Ok bytes) → journal_in words.report s.world bytes (Ok journal) → KnownReport files words
 report_known files words r s bytes journal loaded read = record {
   world = s.world;

@@ -5,14 +5,14 @@ use Rattle.code_file.specs.Judging.{Reads, column_behind, is_among, judged}
 use Rattle.code_file.specs.declared.fault.CodeFault.{CodeFault}
 use Rattle.code_file.specs.declared.fault.CodeFault.TheVariants.{BadMagic, BadForm, NotValid, SameName, NoMemory}
 use Rattle.draw_stream.specs.declared.attempt.Attempt.{Attempt}
-use Rattle.event_journal.specs.Reading.{Said, go_on, is_over, line_step, nothing_said, read_lines, read_report}
-use Rattle.event_journal.specs.declared.fault.LineFault.{LineFault}
-use Rattle.event_journal.specs.declared.fault.LineFault.TheVariants.{BadForm as bad_form, OutOfTurn, ElsewhereThanTile, OtherThanAttempt}
+use Rattle.report_text.specs.Reading.{Said, entries_said, go_on, is_over, line_step, nothing_said, read_lines, read_report}
+use Rattle.report_text.specs.declared.journal_fault.LineFault.{LineFault}
+use Rattle.report_text.specs.declared.journal_fault.LineFault.TheVariants.{BadForm as bad_form, OutOfTurn, ElsewhereThanTile, OtherThanAttempt}
 use Rattle.feast_base.specs.declared.place.Refusal.{Refusal}
 use Rattle.feast_run.proofs.Placed.{HasPlace, byte_placed, line_placed}
 use Rattle.feast_run.specs.CodeFiles.{IsCodeRefused, at_byte}
 use Rattle.feast_run.specs.Halting.{RefusedValue, refused}
-use Rattle.feast_run.specs.Stages.{journal_said, line_refusal}
+use Rattle.feast_run.specs.Stages.{line_refusal}
 use Rattle.feast_run.specs.declared.halt.Input.TheVariants as input
 use Rattle.stack_code.specs.Valid.{valid}
 use Rattle.text_lines.specs.Lines.{ended_lines}
@@ -40,10 +40,10 @@ report_refused : (m : MapValue) (lists : List (List Attempt)) (bytes : List ℕ)
 unfolding read_report
 report_refused m lists bytes f h = lines_refused m lists 1 (nothing_said m) (ended_lines bytes) f (omega arith) h
 
-pub journal_refused_at : (m : MapValue) (lists : List (List Attempt)) (bytes : List ℕ) (f : ℕ × LineFault) → journal_said (read_report m lists bytes) ≡ Err f → 1 ≤ f.0
+pub journal_refused_at : (m : MapValue) (lists : List (List Attempt)) (bytes : List ℕ) (f : ℕ × LineFault) → entries_said (read_report m lists bytes) ≡ Err f → 1 ≤ f.0
 journal_refused_at m lists bytes f h = on (read_report m lists bytes) refl h
   where
-    on : (r : Result Said (ℕ × LineFault)) → read_report m lists bytes ≡ r → journal_said r ≡ Err f → HasLine f
+    on : (r : Result Said (ℕ × LineFault)) → read_report m lists bytes ≡ r → entries_said r ≡ Err f → HasLine f
     on (Ok d) is g = cc
     on (Err fault) is g = let same : fault ≡ f = cc in subst HasLine same (report_refused m lists bytes fault is)
 

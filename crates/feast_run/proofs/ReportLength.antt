@@ -19,16 +19,16 @@ use Rattle.cell_grid.specs.Grid.{GridValue}
 use Rattle.cell_grid.specs.declared.record.Record.{Record}
 use Rattle.draw_stream.specs.Plans.{PlanValue}
 use Rattle.event_journal.specs.declared.abandoned.Abandoned.{Abandoned}
-use Rattle.event_journal.specs.Text.{abandoned_fields, abandoned_lines, count_fields, record_fields, record_lines}
-use Rattle.event_journal.proofs.Lines.{long_number, short_number}
+use Rattle.report_text.specs.JournalText.{abandoned_fields, abandoned_lines, count_fields, record_fields, record_lines}
+use Rattle.report_text.proofs.WrittenLines.{long_number, short_number}
 use Rattle.feast_base.specs.Digits.{hex}
 use Rattle.feast_base.specs.TypeNames.{is_type_name, is_word_byte, longest_name, name_of}
 use Rattle.feast_run.specs.Stages.{journal_limit}
 use Rattle.text_lines.specs.Lines.{ended_line, more_text, text_of}
 use Rattle.tile_map.specs.Plane.{MapValue}
-use Rattle.grid_print.proofs.Bounds.{IsSmallAbandoned, IsSmallRecord, abandoned_small, events_few, given_up_few, records_small}
-use Rattle.grid_print.specs.Again.{AreFormed, IsLeft, IsDrawablePlan}
-use Rattle.grid_print.specs.Report.{Shown, atom_fields, atom_lines, report, report_lines, report_value, shown, shown_at, shown_from}
+use Rattle.report_text.proofs.Bounds.{IsSmallAbandoned, IsSmallRecord, abandoned_small, events_few, given_up_few, records_small}
+use Rattle.report_text.specs.Again.{AreFormed, IsLeft, IsDrawablePlan}
+use Rattle.report_text.specs.Report.{Shown, atom_fields, atom_lines, report, report_lines, report_value, shown, shown_at, shown_from}
 
 -- names that are no longer than names are
 abbrev pub AreShort : List (List ℕ) → Type 0
@@ -174,6 +174,6 @@ report_short names m plan short p g rs gs left =
     let sites = left.sites in
     let atoms = atoms_low names g.width 0 g.atoms short (omega (arith, wide, plane.0)) (omega (arith, sites, plane.1)) in
     let few = atoms.few in
-    let records = records_small m plan p rs gs left.accounted left.stamped in
-    let abandoned = abandoned_small m plan p rs gs left.accounted left.excused in
-    report_low names (shown g) rs gs atoms.each records abandoned (omega (arith, few, sites, plane.1)) (events_few m plan p rs gs left.accounted) (given_up_few m plan p rs gs left.accounted)
+    let records = records_small m plan p rs gs left.owes.accounted left.owes.stamped in
+    let abandoned = abandoned_small m plan p rs gs left.owes.accounted left.owes.excused in
+    report_low names (shown g) rs gs atoms.each records abandoned (omega (arith, few, sites, plane.1)) (events_few m plan p rs gs left.owes.accounted) (given_up_few m plan p rs gs left.owes.accounted)

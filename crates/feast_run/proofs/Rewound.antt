@@ -1,30 +1,31 @@
 -- A rewind of the report of a run, and a later one by the same world and the same element files.
 use Rattle.std.proofs.Common.{ℕ, ◌≡◌, ◌≤◌, List, Some, Ok, length, ap, sym, subst, ◌∙◌, inr}
 use Rattle.element_set.specs.Sets.{SetValue, element_names}
-use Rattle.event_journal.specs.Reading.{read_report}
+use Rattle.report_text.specs.Reading.{entries_said, read_report}
 use Rattle.feast_base.proofs.Stages.{goes_at, went}
 use Rattle.feast_base.specs.Outside.{File, file_of}
 use Rattle.feast_base.specs.Stages.{Goes}
+use Rattle.report_text.specs.Entries.{Entries}
 use Rattle.feast_run.proofs.AuditedLater.{passes, passes_later}
 use Rattle.feast_run.proofs.Sure.{sources_one}
 use Rattle.feast_run.specs.Again.{RewindsTo, SaysJournal}
 use Rattle.feast_run.specs.Answer.{AreFirstAtoms, rewind_of}
 use Rattle.feast_run.specs.Promises.{IsRewoundLater, IsSet, RewindTold, WorldTold, report_words}
-use Rattle.feast_run.specs.Stages.{JournalValue, ReadyValue, journal_limit, journal_said, ready, sourced}
+use Rattle.feast_run.specs.Stages.{ReadyValue, journal_limit, ready, sourced}
 use Rattle.world_text.specs.Named.{WorldValue}
 
-only : (r : ReadyValue) (text : List ℕ) (j : JournalValue) → SaysJournal r.world text j → (files : List File) (word : List ℕ) (k : ℕ) (atoms : List ℕ) → file_of word files ≡ Some text → rewind_of (Some files) word k r (Ok atoms) → AreFirstAtoms r j k atoms
+only : (r : ReadyValue) (text : List ℕ) (j : Entries) → SaysJournal r.world text j → (files : List File) (word : List ℕ) (k : ℕ) (atoms : List ℕ) → file_of word files ≡ Some text → rewind_of (Some files) word k r (Ok atoms) → AreFirstAtoms r j k atoms
 only r text j says files word k atoms file h =
     let g = went _ _ atoms h in
     let b = went _ _ g.value g.passed in
     let content : Some b.value ≡ Some text = sym b.passed.0 ∙ file in
     let bytes : b.value ≡ text = cc in
-    let said : Ok g.value ≡ Ok j = sym b.rest ∙ ap (λ ns. journal_said (read_report r.world.plane r.world.plan.lists ns)) bytes ∙ says in
+    let said : Ok g.value ≡ Ok j = sym b.rest ∙ ap (λ ns. entries_said (read_report r.world.plane r.world.plan.lists ns)) bytes ∙ says in
     let journal : g.value ≡ j = cc in
-    subst (λ (v : JournalValue). AreFirstAtoms r v k atoms) journal g.rest
+    subst (λ (v : Entries). AreFirstAtoms r v k atoms) journal g.rest
 
 -- a text that says this journal, and is no longer than a journal may be
-pub rewinds_to : (r : ReadyValue) (text : List ℕ) (j : JournalValue) → SaysJournal r.world text j → length text ≤ journal_limit → RewindsTo r text j
+pub rewinds_to : (r : ReadyValue) (text : List ℕ) (j : Entries) → SaysJournal r.world text j → length text ≤ journal_limit → RewindsTo r text j
 rewinds_to r text j says within = record {
   comes = λ files word k atoms file right. inr (record { value = j; passed = inr (record { value = text; passed = (file, within); rest = says }); rest = right });
   only = only r text j says;
@@ -42,7 +43,7 @@ same_rewind files world report words w set k atoms passed h =
     } in
     goes_at _ _ (sources_one files world words) (sourced w set) passed (Ok atoms) goes
 
-pub rewound_later : (files : List File) (world : List ℕ) (words : List (List ℕ)) (text : List ℕ) (w : WorldValue) (set : SetValue) (j : JournalValue) → IsSet files words set → WorldTold files world (element_names set) w → RewindsTo (sourced w set) text j →
+pub rewound_later : (files : List File) (world : List ℕ) (words : List (List ℕ)) (text : List ℕ) (w : WorldValue) (set : SetValue) (j : Entries) → IsSet files words set → WorldTold files world (element_names set) w → RewindsTo (sourced w set) text j →
     IsRewoundLater files world words text (AreFirstAtoms (sourced w set) j)
 rewound_later files world words text w set j is_set told rewinds = record {
   comes = λ later k atoms right. inr (record { value = sourced w set; passed = passes_later files world words text w set is_set told later; rest = rewinds.comes later.others later.report k atoms later.report_is right });

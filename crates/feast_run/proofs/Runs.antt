@@ -9,10 +9,11 @@ use Rattle.cell_grid.specs.Grid.{GridValue}
 use Rattle.cell_grid.specs.declared.record.Record.{Record}
 use Rattle.draw_stream.specs.Plans.{attempts}
 use Rattle.event_journal.specs.Logs.{LogValue, log_of}
-use Rattle.event_journal.specs.Reading.{IsFault, Said, read_report}
-use Rattle.event_journal.specs.declared.fault.LineFault.{LineFault}
+use Rattle.report_text.specs.Reading.{IsFault, Said, entries_said, read_report}
+use Rattle.report_text.specs.declared.journal_fault.LineFault.{LineFault}
 use Rattle.feast_base.specs.Outside.{File, file_of}
 use Rattle.feast_base.proofs.Stages.{went}
+use Rattle.report_text.specs.Entries.{Entries, entries}
 use Rattle.feast_run.proofs.Loads.{loaded_files}
 use Rattle.feast_run.specs.Answer.{grid_after, run_report}
 use Rattle.feast_run.specs.Faults.{IsJournalHalt, IsWorldHalt}
@@ -21,13 +22,13 @@ use Rattle.feast_base.specs.Stages.{Stage}
 use Rattle.feast_run.specs.Halting.{HaltValue, RefusedValue, decides}
 use Rattle.feast_run.specs.Owing.{Reports}
 use Rattle.feast_run.specs.Promises.{IsSet, WorldTold}
-use Rattle.feast_run.specs.Stages.{JournalValue, ReadyValue, journal_in, journal_of, journal_said, ready_by, ready_with, set_of, with_elements, world_limit, world_refused}
+use Rattle.feast_run.specs.Stages.{ReadyValue, journal_in, journal_of, ready_by, ready_with, set_of, with_elements, world_limit, world_refused}
 use Rattle.feast_run.specs.Tellings.{Tells}
-use Rattle.feast_run.specs.Values.{IsReady, elements_value, journal_value}
+use Rattle.feast_run.specs.Values.{IsReady, elements_value}
 use Rattle.feast_run.specs.declared.halt.Halt.{Halt}
 use Rattle.feast_run.specs.declared.worlds.Ready.{Ready}
 use Rattle.feast_run.specs.declared.halt.Halt.TheVariants.{Refused, Missing, NoMemory}
-use Rattle.grid_print.specs.Report.{AreNamed}
+use Rattle.report_text.specs.Report.{AreNamed}
 use Rattle.world_runs.proofs.Alone.{each, owes_nothing}
 use Rattle.world_runs.specs.OneTile.{IsAlone, events_of}
 use Rattle.element_set.specs.Sets.{Coded, SetValue}
@@ -93,7 +94,7 @@ alone_reports r text alone shown =
       grid = grid_after r (events_of r.world.plane r.world.plan);
       records = events_of r.world.plane r.world.plan;
       abandoned = [];
-      run = record { replayed = refl; accounted = owes.accounted; stamped = owes.stamped; excused = owes.excused };
+      run = record { owes = owes; replayed = refl };
       alone = λ one. (refl, refl);
       shown = shown;
     }
@@ -140,22 +141,22 @@ known_grid names atoms means (Ok g) placed brings h = h (length names) placed br
 known_grid names atoms means (Err e) placed brings h = tt
 
 -- the journal of a report has its events at live sites
-pub said_live : (w : WorldValue) (bytes : List ℕ) (j : JournalValue) → IsWorld w → journal_said (read_report w.plane w.plan.lists bytes) ≡ Ok j → All (IsLiveEvent w.plane) j.records
+pub said_live : (w : WorldValue) (bytes : List ℕ) (j : Entries) → IsWorld w → entries_said (read_report w.plane w.plan.lists bytes) ≡ Ok j → All (IsLiveEvent w.plane) j.records
 said_live w bytes j h e = on (read_report w.plane w.plan.lists bytes) refl e
   where
-    on : (r : Result Said (ℕ × LineFault)) → read_report w.plane w.plan.lists bytes ≡ r → journal_said r ≡ Ok j → All (IsLiveEvent w.plane) j.records
-    on (Ok d) is g = let same : record { records = d.journal; abandoned = d.gone } ≡ j = cc in subst (λ (v : JournalValue). All (IsLiveEvent w.plane) v.records) same (journal_live w.plane w.plan.lists h.attempts bytes d is)
+    on : (r : Result Said (ℕ × LineFault)) → read_report w.plane w.plan.lists bytes ≡ r → entries_said r ≡ Ok j → All (IsLiveEvent w.plane) j.records
+    on (Ok d) is g = let same : entries d.sites d.journal d.gone ≡ j = cc in subst (λ (v : Entries). All (IsLiveEvent w.plane) v.records) same (journal_live w.plane w.plan.lists h.attempts bytes d is)
     on (Err fault) is g = cc
 
-pub journal_events : (files : Option (List File)) (word : List ℕ) (w : WorldValue) (j : JournalValue) → IsWorld w → journal_of files word w (Ok j) → All (IsLiveEvent w.plane) j.records
+pub journal_events : (files : Option (List File)) (word : List ℕ) (w : WorldValue) (j : Entries) → IsWorld w → journal_of files word w (Ok j) → All (IsLiveEvent w.plane) j.records
 journal_events files word w j valid h = let b = went _ _ j h in said_live w b.value j valid b.rest
 
 -- a text that a stage refuses
-pub journal_halts : (word : List ℕ) (w : WorldValue) (bytes : List ℕ) (o : Option (ℕ × LineFault)) (halt : Halt) → IsFault (read_report w.plane w.plan.lists bytes) o → IsJournalHalt word o halt → Tells journal_value (journal_in word w bytes) (Err halt)
+pub journal_halts : (word : List ℕ) (w : WorldValue) (bytes : List ℕ) (o : Option (ℕ × LineFault)) (halt : Halt) → IsFault (read_report w.plane w.plan.lists bytes) o → IsJournalHalt word o halt → Tells (λ (j : Entries). j) (journal_in word w bytes) (Err halt)
 journal_halts word w bytes None (Refused s) asked is = absurd is
 journal_halts word w bytes None (Missing v) asked is = absurd is
 journal_halts word w bytes None NoMemory asked is = tt
-journal_halts word w bytes (Some fault) (Refused s) asked is = ((fault, ap journal_said asked, is.0), subst Coded (sym (ap (λ (v : RefusedValue). v.refusal.code) is.0)) is.1)
+journal_halts word w bytes (Some fault) (Refused s) asked is = ((fault, ap entries_said asked, is.0), subst Coded (sym (ap (λ (v : RefusedValue). v.refusal.code) is.0)) is.1)
 journal_halts word w bytes (Some fault) (Missing v) asked is = absurd is
 journal_halts word w bytes (Some fault) NoMemory asked is = absurd is
 

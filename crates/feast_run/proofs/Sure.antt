@@ -3,8 +3,9 @@ use Rattle.std.proofs.Common.{ℕ, ◌≡◌, List, [], ◌∷◌, ◌++◌, len
 use Rattle.list_laws.proofs.Options.{some_once}
 use Rattle.element_set.proofs.OneSet.{set_one as built_one}
 use Rattle.element_set.specs.Sets.{SetValue, check_text, code_text}
-use Rattle.event_journal.specs.Reading.{read_report}
+use Rattle.report_text.specs.Reading.{entries_said, read_report}
 use Rattle.feast_base.specs.Outside.{File}
+use Rattle.report_text.specs.Entries.{Entries}
 use Rattle.feast_run.proofs.CodeStages.{codes_in_one, codes_pass}
 use Rattle.feast_run.proofs.Loads.{files_load}
 use Rattle.feast_base.proofs.Stages.{then_sure, then_one, any_sure, gives_one, known_one, went}
@@ -20,7 +21,7 @@ use Rattle.feast_base.specs.Stages.{Stage, IsSure, IsOne}
 use Rattle.feast_run.specs.Halting.{Accepts, HaltValue, IsRefusal, RefusedValue, refused, refuses}
 use Rattle.feast_run.specs.Owing.{Reports}
 use Rattle.feast_run.specs.Promises.{IsCodeFile, IsGood, IsGoodReady, IsGoodWorld, IsSet}
-use Rattle.feast_run.specs.Stages.{JournalValue, ReadyValue, builds, draft_of, element_limit, journal_in, journal_limit, journal_of, journal_refused, journal_said, load, load_more, coded, named_by, ready, ready_by, ready_with, set_of, sourced, world_limit, world_refused}
+use Rattle.feast_run.specs.Stages.{ReadyValue, builds, draft_of, element_limit, journal_in, journal_limit, journal_of, journal_refused, load, load_more, coded, named_by, ready, ready_by, ready_with, set_of, sourced, world_limit, world_refused}
 use Rattle.feast_run.specs.Stepped.{IsSteppedRun, stepped_report}
 use Rattle.feast_run.specs.declared.halt.Input.TheVariants as input
 use Rattle.feast_run.proofs.GeneratedSource.Accepted.{accepted}
@@ -72,7 +73,7 @@ packed_one : (files : List File) (word file : List ℕ) → IsOne IsRefusal (rea
 packed_one files word file = ready_one code_elements (codes_from (Some files) file) files word (codes_one files file)
 
 journal_one : (files : List File) (word : List ℕ) (world : WorldValue) → IsOne IsRefusal (journal_of (Some files) word world)
-journal_one files word world = then_one _ _ (load_one files journal_limit word) (λ bytes. decides_one (journal_refused word) (journal_said (read_report world.plane world.plan.lists bytes)))
+journal_one files word world = then_one _ _ (load_one files journal_limit word) (λ bytes. decides_one (journal_refused word) (entries_said (read_report world.plane world.plan.lists bytes)))
 
 own_one : IsOne IsRefusal own_set
 own_one = record {
@@ -81,11 +82,11 @@ own_one = record {
 }
 
 -- each form
-rewinds_sure : (word : List ℕ) (k : ℕ) (r : ReadyValue) (j : JournalValue) → IsSure IsRefusal (rewinds word k r j)
+rewinds_sure : (word : List ℕ) (k : ℕ) (r : ReadyValue) (j : Entries) → IsSure IsRefusal (rewinds word k r j)
 rewinds_sure word k r j = sure_by (rewinds word k r j) (λ a x p q. absurd (omega (arith, p.0, q.0))) (λ x y p q. p.1 ∙ sym q.1)
 
 in_one : (word : List ℕ) (world : WorldValue) (bytes : List ℕ) → IsOne IsRefusal (journal_in word world bytes)
-in_one word world bytes = decides_one (journal_refused word) (journal_said (read_report world.plane world.plan.lists bytes))
+in_one word world bytes = decides_one (journal_refused word) (entries_said (read_report world.plane world.plan.lists bytes))
 
 pub form_sure : (files : List File) (form : FormValue) → IsSure IsRefusal (form_answer (Some files) form)
 form_sure files (check words) = then_sure _ _ (set_one files words) (λ set. (gives_one (check_text set)).sure)

@@ -2,27 +2,28 @@
 -- atoms after their first events, and replay to their own atoms.
 use Rattle.std.specs.Prelude.{ℕ, ◌≡◌, List, ◌++◌, Some, codes, Ok}
 use Rattle.cell_grid.specs.Grid.{GridValue}
-use Rattle.event_journal.specs.Reading.{read_report}
+use Rattle.report_text.specs.Reading.{entries_said, read_report}
 use Rattle.feast_base.specs.Outside.{File, file_of}
+use Rattle.report_text.specs.Entries.{Entries}
 use Rattle.feast_run.specs.Answer.{AreFirstAtoms, replay_of, rewind_of}
 use Rattle.feast_run.specs.Audited.{AuditsYes}
-use Rattle.feast_run.specs.Stages.{JournalValue, ReadyValue, journal_said}
-use Rattle.grid_print.specs.Report.{atoms_text}
+use Rattle.feast_run.specs.Stages.{ReadyValue}
+use Rattle.report_text.specs.Report.{atoms_text}
 use Rattle.world_text.specs.Named.{WorldValue}
 
 -- a text, read as a report of the world, says this journal
-abbrev pub SaysJournal : WorldValue → List ℕ → JournalValue → Type 0
-SaysJournal world text journal = journal_said (read_report world.plane world.plan.lists text) ≡ Ok journal
+abbrev pub SaysJournal : WorldValue → List ℕ → Entries → Type 0
+SaysJournal world text journal = entries_said (read_report world.plane world.plan.lists text) ≡ Ok journal
 
 -- in whatever file has this known text, a rewind of it by these elements to k events comes to the
 -- atoms that the first k events of the journal leave, if it has that many, and to no other text
-pub record RewindsTo (r : ReadyValue) (text : List ℕ) (journal : JournalValue) : Type 0 where
+pub record RewindsTo (r : ReadyValue) (text : List ℕ) (journal : Entries) : Type 0 where
   pub comes : (files : List File) (word : List ℕ) (k : ℕ) (atoms : List ℕ) → file_of word files ≡ Some text → AreFirstAtoms r journal k atoms → rewind_of (Some files) word k r (Ok atoms)
   pub only : (files : List File) (word : List ℕ) (k : ℕ) (atoms : List ℕ) → file_of word files ≡ Some text → rewind_of (Some files) word k r (Ok atoms) → AreFirstAtoms r journal k atoms
 
 -- the report of a run with this journal: it says this journal, an audit of it by these elements
 -- comes to `yes`, and a rewind of it to the atoms after the journal's first events
-pub record IsOwnReport (r : ReadyValue) (text : List ℕ) (journal : JournalValue) : Type 0 where
+pub record IsOwnReport (r : ReadyValue) (text : List ℕ) (journal : Entries) : Type 0 where
   pub says : SaysJournal r.world text journal
   pub audited : AuditsYes r text
   pub rewound : RewindsTo r text journal

@@ -6,6 +6,7 @@ use Rattle.cell_grid.specs.Records.{replay as replay_from}
 use Rattle.element_set.specs.Sets.{SetValue, check_text, code_text}
 use Rattle.event_journal.specs.Logs.{LogValue, log_of}
 use Rattle.feast_base.specs.Outside.{File}
+use Rattle.report_text.specs.Entries.{Entries}
 use Rattle.feast_run.specs.CodeFiles.{ready_packed}
 use Rattle.feast_run.specs.Forms.{FormValue, check, code, pack, run, step, replay, gen, audit, rewind, steppack, runpack}
 use Rattle.feast_run.specs.Packed.{pack_text}
@@ -14,9 +15,9 @@ use Rattle.feast_base.specs.Stages.{Stage, and_then, gives, gives_any, gives_kno
 use Rattle.feast_run.specs.Halting.{HaltValue, misses, refuses}
 use Rattle.feast_run.specs.Audited.{audit_of}
 use Rattle.feast_run.specs.Owing.{Reports}
-use Rattle.feast_run.specs.Stages.{JournalValue, ReadyValue, journal_of, ready, records_refused, set_of}
+use Rattle.feast_run.specs.Stages.{ReadyValue, journal_of, ready, records_refused, set_of}
 use Rattle.feast_run.specs.Stepped.{IsSteppedRun, stepped_report}
-use Rattle.grid_print.specs.Report.{atoms_text, report}
+use Rattle.report_text.specs.Report.{atoms_text, report}
 use Rattle.world_runs.specs.OneTile.{events_of}
 use Rattle.world_runs.specs.Start.{start_grid}
 
@@ -48,18 +49,18 @@ runs r = gives_any (Reports r)
 abbrev pub steps : ReadyValue → Stage (List ℕ) HaltValue
 steps r = gives_known (IsSteppedRun r) (stepped_report r)
 
-abbrev pub replays : ReadyValue → JournalValue → Stage (List ℕ) HaltValue
+abbrev pub replays : ReadyValue → Entries → Stage (List ℕ) HaltValue
 replays r journal = gives (atoms_after r journal.records)
 
 abbrev pub replay_of : Option (List File) → List ℕ → ReadyValue → Stage (List ℕ) HaltValue
 replay_of files journal r = and_then (journal_of files journal r.world) (replays r)
 
 -- a text is that of the atoms that the first k events of a journal leave, which has that many
-abbrev pub AreFirstAtoms : ReadyValue → JournalValue → ℕ → List ℕ → Type 0
+abbrev pub AreFirstAtoms : ReadyValue → Entries → ℕ → List ℕ → Type 0
 AreFirstAtoms r journal k text = (k ≤ length journal.records) × (text ≡ atoms_after r (take k journal.records))
 
 -- the atoms that the first k events of a journal leave, if it has that many
-abbrev pub rewinds : List ℕ → ℕ → ReadyValue → JournalValue → Stage (List ℕ) HaltValue
+abbrev pub rewinds : List ℕ → ℕ → ReadyValue → Entries → Stage (List ℕ) HaltValue
 rewinds word k r journal (Ok text) = AreFirstAtoms r journal k text
 rewinds word k r journal (Err (refuses x)) = (length journal.records < k) × (x ≡ records_refused word (length journal.records))
 rewinds word k r journal (Err (misses w)) = ⊥

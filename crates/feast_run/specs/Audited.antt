@@ -2,24 +2,25 @@
 use Rattle.std.specs.Prelude.{ℕ, ◌≡◌, List, Option, Some, Ok}
 use Rattle.feast_base.specs.Outside.{File, file_of}
 use Rattle.feast_base.specs.Stages.{Stage, and_then, gives_any}
+use Rattle.report_text.specs.Entries.{Entries}
 use Rattle.feast_run.specs.Halting.{HaltValue}
-use Rattle.feast_run.specs.Stages.{JournalValue, ReadyValue, journal_in, journal_limit, load}
-use Rattle.report_judge.specs.Judging.{Judges, JudgedWorld, judgement_text}
+use Rattle.feast_run.specs.Owing.{course_of}
+use Rattle.feast_run.specs.Stages.{ReadyValue, journal_in, journal_limit, load}
+use Rattle.report_judge.specs.Judging.{Judges, NamedCourse, judgement_text, named_course}
 use Rattle.report_judge.specs.declared.judgement.Judgement.{Judgement}
 use Rattle.report_judge.specs.declared.judgement.Judgement.TheVariants.{Yes}
-use Rattle.world_runs.specs.Start.{start_grid}
 
--- a world with its elements, as a judgement knows it
-abbrev pub judged_world : ReadyValue → JudgedWorld
-judged_world r = record { map = r.world.plane; plan = r.world.plan; meaning = r.meaning; names = r.names; start = start_grid r.world.plane r.world.atoms }
+-- the course of a world, with what its elements are called
+abbrev pub judged_course : ReadyValue → NamedCourse
+judged_course r = named_course (course_of r) r.names
 
 -- a text is the line of the judgement on the bytes of a report with this journal
-pub record Audits (r : ReadyValue) (bytes : List ℕ) (journal : JournalValue) (text : List ℕ) : Type 0 where
+pub record Audits (r : ReadyValue) (bytes : List ℕ) (journal : Entries) (text : List ℕ) : Type 0 where
   pub judgement : Judgement
-  pub judges : Judges (judged_world r) bytes journal.records journal.abandoned judgement
+  pub judges : Judges (judged_course r) bytes journal judgement
   pub shown : text ≡ judgement_text judgement
 
-abbrev pub audits : ReadyValue → List ℕ → JournalValue → Stage (List ℕ) HaltValue
+abbrev pub audits : ReadyValue → List ℕ → Entries → Stage (List ℕ) HaltValue
 audits r bytes journal = gives_any (Audits r bytes journal)
 
 -- the stages of an audit after its world and elements

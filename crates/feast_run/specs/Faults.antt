@@ -1,6 +1,6 @@
 -- Why a stage stops, by the fault of a text.
 use Rattle.std.specs.Prelude.{ℕ, ◌≡◌, List, Option, Some, None}
-use Rattle.event_journal.specs.declared.fault.LineFault.{LineFault}
+use Rattle.report_text.specs.declared.journal_fault.LineFault.{LineFault}
 use Rattle.code_file.specs.declared.fault.CodeFault.{CodeFault}
 use Rattle.code_file.specs.declared.fault.CodeFault.TheVariants.{BadMagic, BadForm, NotValid, SameName, NoMemory as no_memory}
 use Rattle.feast_run.specs.CodeFiles.{code_refused}

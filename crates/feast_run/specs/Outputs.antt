@@ -3,7 +3,7 @@ use Rattle.std.specs.Prelude.{ℕ, List}
 use Rattle.event_journal.specs.Logs.{abandoned_in, records_in}
 use Rattle.feast_run.specs.declared.output.Output.{Output}
 use Rattle.feast_run.specs.declared.output.Output.TheVariants.{Text, Report}
-use Rattle.grid_print.specs.Report.{AreNamed, report}
+use Rattle.report_text.specs.Report.{AreNamed, report}
 use Rattle.feast_run.specs.Values.{elements_value}
 
 -- the bytes of an output

@@ -2,25 +2,27 @@
 use Rattle.std.specs.Prelude.{ℕ, ◌≡◌, List, []}
 use Rattle.cell_grid.specs.declared.record.Record.{Record}
 use Rattle.cell_grid.specs.Grid.{GridValue}
-use Rattle.cell_grid.specs.Records.{replay as replay_from}
 use Rattle.event_journal.specs.declared.abandoned.Abandoned.{Abandoned}
-use Rattle.event_journal.specs.Accounts.{AreExcused, IsAccounted, IsStamped}
-use Rattle.feast_run.specs.Stages.{JournalValue, ReadyValue}
-use Rattle.grid_print.specs.Report.{report}
-use Rattle.world_runs.specs.OneTile.{events_of}
+use Rattle.event_journal.specs.Serial.{Course, IsSerial}
+use Rattle.report_text.specs.Entries.{Entries}
+use Rattle.feast_run.specs.Stages.{ReadyValue}
+use Rattle.report_text.specs.Again.{entries_in}
+use Rattle.report_text.specs.Report.{report, report_value}
 use Rattle.tile_map.specs.Plane.{tiles_of}
-use Rattle.world_runs.specs.Start.{start_grid}
+use Rattle.world_runs.specs.Fresh.{world_course}
+use Rattle.world_runs.specs.OneTile.{events_of}
 
--- What a run left, and what holds of it: its grid is what the events of its journal make, one at a
--- time in the journal's order, on one uncut grid that begins with the world's atoms, by what the
--- elements mean; each attempt of each tile is one event or one abandoned attempt; each stamp is 1
--- more than the greatest of the linked events before it; and each abandoned attempt is excused by
--- the attempt that it names
-pub record IsRun (r : ReadyValue) (grid : GridValue) (records : List Record) (abandoned : List Abandoned) : Type 0 where
-  pub replayed : grid ≡ replay_from r.meaning (start_grid r.world.plane r.world.atoms) records
-  pub accounted : IsAccounted r.world.plane r.world.plan records abandoned
-  pub stamped : IsStamped r.world.plane records
-  pub excused : AreExcused r.world.plane r.world.plan records abandoned
+-- the course of a world, by what its elements mean
+abbrev pub course_of : ReadyValue → Course
+course_of r = world_course r.world r.meaning
+
+-- What a run left, and what holds of it: its events stand in one serial order. Its grid is what the
+-- events of its journal make, one at a time in the journal's order, on one uncut grid that begins
+-- with the world's atoms, by what the elements mean; each attempt of each tile is one event or one
+-- abandoned attempt; each stamp is 1 more than the greatest of the linked events before it; and
+-- each abandoned attempt is excused by the attempt that it names
+abbrev pub IsRun : ReadyValue → GridValue → List Record → List Abandoned → Type 0
+IsRun r grid records abandoned = IsSerial (course_of r) grid records abandoned
 
 -- a text is the report of what a run left
 pub record Reports (r : ReadyValue) (text : List ℕ) : Type 0 where
@@ -33,5 +35,5 @@ pub record Reports (r : ReadyValue) (text : List ℕ) : Type 0 where
   pub shown : text ≡ report r.names grid records abandoned
 
 -- the events and the abandoned attempts of the run that it is the report of
-abbrev pub reported : {r : ReadyValue} {text : List ℕ} → Reports r text → JournalValue
-reported run = record { records = run.records; abandoned = run.abandoned }
+abbrev pub reported : {r : ReadyValue} {text : List ℕ} → Reports r text → Entries
+reported run = entries_in (report_value run.grid run.records run.abandoned)

@@ -3,10 +3,11 @@ use Rattle.std.specs.Prelude.{ℕ, ◌≡◌, ◌≢◌, ◌≤◌, length, take
 use Rattle.code_file.specs.Form.{CodesValue, IsFile}
 use Rattle.code_file.specs.Right.{AreRight}
 use Rattle.element_set.specs.Sets.{SetValue, AcceptsFiles, check_text, code_text, element_names}
-use Rattle.event_journal.specs.Reading.{read_report}
+use Rattle.report_text.specs.Reading.{entries_said, read_report}
 use Rattle.feast_base.specs.Held.{ShelfHeld, SinkHeld, mem_shelf_state, mem_sink_state, room_left}
 use Rattle.feast_base.specs.Outside.{File, Grows, ShelfState, SinkState, file_of}
 use Rattle.feast_base.specs.Refusals.{refusal_line, unreadable_line, usage_line}
+use Rattle.report_text.specs.Entries.{Entries}
 use Rattle.feast_run.specs.Again.{IsOwnReport, ReplaysTo}
 use Rattle.feast_run.specs.Answer.{AreFirstAtoms, atoms_after, form_answer}
 use Rattle.feast_run.specs.Audited.{Audits}
@@ -20,7 +21,7 @@ use Rattle.feast_run.specs.Owing.{Reports, reported}
 use Rattle.feast_run.specs.Stepped.{IsSteppedRun, machine_of, stepped_journal, stepped_report}
 use Rattle.feast_run.specs.CodeFiles.{code_limit}
 use Rattle.feast_run.specs.Elements.{ElementsValue, code_elements, source_elements}
-use Rattle.feast_run.specs.Stages.{JournalValue, coded, ready_with, sourced, draft_of, element_limit, journal_limit, journal_of, journal_said, world_limit}
+use Rattle.feast_run.specs.Stages.{coded, ready_with, sourced, draft_of, element_limit, journal_limit, journal_of, world_limit}
 use Rattle.feast_run.specs.declared.status.Status.{Status}
 use Rattle.feast_run.specs.declared.status.Status.TheVariants as how
 use Rattle.feast_run.specs.GeneratedElements.{source_files}
@@ -100,10 +101,10 @@ pub record GenTold (number : ℕ) (appended : List ℕ) : Type 0 where
   pub shown : appended ≡ stepped_summary number (generated_ready number set)
 
 -- a report that is known, and the journal that it says, of a world that is known
-pub record ReportTold (files : List File) (report_word : List ℕ) (world : WorldValue) (bytes : List ℕ) (journal : JournalValue) : Type 0 where
+pub record ReportTold (files : List File) (report_word : List ℕ) (world : WorldValue) (bytes : List ℕ) (journal : Entries) : Type 0 where
   pub file : file_of report_word files ≡ Some bytes
   pub within : length bytes ≤ journal_limit
-  pub reads : journal_said (read_report world.plane world.plan.lists bytes) ≡ Ok journal
+  pub reads : entries_said (read_report world.plane world.plan.lists bytes) ≡ Ok journal
 
 -- the file words of a form that loads a report: those of the world, of the report, and of the
 -- element files
@@ -122,7 +123,7 @@ pub record KnownReport (files : List File) (words : ReportWords) : Type 0 where
   pub is_set : IsSet files words.elements set
   pub told_world : WorldTold files words.world (element_names set) world
   pub bytes : List ℕ
-  pub journal : JournalValue
+  pub journal : Entries
   pub told_report : ReportTold files words.report world bytes journal
 
 -- a replay whose files are known: the bytes appended are the atoms that the events of the journal
@@ -285,7 +286,7 @@ pub record IsGoodReady {X : Type 0} (elements : X → ElementsValue) (IsTold : X
 -- a world with the elements of a set, and a report of it, of which nothing is refused
 pub record HasGoodReport (files : List File) (words : ReportWords) : Type 0 where
   pub world : WorldValue
-  pub journal : JournalValue
+  pub journal : Entries
   pub ready : IsGoodReady source_elements (IsSet files words.elements) files words.world world
   pub has_journal : journal_of (Some files) words.report world (Ok journal)
 

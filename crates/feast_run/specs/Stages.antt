@@ -4,11 +4,12 @@ use Rattle.cell_grid.specs.declared.record.Record.{Record}
 use Rattle.code_file.specs.Form.{CodesValue}
 use Rattle.element_set.specs.Sets.{SetValue, AcceptsFiles, RefusesFiles}
 use Rattle.event_journal.specs.declared.abandoned.Abandoned.{Abandoned}
-use Rattle.event_journal.specs.declared.fault.LineFault.{LineFault}
-use Rattle.event_journal.specs.declared.fault.LineFault.TheVariants.{BadForm, OutOfTurn, ElsewhereThanTile, OtherThanAttempt}
-use Rattle.event_journal.specs.Reading.{Said, read_report}
+use Rattle.report_text.specs.declared.journal_fault.LineFault.{LineFault}
+use Rattle.report_text.specs.declared.journal_fault.LineFault.TheVariants.{BadForm, OutOfTurn, ElsewhereThanTile, OtherThanAttempt}
+use Rattle.report_text.specs.Reading.{entries_said, read_report}
 use Rattle.feast_base.specs.Outside.{File, TellsBytes, TellsLonger, file_bytes}
 use Rattle.feast_base.specs.declared.place.Refusal.{Refusal}
+use Rattle.report_text.specs.Entries.{Entries}
 use Rattle.feast_run.specs.Elements.{ElementsValue, source_elements, code_elements}
 use Rattle.feast_base.specs.Stages.{Stage, and_then, gives}
 use Rattle.feast_run.specs.Halting.{HaltValue, RefusedValue, decides, misses, refused, refuses}
@@ -126,24 +127,14 @@ ready_by value S files word = and_then (draft_of files word) (with_elements valu
 abbrev pub ready : Option (List File) → List ℕ → List (List ℕ) → Stage ReadyValue HaltValue
 ready files word words = ready_by source_elements (set_of files words) files word
 
--- the events and the abandoned attempts of a report
-pub record JournalValue : Type 0 where
-  pub records : List Record
-  pub abandoned : List Abandoned
-
--- what the text of a report says of them
-abbrev pub journal_said : {F : Type 0} → Result Said F → Result JournalValue F
-journal_said (Ok d) = Ok (record { records = d.journal; abandoned = d.gone })
-journal_said (Err fault) = Err fault
-
 -- the journal of a world in the bytes of a report
-abbrev pub journal_in : List ℕ → WorldValue → List ℕ → Stage JournalValue HaltValue
-journal_in word world bytes = decides (journal_refused word) (journal_said (read_report world.plane world.plan.lists bytes))
+abbrev pub journal_in : List ℕ → WorldValue → List ℕ → Stage Entries HaltValue
+journal_in word world bytes = decides (journal_refused word) (entries_said (read_report world.plane world.plan.lists bytes))
 
 -- the refusal of a report that has too few events, by how many it has
 abbrev pub records_refused : List ℕ → ℕ → RefusedValue
 records_refused word count = refused input.Journal word (whole_file 84 count)
 
 -- the journal of a world in the text of a report
-abbrev pub journal_of : Option (List File) → List ℕ → WorldValue → Stage JournalValue HaltValue
+abbrev pub journal_of : Option (List File) → List ℕ → WorldValue → Stage Entries HaltValue
 journal_of files word world = and_then (load files journal_limit word) (journal_in word world)

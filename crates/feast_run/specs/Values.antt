@@ -1,9 +1,8 @@
 -- The code's structs as values.
 use Rattle.std.specs.Prelude.{◌≡◌, length}
 use Rattle.element_set.specs.Sets.{set_value}
-use Rattle.event_journal.specs.declared.reader.ReadJournal.{ReadJournal}
 use Rattle.feast_run.specs.Elements.{ElementsValue, code_elements, source_elements}
-use Rattle.feast_run.specs.Stages.{JournalValue, ReadyValue, ready_with}
+use Rattle.feast_run.specs.Stages.{ReadyValue, ready_with}
 use Rattle.feast_run.specs.declared.elements.Elements.{Elements}
 use Rattle.feast_run.specs.declared.elements.Elements.TheVariants.{Sources, Codes}
 use Rattle.feast_run.specs.declared.worlds.Ready.{Ready}
@@ -17,9 +16,6 @@ elements_value (Codes set) = code_elements set
 
 abbrev pub ready_value : Ready → ReadyValue
 ready_value r = ready_with (world_value r.world) (elements_value r.elements)
-
-abbrev pub journal_value : ReadJournal → JournalValue
-journal_value j = record { records = j.records.items; abandoned = j.abandoned.items }
 
 -- the atoms of the world are of its elements, these bring no others, and the map is the world's
 pub record IsReady (r : Ready) : Type 0 where

@@ -5,16 +5,16 @@ ghost use Rattle.feast_run.specs.Forms.{audit, most_files, texts};
 ghost use Rattle.feast_run.specs.Outputs.{IsWritable, output_text};
 ghost use Rattle.feast_run.specs.Replies.{TellsForm};
 ghost use Rattle.feast_run.specs.Tellings.{Moves, Tells};
-ghost use Rattle.feast_run.specs.Values.{IsReady, journal_value, ready_value};
+ghost use Rattle.feast_run.specs.Values.{IsReady, ready_value};
 
 use crate::halt::Halt;
 use crate::journals::read_loaded;
 use crate::loading::{JOURNAL_LIMIT, load_file};
 use crate::output::Output;
 use crate::worlds::{Ready, make_ready};
-use event_journal::ReadJournal;
 use feast_base::{NoMemory, Shelf};
 use report_judge::{judge, judgement_line};
+use report_text::ReadJournal;
 use std::alloc::Global;
 use world_runs::start;
 
@@ -26,14 +26,14 @@ fn audit_line(
     journal: &ReadJournal,
 ) -> Result<Vec<u8>, NoMemory>
     requires { IsReady ready.now }
-    ensures { IfOk result (λ v. Audits (ready_value ready.now) bytes.now (journal_value journal.now) v.items) }
+    ensures { IfOk result (λ v. Audits (ready_value ready.now) bytes.now journal.now v.items) }
 {
     let grid = start(alloc, &ready.map, &ready.world)?;
     let mut actor = ready.elements.actor(alloc)?;
     let names = ready.elements.names();
     let map = &ready.map;
     let plan = &ready.world.plan;
-    let judgement = judge(alloc, map, plan, names, &grid, bytes, journal, &mut actor)?;
+    let judgement = judge(alloc, map, plan, names, grid, bytes, journal, &mut actor)?;
     judgement_line(alloc, judgement)
 }
 

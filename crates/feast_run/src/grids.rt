@@ -2,7 +2,7 @@
 ghost use Rattle.std.specs.Prelude.{◌≡◌, All, IfOk};
 ghost use Rattle.feast_run.specs.Answer.{grid_after};
 ghost use Rattle.feast_run.specs.Values.{IsReady, elements_value, ready_value};
-ghost use Rattle.grid_print.specs.Report.{AreNamed};
+ghost use Rattle.report_text.specs.Report.{AreNamed};
 ghost use Rattle.world_runs.specs.Worlds.{IsLiveEvent};
 ghost use Rattle.world_text.specs.Values.{world_value};
 

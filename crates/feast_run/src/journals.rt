@@ -1,12 +1,12 @@
 //! The stage of a journal.
 ghost use Rattle.std.specs.Prelude.{◌≡◌, ◌<◌, ◌^◌, length};
-ghost use Rattle.event_journal.specs.Reading.{fault_of};
-ghost use Rattle.event_journal.specs.Cursors.{ReadsJournal};
+ghost use Rattle.report_text.specs.Reading.{fault_of};
+ghost use Rattle.report_text.specs.Cursors.{ReadsJournal};
+ghost use Rattle.report_text.specs.Entries.{Entries};
 ghost use Rattle.feast_run.specs.Faults.{IsJournalHalt, IsHalt};
 ghost use Rattle.feast_run.specs.Halting.{refused};
 ghost use Rattle.feast_run.specs.Stages.{journal_in, journal_of};
 ghost use Rattle.feast_run.specs.Tellings.{Moves, Tells};
-ghost use Rattle.feast_run.specs.Values.{journal_value};
 ghost use Rattle.feast_run.specs.declared.halt.Input.TheVariants as input;
 ghost use Rattle.element_set.specs.Sets.{Coded};
 ghost use Rattle.world_runs.specs.Worlds.{IsWorld};
@@ -14,8 +14,8 @@ ghost use Rattle.world_text.specs.Values.{world_value};
 
 use crate::halt::{Halt, Input, Refused};
 use crate::loading::{JOURNAL_LIMIT, at_line, load_file};
-use event_journal::{JournalFault, ReadJournal, read};
 use feast_base::{Refusal, Shelf};
+use report_text::{JournalFault, ReadJournal, read};
 use std::alloc::Global;
 use tile_map::Map;
 use world_text::World;
@@ -72,7 +72,7 @@ pub fn read_loaded<'a>(
     requires world { IsWorld (world_value world.now) }
     requires map { map.now ≡ (world_value world.now).plane }
     requires short { length bytes.now < 2 ^ 63 }
-    ensures { Tells journal_value (journal_in word.now (world_value world.now) bytes.now) result }
+    ensures { Tells (λ (j : Entries). j) (journal_in word.now (world_value world.now) bytes.now) result }
 {
     match read_journal(alloc, bytes, map, world) {
         Ok(journal) => Ok(journal),
@@ -92,7 +92,7 @@ pub fn load_journal<'a, F: Shelf>(
     requires map { map.now ≡ (world_value world.now).plane }
     ensures files { (F.state shelf.new).files ≡ (F.state shelf.old).files }
     ensures moves { Moves (F.state shelf.old) (F.state shelf.new) result }
-    ensures tells { Tells journal_value (journal_of (F.state shelf.old).files word.now (world_value world.now)) result }
+    ensures tells { Tells (λ (j : Entries). j) (journal_of (F.state shelf.old).files word.now (world_value world.now)) result }
 {
     let bytes = load_file(alloc, shelf, word, JOURNAL_LIMIT)?;
     read_loaded(alloc, word, bytes.as_slice(), map, world)

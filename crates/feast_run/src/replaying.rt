@@ -16,7 +16,7 @@ use crate::output::Output;
 use crate::worlds::{Ready, make_ready};
 use cell_grid::Record;
 use feast_base::{NoMemory, Shelf};
-use grid_print::grid_text;
+use report_text::grid_text;
 use std::alloc::Global;
 
 /// The text of the atoms that the events of a journal leave of a world.
@@ -43,7 +43,7 @@ fn replay_rest<'a, F: Shelf>(
     ensures writable { IfOk result IsWritable }
 {
     let journal = load_journal(alloc, shelf, word, &ready.map, &ready.world)?;
-    let text = replay_text(alloc, &ready, journal.records.as_slice())?;
+    let text = replay_text(alloc, &ready, journal.records())?;
     Ok(Output::Text(text))
 }
 

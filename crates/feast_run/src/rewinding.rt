@@ -7,7 +7,7 @@ ghost use Rattle.feast_run.specs.Outputs.{IsWritable, output_text};
 ghost use Rattle.feast_run.specs.Replies.{TellsForm};
 ghost use Rattle.feast_run.specs.Stages.{records_refused};
 ghost use Rattle.feast_run.specs.Tellings.{Moves, Tells};
-ghost use Rattle.feast_run.specs.Values.{IsReady, journal_value, ready_value};
+ghost use Rattle.feast_run.specs.Values.{IsReady, ready_value};
 ghost use Rattle.world_runs.specs.Worlds.{IsLiveEvent};
 ghost use Rattle.world_text.specs.Values.{world_value};
 
@@ -17,10 +17,9 @@ use crate::loading::whole_file;
 use crate::output::Output;
 use crate::worlds::{Ready, make_ready};
 use cell_grid::Record;
-use event_journal::ReadJournal;
+use event_film::rewound;
 use feast_base::{NoMemory, Shelf};
-use grid_print::grid_text;
-use report_judge::rewound;
+use report_text::{ReadJournal, grid_text};
 use std::alloc::Global;
 use world_runs::start;
 
@@ -47,15 +46,15 @@ fn rewind_text(
 
 /// The halt at a journal with too few events.
 fn too_few<'a>(word: &'a str, journal: &ReadJournal) -> Halt<'a>
-    ensures { IsHalt (records_refused word.now (length journal.now.records.items)) result }
+    ensures { IsHalt (records_refused word.now (length journal.now.records)) result }
 {
-    refused(word, whole_file(TOO_FEW, journal.records.len() as u64))
+    refused(word, whole_file(TOO_FEW, journal.records().len() as u64))
 }
 
 /// The halt at a journal that has fewer events than are to remain.
 fn few<'a>(word: &'a str, left: u32, ready: &Ready, journal: &ReadJournal) -> Halt<'a>
-    requires { length journal.now.records.items < left }
-    ensures { Tells output_text (rewinds word.now left (ready_value ready.now) (journal_value journal.now)) (Err result) }
+    requires { length journal.now.records < left }
+    ensures { Tells output_text (rewinds word.now left (ready_value ready.now) journal.now) (Err result) }
 {
     too_few(word, journal)
 }
@@ -69,12 +68,12 @@ fn rewind_kept<'a>(
     journal: &ReadJournal,
 ) -> Result<Output, Halt<'a>>
     requires ready { IsReady ready.now }
-    requires live { All (IsLiveEvent (world_value ready.now.world).plane) journal.now.records.items }
-    requires enough { left ≤ length journal.now.records.items }
-    ensures tells { Tells output_text (rewinds word.now left (ready_value ready.now) (journal_value journal.now)) result }
+    requires live { All (IsLiveEvent (world_value ready.now.world).plane) journal.now.records }
+    requires enough { left ≤ length journal.now.records }
+    ensures tells { Tells output_text (rewinds word.now left (ready_value ready.now) journal.now) result }
     ensures writable { IfOk result IsWritable }
 {
-    let text = rewind_text(alloc, ready, journal.records.as_slice(), left as usize)?;
+    let text = rewind_text(alloc, ready, journal.records(), left as usize)?;
     Ok(Output::Text(text))
 }
 
@@ -87,11 +86,11 @@ fn rewind_loaded<'a>(
     journal: &ReadJournal,
 ) -> Result<Output, Halt<'a>>
     requires ready { IsReady ready.now }
-    requires live { All (IsLiveEvent (world_value ready.now.world).plane) journal.now.records.items }
-    ensures tells { Tells output_text (rewinds word.now left (ready_value ready.now) (journal_value journal.now)) result }
+    requires live { All (IsLiveEvent (world_value ready.now.world).plane) journal.now.records }
+    ensures tells { Tells output_text (rewinds word.now left (ready_value ready.now) journal.now) result }
     ensures writable { IfOk result IsWritable }
 {
-    if journal.records.len() < left as usize {
+    if journal.records().len() < left as usize {
         Err(few(word, left, ready, journal))
     } else {
         rewind_kept(alloc, word, left, ready, journal)

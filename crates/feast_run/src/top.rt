@@ -7,13 +7,13 @@ ghost use Rattle.feast_run.specs.Naming.{Names};
 ghost use Rattle.feast_run.specs.Outputs.{IsWritable, output_text};
 ghost use Rattle.feast_run.specs.Promises.{Complete, Exactly, Headline, Noted, UsageExactly};
 ghost use Rattle.feast_run.specs.Replies.{PutWith};
-ghost use Rattle.grid_print.specs.Writing.{Writes};
+ghost use Rattle.report_text.specs.Writing.{Writes};
 
 use crate::Status;
 use crate::output::Output;
 use crate::reply::{Reply, reply_to_words};
 use feast_base::{Gate, NoMemory, Shelf, Sink, SinkFailed};
-use grid_print::{WriteFault, write_report};
+use report_text::{WriteFault, write_report};
 use std::alloc::Global;
 use std::thread::Threads;
 

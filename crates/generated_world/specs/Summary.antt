@@ -4,7 +4,7 @@ use Rattle.bit_field.specs.Atom.{AtomValue}
 use Rattle.cell_grid.specs.Grid.{GridValue}
 use Rattle.cell_grid.specs.declared.record.Record.{Record}
 use Rattle.event_journal.specs.Logs.{LogValue, records_in, abandoned_in}
-use Rattle.event_journal.specs.Text.{count_fields}
+use Rattle.report_text.specs.JournalText.{count_fields}
 use Rattle.event_journal.specs.declared.abandoned.Abandoned.{Abandoned}
 use Rattle.text_lines.specs.Lines.{text_of}
 

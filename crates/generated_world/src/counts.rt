@@ -3,8 +3,9 @@ ghost use Rattle.std.specs.Prelude.{◌≡◌, IfOk};
 ghost use Rattle.generated_world.specs.Summary.{count_kind, summary_of_logs};
 
 use cell_grid::Grid;
-use event_journal::{Journal, count_fields};
+use event_journal::Journal;
 use feast_base::NoMemory;
+use report_text::count_fields;
 use std::alloc::Global;
 use text_lines::push_line;
 

@@ -5,12 +5,12 @@ use Rattle.std.specs.List.{list_any, range_with_len}
 use Rattle.std.proofs.lemmas.List.{append-nil, drop_all, take_all, get_or-replicate, get_or-set_other, get_or-set_same, length-replicate, length-set}
 use Rattle.std.proofs.lemmas.List.Folds.{list_any_more}
 use Rattle.std.proofs.lemmas.Bool.Decides.{nat_tests}
-use Rattle.serial_order.proofs.Stamping.{top}
 use Rattle.list_laws.proofs.Members.{In, filter_in, range_in, in_all}
 use Rattle.cell_grid.specs.declared.record.Record.{Record}
 use Rattle.tile_map.specs.Plane.{MapValue, Site, tiles_of}
 use Rattle.tile_map.specs.Edges.{is_needed, needs_of, pairs_of}
 use Rattle.event_journal.specs.Accounts.{edges_of, stamp_after}
+use Rattle.event_journal.proofs.Journals.{top}
 use Rattle.journal_check.specs.Clocks.{AreClocks, Ticks, clocks_of, latest, needs_edge, set_at}
 
 max_more : (a b c : ℕ) → max (max a b) c ≡ max a (max (max 0 b) c)

@@ -1,5 +1,4 @@
 pub mod Accounting
-pub mod Copies
 pub mod Excusing
 pub mod Latest
 pub mod Lists
@@ -10,4 +9,3 @@ pub mod OwnEntries
 pub mod Passing
 pub mod Splits
 pub mod TileEntries
-pub mod Undoing

@@ -2,7 +2,6 @@ pub mod ByTile
 pub mod Clocks
 pub mod Entries
 pub mod Excuses
-pub mod Films
 pub mod Marks
 pub mod Passing
 pub mod Verdicts

@@ -1,18 +1,18 @@
 //! The audit of a report.
 ghost use Rattle.std.specs.Prelude.{◌≡◌, IfOk};
-ghost use Rattle.serial_order.specs.Outcomes.{IsPlaneGrid};
+ghost use Rattle.event_journal.specs.Serial.{course};
+ghost use Rattle.plane_grid.specs.PlaneGrids.{IsPlaneGrid};
 ghost use Rattle.journal_check.specs.Entries.{IsPlanOf};
-ghost use Rattle.journal_check.specs.Verdicts.{IsVerdict, audited_world};
+ghost use Rattle.journal_check.specs.Verdicts.{IsVerdict};
 
 use crate::accounted::is_accounted;
-use crate::copying::copied;
 use crate::excused::unexcused;
 use crate::stamped::misstamped;
 use crate::verdict::Verdict;
 use cell_grid::{Behave, Grid};
 use draw_stream::AttemptPlan;
-use event_journal::ReadJournal;
 use feast_base::NoMemory;
+use report_text::ReadJournal;
 use std::alloc::Global;
 use tile_map::Map;
 
@@ -23,24 +23,24 @@ use tile_map::Map;
 /// not hold, with the position of its first event or abandoned attempt. The plan is one of the map,
 /// and the start is a grid of its plane. For n entries the time is at most of the order n log n.
 /// `NoMemory` if there is none for the events of each tile, the attempts of one, the clocks, the
-/// events of each edge or the grid.
+/// events of each edge.
 pub fn audit<B: Behave>(
     alloc: Global,
     map: &Map,
     plan: &AttemptPlan,
-    start: &Grid,
+    start: Grid,
     journal: &ReadJournal,
     behave: &mut B,
 ) -> Result<Verdict, NoMemory>
     requires plan { IsPlanOf map.now plan.now }
-    requires start { IsPlaneGrid map.now start.now }
-    ensures verdict { IfOk result (IsVerdict (audited_world map.now plan.now (B.after behave.old) start.now)
-        journal.now.records.items journal.now.abandoned.items) }
+    requires start { IsPlaneGrid map.now start }
+    ensures verdict { IfOk result (IsVerdict (course map.now plan.now (B.after behave.old) start)
+        journal.now.records journal.now.abandoned) }
     ensures meaning { B.after behave.new ≡ B.after behave.old }
 {
     map.laws();
-    let records = journal.records.as_slice();
-    let abandoned = journal.abandoned.as_slice();
+    let records = journal.records();
+    let abandoned = journal.abandoned();
     if !is_accounted(alloc, map, plan, records, abandoned)? {
         return Ok(Verdict::NotAccounted);
     }
@@ -50,7 +50,7 @@ pub fn audit<B: Behave>(
     if let Some(k) = unexcused(alloc, map, records, abandoned)? {
         return Ok(Verdict::NotExcused(k));
     }
-    let mut grid = copied(alloc, map, start)?;
+    let mut grid = start;
     grid.replay(records, behave);
     Ok(Verdict::Yes(grid))
 }

@@ -1,45 +1,21 @@
 //! The judgement on a report.
 ghost use Rattle.std.specs.Prelude.{◌≡◌, ◌<◌, ◌≤◌, ◌^◌, ◌↔◌, IfOk, IsTrue, length};
 ghost use Rattle.cell_grid.specs.Records.{replay};
-ghost use Rattle.grid_print.specs.Report.{AreNamed, report};
-ghost use Rattle.serial_order.specs.Outcomes.{IsPlaneGrid};
+ghost use Rattle.event_journal.specs.Serial.{course};
+ghost use Rattle.report_text.specs.Report.{AreNamed, report};
+ghost use Rattle.plane_grid.specs.PlaneGrids.{IsPlaneGrid};
 ghost use Rattle.journal_check.specs.Entries.{IsPlanOf};
-ghost use Rattle.report_judge.specs.Judging.{Judges, abandoned_line, event_line, judged_world, line_count};
+ghost use Rattle.report_judge.specs.Judging.{Judges, named_course};
 
 use crate::judgement::Judgement;
 use cell_grid::{Behave, Grid, Record};
 use draw_stream::AttemptPlan;
-use event_journal::{Abandoned, ReadJournal};
+use event_journal::Abandoned;
 use feast_base::{Name, NoMemory};
-use grid_print::report_text;
 use journal_check::{Verdict, audit};
+use report_text::{ReadJournal, printed_report};
 use std::alloc::Global;
 use tile_map::Map;
-
-/// How many lines a text has.
-fn line_count(bytes: &[u8]) -> u64
-    ensures value { result ≡ line_count bytes.now }
-    ensures bound { result < 2 ^ 63 }
-{
-    bytes.iter().filter(|b| **b == b'\n').count() as u64
-}
-
-/// The line of an event of a report.
-fn event_line(bytes: &[u8], journal: &ReadJournal, k: u64) -> u64
-    requires { k < length journal.now.records.items }
-    ensures { result ≡ event_line bytes.now journal.now.records.items journal.now.abandoned.items k }
-{
-    let entries = journal.records.len() as u64 + journal.abandoned.len() as u64;
-    line_count(bytes).saturating_sub(entries) + k
-}
-
-/// The line of an abandoned attempt of a report.
-fn abandoned_line(bytes: &[u8], journal: &ReadJournal, k: u64) -> u64
-    requires { k < length journal.now.abandoned.items }
-    ensures { result ≡ abandoned_line bytes.now journal.now.abandoned.items k }
-{
-    line_count(bytes).saturating_sub(journal.abandoned.len() as u64) + (k + 1)
-}
 
 /// Whether two texts are the same.
 fn are_same(first: &[u8], second: &[u8]) -> bool
@@ -60,7 +36,7 @@ fn is_report(
     requires { AreNamed names.now grid.now.atoms }
     ensures { IfOk result (λ b. IsTrue b ↔ (bytes.now ≡ report names.now grid.now records.now abandoned.now)) }
 {
-    let text = report_text(alloc, grid, names, records, abandoned)?;
+    let text = printed_report(alloc, grid, names, records, abandoned)?;
     Ok(are_same(bytes, text.as_slice()))
 }
 
@@ -75,24 +51,24 @@ pub fn judge<B: Behave>(
     map: &Map,
     plan: &AttemptPlan,
     names: &[Name],
-    start: &Grid,
+    start: Grid,
     bytes: &[u8],
     journal: &ReadJournal,
     behave: &mut B,
 ) -> Result<Judgement, NoMemory>
     requires plan { IsPlanOf map.now plan.now }
-    requires start { IsPlaneGrid map.now start.now }
-    requires named { AreNamed names.now (replay (B.after behave.old) start.now journal.now.records.items).atoms }
-    ensures { IfOk result (Judges (judged_world map.now plan.now (B.after behave.old) names.now start.now) bytes.now
-        journal.now.records.items journal.now.abandoned.items) }
+    requires start { IsPlaneGrid map.now start }
+    requires named { AreNamed names.now (replay (B.after behave.old) start journal.now.records).atoms }
+    ensures { IfOk result (Judges (named_course (course map.now plan.now (B.after behave.old) start) names.now) bytes.now
+        journal.now) }
 {
     match audit(alloc, map, plan, start, journal, behave)? {
         Verdict::NotAccounted => Ok(Judgement::NoAccounted),
-        Verdict::NotStamped(k) => Ok(Judgement::NoStamped(event_line(bytes, journal, k))),
-        Verdict::NotExcused(k) => Ok(Judgement::NoExcused(abandoned_line(bytes, journal, k))),
+        Verdict::NotStamped(k) => Ok(Judgement::NoStamped(journal.event_line(k))),
+        Verdict::NotExcused(k) => Ok(Judgement::NoExcused(journal.abandoned_line(k))),
         Verdict::Yes(grid) => {
-            let records = journal.records.as_slice();
-            let abandoned = journal.abandoned.as_slice();
+            let records = journal.records();
+            let abandoned = journal.abandoned();
             if is_report(alloc, bytes, names, &grid, records, abandoned)? {
                 Ok(Judgement::Yes)
             } else {

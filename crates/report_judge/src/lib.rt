@@ -1,10 +1,8 @@
-//! Judging a report in one line, and the grid that the first events of a journal leave.
+//! Judging a report in one line.
 #![tactic(auto)]
 
 mod judgement;
 mod judging;
-mod rewinding;
 
 pub use judgement::{Judgement, judgement_line};
 pub use judging::judge;
-pub use rewinding::rewound;

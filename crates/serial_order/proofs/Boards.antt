@@ -11,6 +11,7 @@ use Rattle.tile_map.specs.Edges.{pairs_of}
 use Rattle.draw_stream.specs.declared.attempt.Attempt.{Attempt}
 use Rattle.draw_stream.specs.Plans.{attempts}
 use Rattle.edge_lock.specs.History.{site_count, found_value, IsEdgeHistory}
+use Rattle.event_journal.specs.Serial.{Course}
 use Rattle.edge_lock.specs.EndLists.{EndLists, end_lists, hold_of, writes_nothing}
 use Rattle.edge_lock.specs.PlainEdges.{IsKept, view_of}
 use Rattle.edge_lock.specs.PlainBoard.{PlainBoardValue, no_edge, edge_at, end_of, lists_of_tile}
@@ -22,7 +23,7 @@ use Rattle.tile_core.specs.Turns.{common, Turn, Worn as WornTurn, Wins, Loses, W
 use Rattle.tile_core.specs.Underway.{tile_at, IsUnderway, InPhase, IsDrawn, is_refreshed}
 use Rattle.tile_core.specs.Boards.{IsBoardOf}
 use Rattle.tile_core.proofs.Boards.{end_known, edge_end}
-use Rattle.serial_order.specs.Scene.{EdgeHistory, no_history, history_at, end_lists_of, lists_at, HasEnded, IsStopped, Setting, IsOver}
+use Rattle.serial_order.specs.Scene.{EdgeHistory, no_history, history_at, end_lists_of, lists_at, HasEnded, IsStopped, IsOver}
 use Rattle.serial_order.specs.Words.{plain_words, AreEdgeWords, plain_history, histories_on}
 use Rattle.serial_order.specs.Boards.{HasStopped, HaveStopped}
 use Rattle.serial_order.specs.Outcomes.{scene_of}
@@ -152,8 +153,8 @@ pub ended : (m : MapValue) (board : PlainBoardValue) → IsBoardOf m board → (
 ended m board k meaning start given t tile number u stopped =
     has_ended m meaning start given tile (lists_of_tile board tile.number) (lists_at m (histories_on board) t) u (subst (λ n. AgreeOnEdges m tile.number (lists_at m (histories_on board) n) (lists_of_tile board tile.number)) number (lists_same m board k tile.number u.can.inside)) stopped
 
-pub over : (m : MapValue) (g : Setting) (tiles : List TileValue) (board : PlainBoardValue) → HaveStopped m g tiles board → IsOver (scene_of m tiles (histories_on board) g)
-over m g tiles board h = record {
+pub over : (c : Course) (tiles : List TileValue) (board : PlainBoardValue) → HaveStopped c tiles board → IsOver (scene_of c tiles (histories_on board))
+over c tiles board h = record {
   valid = h.valid;
   grid = h.grid;
   fits = h.fits;
@@ -161,7 +162,7 @@ over m g tiles board h = record {
   lists = h.lists;
   count = h.count;
   numbers = h.numbers;
-  ended = λ t tile is. ended m board h.edges g.meaning (atoms_of g.start) (attempts g.plan t) t tile (h.numbers t tile is) (h.underway t tile is) (h.stopped t tile is);
-  known = known m board h.edges;
-  histories = (words m board h.edges).histories;
+  ended = λ t tile is. ended c.map board h.edges c.meaning (atoms_of c.start) (attempts c.plan t) t tile (h.numbers t tile is) (h.underway t tile is) (h.stopped t tile is);
+  known = known c.map board h.edges;
+  histories = (words c.map board h.edges).histories;
 }

@@ -10,10 +10,11 @@ use Rattle.tile_map.specs.Plane.{Site, MapValue, site, tiles_of, is_live, owner_
 use Rattle.tile_map.specs.Edges.{edges_at}
 use Rattle.tile_map.specs.Laws.{IsPlane}
 use Rattle.cell_grid.specs.Grid.{GridValue, IsLive, ArePlanesAlike, site_atom, with_site}
-use Rattle.border_cache.specs.Copies.{IsGridOf, held_cell}
+use Rattle.plane_grid.specs.PlaneGrids.{IsGridOf, IsPlaneGrid}
+use Rattle.border_cache.specs.Copies.{held_cell}
 use Rattle.tile_core.specs.Values.{TileWith, TileValue}
 use Rattle.serial_order.specs.Settled.{settled_cell, IsSettledAt, IsSettledTo, IsSettled}
-use Rattle.serial_order.specs.Outcomes.{values_of, AreTilesOf, IsPlaneGrid, ChangesSite}
+use Rattle.serial_order.specs.Outcomes.{values_of, AreTilesOf, ChangesSite}
 use Rattle.serial_order.proofs.Grids.{index, in_columns, index_live, one_site, same_index}
 
 -- the tile at a number

@@ -18,7 +18,7 @@ use Rattle.tile_map.specs.Laws.{IsPlane}
 use Rattle.cell_grid.specs.Grid.{GridValue, IsGrid, site_atom, place_by, live_place, place_of, seen, is_place, sites_at, window_of, atom_left, put_window, below}
 use Rattle.cell_grid.proofs.Windows.{put-plane}
 use Rattle.border_cache.specs.Cells.{CellValue}
-use Rattle.border_cache.specs.Copies.{IsGridOf}
+use Rattle.plane_grid.specs.PlaneGrids.{IsGridOf}
 use Rattle.border_cache.specs.Windows.{IsView}
 
 -- the place of a site in row order

@@ -13,7 +13,7 @@ use Rattle.cell_grid.specs.Records.{Precedes, replay}
 use Rattle.edge_lock.specs.declared.history.Hold.{Hold}
 use Rattle.list_laws.proofs.Members.{In, InOrder}
 use Rattle.border_cache.specs.Cells.{CellValue, cell_value, cell_of}
-use Rattle.border_cache.specs.Copies.{IsGridOf}
+use Rattle.plane_grid.specs.PlaneGrids.{IsGridOf}
 use Rattle.border_cache.specs.Windows.{and_cell, edge_place}
 use Rattle.tile_core.specs.Turns.{Won, Turn, cells_of}
 use Rattle.tile_core.specs.Values.{event_site, atoms_of}

@@ -28,8 +28,6 @@ pub mod EdgeCells
 pub mod NeededCells
 pub mod UnsharedSites
 pub mod Runs
-pub mod Blanks
-pub mod BlankGrid
 pub mod Filling
 pub mod Outcomes
 pub mod Boards

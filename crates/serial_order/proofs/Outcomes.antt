@@ -7,11 +7,11 @@ use Rattle.std.proofs.lemmas.Option.{slice_get-map, slice_get_within, get_or_fro
 use Rattle.tile_map.specs.Plane.{MapValue}
 use Rattle.cell_grid.specs.Records.{replay}
 use Rattle.event_journal.specs.Logs.{LogValue, AreLogs, records_in, abandoned_in}
-use Rattle.event_journal.specs.Accounts.{IsAccounted, IsStamped, AreExcused}
+use Rattle.event_journal.specs.Serial.{OwesNothing}
 use Rattle.tile_core.specs.Values.{TileWith, TileValue}
-use Rattle.serial_order.specs.Scene.{EdgeHistory, registers_at, log_of_tile, logs_of}
+use Rattle.serial_order.specs.Scene.{EdgeHistory, on_map, registers_at, log_of_tile, logs_of}
 use Rattle.serial_order.specs.Settled.{IsSettled}
-use Rattle.serial_order.specs.Order.{StampsAreSmall, Leads}
+use Rattle.serial_order.specs.Order.{MakeJournal, StampsAreSmall, TiesAreApart, Leads}
 use Rattle.serial_order.specs.Outcomes.{values_of, scene_of, AreOver, Settles, AreTilesOf}
 use Rattle.serial_order.specs.declared.outcome.Outcome.{Outcome}
 use Rattle.serial_order.proofs.Promises.{one_order}
@@ -60,22 +60,23 @@ log_more logs logs' l x xs ys is more log =
     ∙ ap (λ k. logs ++ logs_of (values_of k)) (sym is)))
 
 pub are_logs : (m : MapValue) (tiles : List TileValue) (edges : List EdgeHistory) (logs : List LogValue) → AreOver m tiles edges → logs ≡ logs_of tiles → AreLogs logs
-are_logs m tiles edges logs over is = subst AreLogs (sym is) (one_order (scene_of m tiles edges over.0) over.1).journal.0
+are_logs m tiles edges logs over is = subst AreLogs (sym is) (one_order (scene_of (on_map m over.0) tiles edges) over.1).journal.0
 
 -- the settled grid and the tiles' logs are a settlement
 pub settlement : (m : MapValue) (tiles : List TileValue) (edges : List EdgeHistory) (o : Outcome) → IsSettled m tiles (registers_at edges) o.grid → o.journal ≡ logs_of tiles → Settles m tiles edges o
-settlement m tiles edges o set is g over =
-    let s = scene_of m tiles edges g in
-    let h = one_order s over in
+settlement m tiles edges o set is c over =
+    let h = one_order (scene_of (on_map m c) tiles edges) over in
     record {
       unworn = h.unworn;
       journal = is;
-      accounted = subst (λ ls. IsAccounted m g.plan (records_in ls) (abandoned_in ls)) (sym is) h.accounted;
-      stamped = subst (λ ls. IsStamped m (records_in ls)) (sym is) h.stamped;
-      excused = subst (λ ls. AreExcused m g.plan (records_in ls) (abandoned_in ls)) (sym is) h.excused;
-      grid = h.replayed o.grid set ∙ ap (λ ls. replay g.meaning g.start (records_in ls)) (sym is);
-      small = subst (λ ls. StampsAreSmall (records_in ls)) (sym is) h.small;
-      apart = h.apart;
-      leads = subst (λ ls. All (Leads (records_in ls) (abandoned_in ls)) (abandoned_in ls)) (sym is) h.leads;
-      no_news = h.no_news;
+      in_order = record {
+        serial = record {
+          owes = subst (λ ls. OwesNothing m c.plan (records_in ls) (abandoned_in ls)) (sym is) h.owes;
+          replayed = h.replayed o.grid set ∙ ap (λ ls. replay c.meaning c.start (records_in ls)) (sym is);
+        };
+        journal = subst MakeJournal (sym is) h.journal;
+        small = subst (λ ls. StampsAreSmall (records_in ls)) (sym is) h.small;
+        apart = subst (λ ls. TiesAreApart m (records_in ls)) (sym is) h.apart;
+        leads = subst (λ ls. All (Leads (records_in ls) (abandoned_in ls)) (abandoned_in ls)) (sym is) h.leads;
+      };
     }

@@ -21,7 +21,9 @@ use Rattle.event_journal.specs.Accounts.{IsExcusedBy, AreExcused, Needs}
 use Rattle.border_cache.specs.Cells.{CellValue, cell_of}
 use Rattle.border_cache.specs.News.{word_of}
 use Rattle.border_cache.specs.Windows.{end_at, sites_on}
-use Rattle.border_cache.specs.Copies.{IsGridOf, held_cell}
+use Rattle.plane_grid.specs.PlaneGrids.{IsGridOf}
+use Rattle.plane_grid.proofs.OneGrid.{one_grid}
+use Rattle.border_cache.specs.Copies.{held_cell}
 use Rattle.tile_core.specs.Values.{atoms_of, TileValue, event_site, given_up_site}
 use Rattle.tile_core.specs.Turns.{Won, Lost, Wins, Loses, before}
 use Rattle.serial_order.specs.Scene.{Scene, IsOver, registers_at, history_at}
@@ -61,56 +63,6 @@ before_less e d (c ∷ es) o i j = go (c == d) refl j (λ there q. before_less e
 
 needs_rise : (m : MapValue) (t : ℕ) (c : Site) → InOrder (λ x y. x < y) (needs_of m t c)
 needs_rise m t c = order-filter (λ x y. x < y) (is_needed m t c) (range_with_len 0 (length (pairs_of m))) (order-range 0 (length (pairs_of m)))
-
--- two grids of a plane with the same atoms at its live sites are one grid
-pub one_grid : (m : MapValue) (g h : GridValue) → IsGrid g → IsGrid h → IsGridOf m g → IsGridOf m h → ((s : Site) → is_live m s ≡ true → site_atom g s.x s.y ≡ site_atom h s.x s.y) → g ≡ h
-one_grid m g h good fine of fits same = λ i. record { width = wide i; height = high i; atoms = atoms i; live = live i }
-  where
-    wide : g.width ≡ h.width
-    wide = of.wide ∙ sym fits.wide
-
-    high : g.height ≡ h.height
-    high = of.high ∙ sym fits.high
-
-    some : 0 < g.width
-    some = omega (arith, good.wide)
-
-    count : length h.live ≡ length g.live
-    count = fine.marked ∙ ((λ i. sym wide i * sym high i) ∙ sym good.marked)
-
-    mark : (i : ℕ) → i < length g.live → get_or g.live i false ≡ get_or h.live i false
-    mark i lt =
-        let x = i % g.width in
-        let y = i / g.width in
-        let lx = mod-lt i some in
-        let ly = div_lt i g.width g.height some (omega (arith, lt, good.marked)) in
-        let at : y * g.width + x ≡ i = div-add-mod' i g.width in
-        let at' : y * h.width + x ≡ i = ap (λ w. y * w + x) (sym wide) ∙ at in
-        ap (λ n. get_or g.live n false) (sym at) ∙ (of.live x y lx ly ∙ (sym (fits.live x y (omega (arith, lx, wide)) (omega (arith, ly, high))) ∙ ap (λ n. get_or h.live n false) at'))
-
-    live : g.live ≡ h.live
-    live = fill_by_all (λ i. get_or h.live i false) g.live (length g.live) false refl mark ∙ sym (fill_by_all (λ i. get_or h.live i false) h.live (length g.live) false count (λ i lt. refl))
-
-    atom : (i : ℕ) → i < length g.atoms → get_or g.atoms i empty_atom ≡ get_or h.atoms i empty_atom
-    atom i lt = go (get_or g.live i false) refl
-      where
-        inside' : i < length g.live
-        inside' = omega (arith, lt, good.whole, good.marked)
-
-        go : (b : Bool) → get_or g.live i false ≡ b → get_or g.atoms i empty_atom ≡ get_or h.atoms i empty_atom
-        go false is = good.hidden i inside' is ∙ sym (fine.hidden i (omega (arith, inside', count)) (sym (mark i inside') ∙ is))
-        go true is =
-            let x = i % g.width in
-            let y = i / g.width in
-            let lx = mod-lt i some in
-            let ly = div_lt i g.width g.height some (omega (arith, inside', good.marked)) in
-            let at : y * g.width + x ≡ i = div-add-mod' i g.width in
-            let at' : y * h.width + x ≡ i = ap (λ w. y * w + x) (sym wide) ∙ at in
-            let l : is_live m (site x y) ≡ true = sym (of.live x y lx ly) ∙ (ap (λ n. get_or g.live n false) at ∙ is) in
-            ap (λ n. get_or g.atoms n empty_atom) (sym at) ∙ (same (site x y) l ∙ ap (λ n. get_or h.atoms n empty_atom) at')
-
-    atoms : g.atoms ≡ h.atoms
-    atoms = fill_by_all (λ i. get_or h.atoms i empty_atom) g.atoms (length g.atoms) empty_atom refl atom ∙ sym (fill_by_all (λ i. get_or h.atoms i empty_atom) h.atoms (length g.atoms) empty_atom (fine.whole ∙ ((λ i. sym wide i * sym high i) ∙ sym good.whole)) (λ i lt. refl))
 
 module _ (s : Scene) (o : IsOver s) where
   stamps_right : Stamped s.map [] (records s)
@@ -161,7 +113,7 @@ module _ (s : Scene) (o : IsOver s) where
               ∙ grid_is_replay s.map s.meaning s.start (turns s o) (hist s o) (run s o) o.grid o.fits (events s o).0 (events s o).2 in_notes (owner_of s.map u) (edges_at s.map (owner_of s.map u)) u held live (all_edges (owner_of s.map u) u)))
 
   -- two records of one stamp have no site in common
-  pub ties_apart : TiesAreApart s
+  pub ties_apart : TiesAreApart s.map (records s)
   ties_apart n k u i j e a b =
       let p = record_of s o n (contains_in (records s) n i) in
       let q = record_of s o k (contains_in (records s) k j) in
@@ -272,9 +224,7 @@ module _ (s : Scene) (o : IsOver s) where
   one_order = record {
     unworn = none_is_worn s o;
     journal = (are_logs s o, all_logs s o);
-    accounted = accounted s o;
-    stamped = is_stamped s.map (records s) stamps_right;
-    excused = all_excused;
+    owes = record { accounted = accounted s o; stamped = is_stamped s.map (records s) stamps_right; excused = all_excused };
     replayed = replayed;
     small = stamps_small;
     apart = ties_apart;

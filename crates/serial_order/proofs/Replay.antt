@@ -10,7 +10,7 @@ use Rattle.cell_grid.proofs.Windows.{IsGrid-put}
 use Rattle.edge_lock.specs.declared.history.Hold.{Hold}
 use Rattle.list_laws.proofs.Members.{In, InOrder}
 use Rattle.border_cache.specs.Cells.{CellValue, cell_value, newest}
-use Rattle.border_cache.specs.Copies.{IsGridOf}
+use Rattle.plane_grid.specs.PlaneGrids.{IsGridOf}
 use Rattle.border_cache.specs.News.{found_cell}
 use Rattle.border_cache.specs.Windows.{and_cell, seen_on, edge_place_some, end_at, sites_on}
 use Rattle.tile_core.specs.Turns.{Won, Turn, Wins, cells_of, accesses_at, own_cell, newest_at}

@@ -5,7 +5,7 @@ use Rattle.list_laws.proofs.Tests.{both, together}
 use Rattle.tile_map.specs.Plane.{Site, MapValue, IsMap, site, in_plane, is_on, is_live, owner_of}
 use Rattle.tile_map.proofs.Spans.{plane_test, times_more}
 use Rattle.cell_grid.specs.Grid.{GridValue}
-use Rattle.serial_order.specs.Outcomes.{IsPlaneGrid}
+use Rattle.plane_grid.specs.PlaneGrids.{IsPlaneGrid}
 
 -- a site of a tile is live where the tile is on
 pub on_live : (m : MapValue) (g : GridValue) → IsPlaneGrid m g → (x y : ℕ) → x < g.width → y < g.height → is_on m (owner_of m (site x y)) ≡ true → is_live m (site x y) ≡ true

@@ -14,7 +14,8 @@ use Rattle.cell_grid.specs.Grid.{IsGrid, site_atom, empty_grid}
 use Rattle.draw_stream.specs.Plans.{IsPlan}
 use Rattle.edge_lock.specs.EndLists.{hold_of}
 use Rattle.border_cache.specs.Cells.{cell_value}
-use Rattle.border_cache.specs.Copies.{IsGridOf, held_cell, place_held}
+use Rattle.plane_grid.specs.PlaneGrids.{IsGridOf}
+use Rattle.border_cache.specs.Copies.{held_cell, place_held}
 use Rattle.border_cache.specs.News.{no_cell}
 use Rattle.border_cache.specs.Windows.{has, IsView, is_shown}
 use Rattle.tile_core.specs.Values.{TileValue, atoms_of}

@@ -9,11 +9,9 @@ use Rattle.tile_map.specs.Plane.{MapValue}
 use Rattle.cell_grid.specs.declared.record.Record.{Record}
 use Rattle.list_laws.proofs.Members.{In, in_filter, filter_in, in_any, in_either, in_left, in_right}
 use Rattle.event_journal.specs.Accounts.{edges_of, are_linked, stamp_after, IsStamped}
+use Rattle.event_journal.proofs.Journals.{top}
 use Rattle.serial_order.proofs.Tile.{max_cases}
 use Rattle.serial_order.proofs.Stamps.{Linked, IsStamp, Stamped}
-
-abbrev pub top : ℕ → List Record → ℕ
-top a xs = fold (λ greatest (s : Record). max greatest s.stamp) a xs
 
 max_left : (a b : ℕ) → a ≤ max a b
 max_left a b = grind arith

@@ -7,4 +7,3 @@ pub mod Words
 pub mod Outcomes
 pub mod Boards
 pub mod Fresh
-pub mod BlankGrid

@@ -1,7 +1,7 @@
 -- What holds of any tiles that are over: all events stand in one serial order.
 use Rattle.std.specs.Prelude.{ℕ, ◌≡◌, ◌≤◌, ◌<◌, ◌+◌, ◌*◌, ◌%◌, List, All, Contains, true, length, slice_get, slice_index_or, Some}
 use Rattle.std.specs.Int.{bit_at}
-use Rattle.tile_map.specs.Plane.{Site, in_window}
+use Rattle.tile_map.specs.Plane.{Site, MapValue, in_window}
 use Rattle.tile_map.specs.Edges.{pairs_of, has_end, shared_of}
 use Rattle.cell_grid.specs.declared.record.Record.{Record}
 use Rattle.cell_grid.specs.Grid.{GridValue}
@@ -9,8 +9,8 @@ use Rattle.cell_grid.specs.Records.{replay}
 use Rattle.edge_lock.specs.declared.history.Hold.{Hold}
 use Rattle.edge_lock.specs.History.{found_value, value_after, IsHistory}
 use Rattle.event_journal.specs.declared.abandoned.Abandoned.{Abandoned}
-use Rattle.event_journal.specs.Logs.{AreLogs, IsLog, abandoned_in, records_in}
-use Rattle.event_journal.specs.Accounts.{IsAccounted, IsStamped, AreExcused}
+use Rattle.event_journal.specs.Logs.{LogValue, AreLogs, IsLog, abandoned_in, records_in}
+use Rattle.event_journal.specs.Serial.{OwesNothing}
 use Rattle.border_cache.specs.Cells.{cell_of}
 use Rattle.border_cache.specs.News.{word_of}
 use Rattle.border_cache.specs.Windows.{end_at, sites_on}
@@ -31,9 +31,9 @@ abandoned s = abandoned_in (logs_of s.tiles)
 abbrev pub NoneIsWorn : Scene → Type 0
 NoneIsWorn s = (t : ℕ) (tile : TileValue) → slice_get s.tiles t ≡ Some tile → tile.phase ≡ Finished
 
--- the tiles' logs make a journal
-abbrev pub MakeJournal : Scene → Type 0
-MakeJournal s = AreLogs (logs_of s.tiles) × All IsLog (logs_of s.tiles)
+-- the logs make a journal
+abbrev pub MakeJournal : List LogValue → Type 0
+MakeJournal logs = AreLogs logs × All IsLog logs
 
 -- a grid of the newest cells is the replay of the records from the start grid
 abbrev pub IsReplayed : Scene → Type 0
@@ -44,8 +44,8 @@ abbrev pub StampsAreSmall : List Record → Type 0
 StampsAreSmall rs = All (λ (r : Record). r.stamp ≤ length rs) rs
 
 -- two records of one stamp have no live site in common
-abbrev pub TiesAreApart : Scene → Type 0
-TiesAreApart s = (r q : Record) (u : Site) → Contains (records s) r → Contains (records s) q → r.stamp ≡ q.stamp → in_window s.map (event_site r) u ≡ true → in_window s.map (event_site q) u ≡ true → r ≡ q
+abbrev pub TiesAreApart : MapValue → List Record → Type 0
+TiesAreApart m rs = (r q : Record) (u : Site) → Contains rs r → Contains rs q → r.stamp ≡ q.stamp → in_window m (event_site r) u ≡ true → in_window m (event_site q) u ≡ true → r ≡ q
 
 -- following the named holders leads, over rising edges, to a record
 pub data Leads (rs : List Record) (gs : List Abandoned) : Abandoned → Type 0 where
@@ -62,13 +62,11 @@ HasNoNews s = (e k t : ℕ) (u : Site) (tile : TileValue) → e < length (pairs_
 -- all events of the tiles stand in one serial order
 pub record HasOneOrder (s : Scene) : Type 0 where
   pub unworn : NoneIsWorn s
-  pub journal : MakeJournal s
-  pub accounted : IsAccounted s.map s.plan (records s) (abandoned s)
-  pub stamped : IsStamped s.map (records s)
-  pub excused : AreExcused s.map s.plan (records s) (abandoned s)
+  pub journal : MakeJournal (logs_of s.tiles)
+  pub owes : OwesNothing s.map s.plan (records s) (abandoned s)
   pub replayed : IsReplayed s
   pub small : StampsAreSmall (records s)
-  pub apart : TiesAreApart s
+  pub apart : TiesAreApart s.map (records s)
   pub leads : All (Leads (records s) (abandoned s)) (abandoned s)
   pub no_news : HasNoNews s
 

@@ -4,49 +4,46 @@ use Rattle.bit_field.specs.Atom.{empty_atom}
 use Rattle.tile_map.specs.Plane.{Site, MapValue, site, tiles_of, is_on, is_live, is_held, owner_of}
 use Rattle.tile_map.specs.Spans.{is_within}
 use Rattle.cell_grid.specs.Grid.{GridValue, IsGrid, ArePlanesAlike, site_atom}
-use Rattle.cell_grid.specs.Records.{replay}
 use Rattle.event_journal.specs.Logs.{records_in, abandoned_in}
-use Rattle.event_journal.specs.Accounts.{IsAccounted, IsStamped, AreExcused}
-use Rattle.border_cache.specs.Copies.{IsGridOf}
+use Rattle.event_journal.specs.Serial.{Course, IsSerial}
 use Rattle.tile_core.specs.Values.{TileWith, TileValue}
-use Rattle.serial_order.specs.Scene.{EdgeHistory, Scene, Setting, IsOver, logs_of, registers_at}
+use Rattle.serial_order.specs.Scene.{EdgeHistory, InEachCourse, InSomeCourse, Scene, IsOver, course_of, logs_of, registers_at}
 use Rattle.serial_order.specs.Settled.{IsSettledTo}
 use Rattle.serial_order.specs.Words.{WordsValue}
-use Rattle.serial_order.specs.Order.{NoneIsWorn, StampsAreSmall, TiesAreApart, Leads, HasNoNews}
+use Rattle.serial_order.specs.Order.{NoneIsWorn, MakeJournal, StampsAreSmall, TiesAreApart, Leads}
 use Rattle.serial_order.specs.declared.outcome.Outcome.{Outcome}
-use Rattle.serial_order.specs.declared.blank.TileRectangle.{TileRectangle}
 use Rattle.serial_order.specs.declared.unshared.Unshared.{Unshared}
 
 -- the values of tiles, without what acts on them
 abbrev pub values_of : {B : Type 0} → List (TileWith B) → List TileValue
 values_of tiles = map (λ t. t.core) tiles
 
--- these tiles and edges at the end, and from what they started
-abbrev pub scene_of : MapValue → List TileValue → List EdgeHistory → Setting → Scene
-scene_of m tiles edges g = record { map = m; meaning = g.meaning; start = g.start; plan = g.plan; tiles = tiles; edges = edges }
+-- these tiles and edges at the end of a course
+abbrev pub scene_of : Course → List TileValue → List EdgeHistory → Scene
+scene_of c tiles edges = record { map = c.map; meaning = c.meaning; start = c.start; plan = c.plan; tiles = tiles; edges = edges }
 
--- in some setting the tiles have played, and the edges have what they did
+-- in some course of the map the tiles have played, and the edges have what they did
 abbrev pub AreOver : MapValue → List TileValue → List EdgeHistory → Type 0
-AreOver m tiles edges = (g : Setting) × IsOver (scene_of m tiles edges g)
+AreOver m tiles edges = InSomeCourse m (λ c. IsOver (scene_of c tiles edges))
 
--- A settled run: all its events stand in one serial order, that of the journal.
+-- The outcome of a run whose events stand in one serial order, that of its journal. No stamp is greater than the number of
+-- events, two events of one stamp have no live site in common, and following the named holders leads to an event.
+pub record StandsInOneOrder (c : Course) (o : Outcome) : Type 0 where
+  pub serial : IsSerial c o.grid (records_in o.journal) (abandoned_in o.journal)
+  pub journal : MakeJournal o.journal
+  pub small : StampsAreSmall (records_in o.journal)
+  pub apart : TiesAreApart c.map (records_in o.journal)
+  pub leads : All (Leads (records_in o.journal) (abandoned_in o.journal)) (abandoned_in o.journal)
+
+-- a settled run: no tile is worn out, the journal's entries are those of the tiles, and all events stand in one serial order
 pub record IsSettlement (s : Scene) (o : Outcome) : Type 0 where
   pub unworn : NoneIsWorn s
-  -- the journal's entries are those of the tiles
   pub journal : o.journal ≡ logs_of s.tiles
-  pub accounted : IsAccounted s.map s.plan (records_in o.journal) (abandoned_in o.journal)
-  pub stamped : IsStamped s.map (records_in o.journal)
-  pub excused : AreExcused s.map s.plan (records_in o.journal) (abandoned_in o.journal)
-  -- the grid is what the events make of the start, one after another on one grid
-  pub grid : o.grid ≡ replay s.meaning s.start (records_in o.journal)
-  pub small : StampsAreSmall (records_in o.journal)
-  pub apart : TiesAreApart s
-  pub leads : All (Leads (records_in o.journal) (abandoned_in o.journal)) (abandoned_in o.journal)
-  pub no_news : HasNoNews s
+  pub in_order : StandsInOneOrder (course_of s) o
 
--- the outcome is a settlement, in whatever setting these tiles have played
+-- the outcome is a settlement, in whatever course of the map these tiles have played
 abbrev pub Settles : MapValue → List TileValue → List EdgeHistory → Outcome → Type 0
-Settles m tiles edges o = (g : Setting) → IsOver (scene_of m tiles edges g) → IsSettlement (scene_of m tiles edges g) o
+Settles m tiles edges o = InEachCourse m (λ c. IsOver (scene_of c tiles edges) → IsSettlement (scene_of c tiles edges) o)
 
 -- one tile for each of the map, each with a copy that is its own
 pub record AreTilesOf (m : MapValue) (tiles : List TileValue) : Type 0 where
@@ -58,31 +55,11 @@ pub record AreTilesOf (m : MapValue) (tiles : List TileValue) : Type 0 where
 abbrev pub IsSettledBy : {B : Type 0} → MapValue → List (TileWith B) → WordsValue → ℕ → GridValue → Type 0
 IsSettledBy m tiles words n g = IsSettledTo m (values_of tiles) (registers_at words.histories) n g
 
--- a grid of a plane
-abbrev pub IsPlaneGrid : MapValue → GridValue → Type 0
-IsPlaneGrid m g = IsGrid g × IsGridOf m g
-
 -- the new grid is one of the same plane, with the atoms of the old one at all live sites but this
 pub record ChangesSite (m : MapValue) (s : Site) (old new : GridValue) : Type 0 where
   pub grid : IsGrid new
   pub plane : ArePlanesAlike old new
   pub others : (u : Site) → is_live m u ≡ true → (u ≡ s → ⊥) → site_atom new u.x u.y ≡ site_atom old u.x u.y
-
--- a grid of the plane's size, all of whose sites are empty; of the tiles that are off only those
--- below n are shut
-pub record IsShutTo (m : MapValue) (n : ℕ) (g : GridValue) : Type 0 where
-  pub grid : IsGrid g
-  pub wide : g.width ≡ m.tx * m.w
-  pub high : g.height ≡ m.ty * m.h
-  pub empty : g.atoms ≡ replicate (g.width * g.height) empty_atom
-  pub live : (x y : ℕ) → x < g.width → y < g.height → slice_index_or g.live (y * g.width + x) false ≡ (nat_le n (owner_of m (site x y)) || is_on m (owner_of m (site x y)))
-
--- the rectangle of a tile
-pub record IsAreaOf (m : MapValue) (t : ℕ) (a : TileRectangle) : Type 0 where
-  pub left : a.left ≡ t % m.tx * m.w
-  pub top : a.top ≡ t / m.tx * m.h
-  pub columns : a.columns ≡ m.w
-  pub rows : a.rows ≡ m.h
 
 -- columns and rows of a tile that no other tile holds
 pub record IsUnshared (m : MapValue) (i : Unshared) : Type 0 where

@@ -11,26 +11,31 @@ use Rattle.edge_lock.specs.declared.history.Refusal.{Refusal}
 use Rattle.edge_lock.specs.History.{own, register_value, IsEdgeHistory}
 use Rattle.edge_lock.specs.EndLists.{EndLists, end_lists}
 use Rattle.event_journal.specs.Logs.{LogValue, log_of}
+use Rattle.event_journal.specs.Serial.{Course, course}
 use Rattle.border_cache.specs.Windows.{end_at, sites_on}
-use Rattle.border_cache.specs.Copies.{IsGridOf, held_cell}
+use Rattle.plane_grid.specs.PlaneGrids.{IsGridOf}
+use Rattle.border_cache.specs.Copies.{held_cell}
 use Rattle.tile_core.specs.declared.phase.Phase.{Phase}
 use Rattle.tile_core.specs.declared.phase.Phase.TheVariants.{Draw, Lock, Refresh, Behave, Write, Give, Back, Finished, Worn}
 use Rattle.tile_core.specs.Values.{TileValue, atoms_of}
 use Rattle.tile_core.specs.Turns.{Common, common, Turn, Wins, Loses, Wears, Wearless, HasPlayed, cells_of}
 use Rattle.tile_core.specs.Underway.{made_by}
 
--- what events do, and the grid and the attempts from which the tiles start
-pub record Setting : Type 0 where
-  pub meaning : WindowValue → ℕ → WindowValue
-  pub start : GridValue
-  pub plan : PlanValue
+-- the course on this map, whatever its own
+abbrev pub on_map : MapValue → Course → Course
+on_map m c = course m c.plan c.meaning c.start
 
-abbrev pub setting : (WindowValue → ℕ → WindowValue) → GridValue → PlanValue → Setting
-setting meaning start plan = record { meaning = meaning; start = start; plan = plan }
+-- this holds in some course of the map
+abbrev pub InSomeCourse : MapValue → (Course → Type 0) → Type 0
+InSomeCourse m P = (c : Course) × P (on_map m c)
 
--- what all tiles of a plane have in common in a setting
-abbrev pub common_in : MapValue → Setting → Common
-common_in m g = common m g.meaning (atoms_of g.start)
+-- this holds in whatever course of the map
+abbrev pub InEachCourse : MapValue → (Course → Type 0) → Type 0
+InEachCourse m P = (c : Course) → P (on_map m c)
+
+-- what all tiles have in common in a course
+abbrev pub common_in : Course → Common
+common_in c = common c.map c.meaning (atoms_of c.start)
 
 -- the history of an edge: the holds of both ends, and the refusals of each end, in order
 pub record EdgeHistory : Type 0 where
@@ -94,6 +99,10 @@ pub record Scene : Type 0 where
   pub plan : PlanValue
   pub tiles : List TileValue
   pub edges : List EdgeHistory
+
+-- the course that the tiles of a scene have run
+abbrev pub course_of : Scene → Course
+course_of s = course s.map s.plan s.meaning s.start
 
 -- from the start grid each tile played its attempts of the plan, and what the tiles' ends did on an edge is one history
 pub record IsOver (s : Scene) : Type 0 where

@@ -4,7 +4,8 @@ use Rattle.tile_map.specs.Plane.{Site, MapValue, owner_of, is_live}
 use Rattle.tile_map.specs.Edges.{edges_at}
 use Rattle.cell_grid.specs.Grid.{GridValue, IsGrid, site_atom}
 use Rattle.border_cache.specs.Cells.{CellValue, cell_of, newest}
-use Rattle.border_cache.specs.Copies.{IsGridOf, held_cell}
+use Rattle.plane_grid.specs.PlaneGrids.{IsGridOf}
+use Rattle.border_cache.specs.Copies.{held_cell}
 use Rattle.border_cache.specs.Windows.{and_cell, edge_place}
 use Rattle.tile_core.specs.Values.{TileValue}
 

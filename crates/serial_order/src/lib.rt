@@ -2,14 +2,12 @@
 //! interleaved.
 #![tactic(auto)]
 
-mod blank;
 mod law;
 mod newest;
 mod outcome;
 mod unshared;
 mod words;
 
-pub use blank::blank_grid;
 pub use law::{
     finds_what_stands, news_at_any_moment, one_order, plain_moment, plain_run, small_run,
 };

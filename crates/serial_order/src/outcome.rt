@@ -2,19 +2,20 @@
 ghost use Rattle.std.specs.Prelude.{◌≡◌, ◌<◌, ◌+◌, ◌*◌, All, IfOk};
 ghost use Rattle.tile_map.specs.Plane.{owner_of, site};
 ghost use Rattle.cell_grid.specs.Grid.{ArePlanesAlike};
-ghost use Rattle.serial_order.specs.Outcomes.{AreOver, AreTilesOf, ChangesSite, IsPlaneGrid, IsSettledBy, IsStretch, IsUnshared, Settles, values_of};
+ghost use Rattle.plane_grid.specs.PlaneGrids.{IsPlaneGrid};
+ghost use Rattle.serial_order.specs.Outcomes.{AreOver, AreTilesOf, ChangesSite, IsSettledBy, IsStretch, IsUnshared, Settles, values_of};
 ghost use Rattle.serial_order.specs.Scene.{logs_of, registers_at};
 ghost use Rattle.serial_order.specs.Settled.{IsSettled, IsSettledAt};
 ghost use Rattle.serial_order.specs.Words.{AreEdgeWords};
 ghost use Rattle.tile_core.specs.Underway.{IsMade};
 
-use crate::blank::{blank_grid, tile_width};
 use crate::newest::settled_in;
 use crate::unshared::Unshared;
 use crate::words::EdgeWords;
 use cell_grid::{Behave, Grid};
 use event_journal::{Journal, TileLog};
 use feast_base::NoMemory;
+use plane_grid::blank_grid;
 use std::alloc::Global;
 use tile_core::Tile;
 use tile_map::Map;
@@ -100,7 +101,7 @@ fn settle_row<B: Behave, E: EdgeWords>(
     ensures plane { ArePlanesAlike grid.old grid.new }
     ensures same { E.words words.new ≡ E.words words.old }
 {
-    let size = tile_width(map);
+    let size = map.tile_width();
     let count = grid.width() / size;
     for part in 0..count {
         settle_stretch(map, tiles, words, grid, part * size, size, y);

@@ -4,7 +4,6 @@ ghost use Rattle.tile_map.specs.Plane.{tiles_of};
 ghost use Rattle.tile_map.specs.Spans.{is_within};
 ghost use Rattle.serial_order.specs.Outcomes.{IsUnshared};
 
-use crate::blank::extent;
 use tile_map::Map;
 
 /// A tile, and the columns and rows of its rectangle that no other tile holds: `left` and `top` are
@@ -38,11 +37,10 @@ impl Unshared {
         ensures unshared { IsUnshared map.now result }
         ensures tile { result.tile ≡ tile }
     {
-        let (width, height) = extent(map);
         let (first, end) = map.columns(tile);
-        let (left, right) = unshared_places(first, end, width);
+        let (left, right) = unshared_places(first, end, map.width());
         let (first, end) = map.rows(tile);
-        let (top, bottom) = unshared_places(first, end, height);
+        let (top, bottom) = unshared_places(first, end, map.height());
         Unshared {
             tile,
             left,

@@ -24,7 +24,8 @@ use Rattle.tile_core.specs.Underway.{tile_at, made_by, InPhase}
 use Rattle.tile_core.proofs.Boards.{edge_end}
 use Rattle.tile_core.proofs.Lists.{free_of}
 use Rattle.tile_core.proofs.Played.{played_at_end}
-use Rattle.serial_order.specs.Scene.{Setting, common_in, IsOver}
+use Rattle.serial_order.specs.Scene.{on_map, common_in, IsOver}
+use Rattle.event_journal.specs.Serial.{Course}
 use Rattle.serial_order.specs.Words.{histories_on}
 use Rattle.serial_order.specs.Outcomes.{scene_of, values_of}
 use Rattle.serial_order.specs.Boards.{HasStopped, HaveStopped}
@@ -47,13 +48,13 @@ stopped_in tile Back e h = absurd (true≢false (sym h))
 stopped_in tile Finished e h = inl e
 stopped_in tile Worn e h = inr e
 
-module _ {B : Type 0} (after : B → WindowValue → ℕ → WindowValue) (m : MapValue) (valid : IsMap m) (g : Setting) (tiles : List (TileWith B)) (board : PlainBoardValue) (u : AreUnderway after m g tiles board)
+module _ {B : Type 0} (after : B → WindowValue → ℕ → WindowValue) (m : MapValue) (valid : IsMap m) (g : Course) (tiles : List (TileWith B)) (board : PlainBoardValue) (u : AreUnderway after (on_map m g) tiles board)
     (still : (t : ℕ) → t < tiles_of m → stands_still (slice_get tiles t) ≡ true) where
   inside : (t : ℕ) (x : TileWith B) → slice_get tiles t ≡ Some x → t < tiles_of m
   inside t x is = let lt = slice_get_within tiles t x is in let n = u.count in omega (arith, lt, n)
 
-  module _ {A : Type 0} (after' : A → WindowValue → ℕ → WindowValue) (first : List (TileWith A)) (board' : PlainBoardValue) (s : IsStart after' m g first board') where
-    have_stopped : HaveStopped m g (values_of tiles) board
+  module _ {A : Type 0} (after' : A → WindowValue → ℕ → WindowValue) (first : List (TileWith A)) (board' : PlainBoardValue) (s : IsStart after' (on_map m g) first board') where
+    have_stopped : HaveStopped (on_map m g) (values_of tiles) board
     have_stopped = record {
       valid = valid;
       grid = s.tiles_are.grid;
@@ -64,28 +65,28 @@ module _ {B : Type 0} (after : B → WindowValue → ℕ → WindowValue) (m : M
       edges = u.board_is;
       numbers = λ t tile is. let v = value_at tiles t tile is in ap (λ (z : TileValue). z.number) (sym v.2) ∙ (u.each t v.0 v.1).number;
       underway = λ t tile is. let v = value_at tiles t tile is in let k = u.each t v.0 v.1 in
-          subst (λ (z : TileValue). Rattle.tile_core.specs.Underway.IsUnderway (common_in m g) (attempts g.plan t) z (lists_of_tile board z.number)) v.2
-          (subst (λ n. Rattle.tile_core.specs.Underway.IsUnderway (common_in m g) (attempts g.plan t) v.0.core (lists_of_tile board n)) (sym k.number) k.underway);
+          subst (λ (z : TileValue). Rattle.tile_core.specs.Underway.IsUnderway (common_in (on_map m g)) (attempts g.plan t) z (lists_of_tile board z.number)) v.2
+          (subst (λ n. Rattle.tile_core.specs.Underway.IsUnderway (common_in (on_map m g)) (attempts g.plan t) v.0.core (lists_of_tile board n)) (sym k.number) k.underway);
       stopped = λ t tile is. let v = value_at tiles t tile is in
           subst HasStopped v.2 (stopped_in v.0.core v.0.core.phase refl (ap stands_still (sym v.1) ∙ still t (inside t v.0 v.1)));
     }
 
-    pub is_over : IsOver (scene_of m (values_of tiles) (histories_on board) g)
-    is_over = over m g (values_of tiles) board have_stopped
+    pub is_over : IsOver (scene_of (on_map m g) (values_of tiles) (histories_on board))
+    is_over = over (on_map m g) (values_of tiles) board have_stopped
 
     pub finished : (t : ℕ) (x : TileWith B) → slice_get tiles t ≡ Some x → x.core.phase ≡ Finished
-    finished t x is = (one_order (scene_of m (values_of tiles) (histories_on board) g) is_over).unworn t x.core (Rattle.std.proofs.lemmas.Option.slice_get-map (λ (z : TileWith B). z.core) tiles t ∙ ap (Rattle.std.specs.Option.option_map (λ (z : TileWith B). z.core)) is)
+    finished t x is = (one_order (scene_of (on_map m g) (values_of tiles) (histories_on board)) is_over).unworn t x.core (Rattle.std.proofs.lemmas.Option.slice_get-map (λ (z : TileWith B). z.core) tiles t ∙ ap (Rattle.std.specs.Option.option_map (λ (z : TileWith B). z.core)) is)
 
     -- so none is worn out, and all is as the machine has it
-    pub like_it : (k : Machine) → AreLike m g tiles board k → IsLike m g tiles board k
-    like_it k l = ⊎_elim {C = IsLike m g tiles board k} (λ z. z) (λ (w : AnyIsWorn tiles). absurd (cc (sym w.3 ∙ finished w.0 w.1 w.2))) l
+    pub like_it : (k : Machine) → AreLike (on_map m g) tiles board k → IsLike (on_map m g) tiles board k
+    like_it k l = ⊎_elim {C = IsLike (on_map m g) tiles board k} (λ z. z) (λ (w : AnyIsWorn tiles). absurd (cc (sym w.3 ∙ finished w.0 w.1 w.2))) l
 
     -- the tile has no edge any more
     free_tile : (t e : ℕ) → t < tiles_of m → has_end m t e ≡ true → IsFree (lists_of_tile board t e)
     free_tile t e lt end =
         let x = get_inside tiles t (let n = u.count in omega (arith, lt, n)) in
         let k = u.each t x.0 x.1 in
-        let h = subst (InPhase (common_in m g) (attempts g.plan t) k.underway.turns (tile_at x.0.core (lists_of_tile board t))) (finished t x.0 x.1) k.underway.hand in
+        let h = subst (InPhase (common_in (on_map m g)) (attempts g.plan t) k.underway.turns (tile_at x.0.core (lists_of_tile board t))) (finished t x.0 x.1) k.underway.hand in
         subst IsFree (sym (h.2 e (ap (λ n. has_end m n e) k.number ∙ end))) (free_of m g.meaning (atoms_of g.start) x.0.core.number k.underway.turns e k.underway.each k.underway.unworn)
 
     end_free : (t e b : ℕ) → t < tiles_of m → has_end m t e ≡ true → e < length (pairs_of m) → end_at m t e ≡ b → is_last_open (own b (edge_at board e).holds) ≡ false
@@ -106,14 +107,14 @@ module _ {B : Type 0} (after : B → WindowValue → ℕ → WindowValue) (m : M
             let past : length board.edges ≤ e = (let n = u.board_is.count in let le : length (pairs_of m) ≤ e = grind (arith, nat_tests, is) in omega (arith, n, le)) in
             ap (λ (z : Rattle.edge_lock.specs.PlainEdges.PlainEdgeValue). open_hold z.holds) (get_or_past board.edges e no_edge past)
 
-    pub has_run : HasRun after m g tiles board
+    pub has_run : HasRun after (on_map m g) tiles board
     has_run = record {
       count = u.count;
       finished = λ t x is. let k = u.each t x is in record {
         number = k.number;
         map = k.underway.map;
         phase = finished t x is;
-        played = subst (λ n. HasPlayed (common_in m g) n (attempts g.plan t) (made_by x.core (lists_of_tile board t))) k.number (played_at_end m g.meaning (atoms_of g.start) (attempts g.plan t) x.core (lists_of_tile board t) k.underway (finished t x is));
+        played = subst (λ n. HasPlayed (common_in (on_map m g)) n (attempts g.plan t) (made_by x.core (lists_of_tile board t))) k.number (played_at_end m g.meaning (atoms_of g.start) (attempts g.plan t) x.core (lists_of_tile board t) k.underway (finished t x is));
       };
       meanings = u.meanings;
       shut = shut;

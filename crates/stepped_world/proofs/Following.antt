@@ -22,7 +22,8 @@ use Rattle.tile_core.specs.Steps.{rules_of, StepsIn, WearsOut, Renews, begun, go
 use Rattle.tile_core.proofs.Falls.{steps_fall}
 use Rattle.stepped_world.specs.Machine.{Machine, Doing, Done, step, steps, finish_tile, finish}
 use Rattle.stepped_world.specs.Matching.{doing_in, IsEdgeIn, Matches}
-use Rattle.serial_order.specs.Scene.{Setting}
+use Rattle.serial_order.specs.Scene.{on_map}
+use Rattle.event_journal.specs.Serial.{Course}
 use Rattle.stepped_world.specs.Running.{AreUnderway, is_still, stands_still, steps_ahead, AnyIsWorn, IsLike, AreLike, on_board, Act, step_of, steps_by, rest_of, rest_by, Follows}
 use Rattle.tile_core.specs.Turns.{common}
 use Rattle.stepped_world.proofs.Finishing.{finishing, finished}
@@ -53,7 +54,7 @@ module _ {B : Type 0} (after : B → WindowValue → ℕ → WindowValue) (m : M
       → Follows after m (on_board xs a) (on_board ys b) f → Follows after m (on_board ys b) (on_board zs c) g → Follows after m (on_board xs a) (on_board zs c) h
   then_on xs ys zs a b c f g h same p q = record {
     underway = λ k u. q.underway k (p.underway k u);
-    like = λ k s u l. subst (AreLike m k zs c) (sym (same k.meaning s)) (q.like k (f m k.meaning s) (p.underway k u) (p.like k s u l));
+    like = λ k s u l. subst (AreLike (on_map m k) zs c) (sym (same k.meaning s)) (q.like k (f m k.meaning s) (p.underway k u) (p.like k s u l));
     still = λ t e. q.still t (p.still t e);
     sizes = q.sizes ∙ p.sizes;
   }
@@ -62,7 +63,7 @@ module _ {B : Type 0} (after : B → WindowValue → ℕ → WindowValue) (m : M
   pub stays : (xs : List (TileWith B)) (a : PlainBoardValue) (f : Act) → ((meaning : WindowValue → ℕ → WindowValue) (s : Machine) → f m meaning s ≡ s) → Follows after m (on_board xs a) (on_board xs a) f
   stays xs a f same = record {
     underway = λ k u. u;
-    like = λ k s u l. subst (AreLike m k xs a) (sym (same k.meaning s)) l;
+    like = λ k s u l. subst (AreLike (on_map m k) xs a) (sym (same k.meaning s)) l;
     still = λ t e. e;
     sizes = refl;
   }
@@ -82,8 +83,8 @@ module _ {B : Type 0} (after : B → WindowValue → ℕ → WindowValue) (m : M
   rests_there xs a t x is h = record {
     underway = λ k u. u;
     like = λ k s u l. ⊎_elim
-        (λ (z : IsLike m k xs a s). let there = z.matches.tiles_are t x is in
-        inl (subst (IsLike m k xs a) (sym (finished m k.meaning t s (still_phase x.core x.core.phase (s.tile t).doing there.doing h))) z))
+        (λ (z : IsLike (on_map m k) xs a s). let there = z.matches.tiles_are t x is in
+        inl (subst (IsLike (on_map m k) xs a) (sym (finished m k.meaning t s (still_phase x.core x.core.phase (s.tile t).doing there.doing h))) z))
         (λ w. inr w) l;
     still = λ v e. e;
     sizes = refl;
@@ -145,11 +146,11 @@ module _ {B : Type 0} (after : B → WindowValue → ℕ → WindowValue) (m : M
     pub one_step : Follows after m (on_board tiles a) (on_board (slice_set tiles t y) c) (step_of t)
     one_step = record {
       underway = λ g u. steps_on after m g tiles t x y b c (turned after m g tiles a b same u) is d;
-      like = λ g s u l. ⊎_elim {C = AreLike m g (slice_set tiles t y) c (step m g.meaning t s)}
-          (λ (k : IsLike m g tiles a s).
+      like = λ g s u l. ⊎_elim {C = AreLike (on_map m g) (slice_set tiles t y) c (step m g.meaning t s)}
+          (λ (k : IsLike (on_map m g) tiles a s).
           let v = turned after m g tiles a b same u in
           let z = matches_turned s k.matches in
-          ⊎_elim {C = AreLike m g (slice_set tiles t y) c (step m g.meaning t s)}
+          ⊎_elim {C = AreLike (on_map m g) (slice_set tiles t y) c (step m g.meaning t s)}
           (λ w. inl (record { matches = w; sound = step_sound m plane g t s k.sound (writes_own after m g tiles t x y b c v is d s z) }))
           (λ w. inr w)
           (step_like after m g tiles t x y b c v is d s z))
@@ -193,7 +194,7 @@ module _ {B : Type 0} (after : B → WindowValue → ℕ → WindowValue) (m : M
         go (d ∷ es) e le = omega (arith, ap length e, le)
 
     -- a step that does something leaves fewer
-    pub fewer : (g : Setting) → AreUnderway after m g tiles a → stands_still (slice_get tiles t) ≡ false → steps_ahead (slice_get (slice_set tiles t y) t) < steps_ahead (slice_get tiles t)
+    pub fewer : (g : Course) → AreUnderway after (on_map m g) tiles a → stands_still (slice_get tiles t) ≡ false → steps_ahead (slice_get (slice_set tiles t y) t) < steps_ahead (slice_get tiles t)
     fewer g u h = subst (λ (p : Option (TileWith B) × Option (TileWith B)). steps_ahead p.1 < steps_ahead p.0) (λ i. (sym is i, sym (get_set_same tiles t y there) i)) (go x.core.phase refl (ap stands_still (sym is) ∙ h) d.step)
       where
         before : IsUnderway (common m (after x.behave) (atoms_of g.start)) (attempts g.plan t) x.core (lists_on b)

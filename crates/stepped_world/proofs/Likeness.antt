@@ -38,7 +38,8 @@ use Rattle.tile_core.proofs.Refreshing.{open_held}
 use Rattle.tile_core.proofs.Clocking.{greatest_same}
 use Rattle.stepped_world.specs.Machine.{wanted, Hand, Doing, Drawing, Locking, Behaving, Writing, Giving, Backing, TileState, EdgeState, Machine, at, next_lock, next_give, next_back, does, is_held_by, record_of, entry_of, drawn, draw, lock, next_stamp, stamped, write, step_in, step}
 use Rattle.stepped_world.specs.Matching.{hand_in, doing_in, IsTileIn, who, IsEdgeIn, Matches}
-use Rattle.serial_order.specs.Scene.{common_in, Setting}
+use Rattle.serial_order.specs.Scene.{on_map, common_in}
+use Rattle.event_journal.specs.Serial.{Course}
 use Rattle.stepped_world.specs.Running.{IsTileOf, AreUnderway, AnyIsWorn}
 use Rattle.stepped_world.proofs.Boards.{Open, open_at, held_turns, free_more, lists_stay, far_stays}
 use Rattle.stepped_world.proofs.Finishing.{at_same, at_other}
@@ -47,9 +48,9 @@ use Rattle.stepped_world.proofs.Stepping.{Advances}
 use Rattle.stepped_world.proofs.Tiles.{drop_at, get_first, length_first, begun_doing, got_doing, refused_doing, written_doing, given_doing, backed_doing, filter_more, filter_same, same_tile, other_tile, is_writing}
 use Rattle.stepped_world.proofs.Turning.{quiet, value_snoc, all_twice, all_none, turned_edge, got_edge, freed_edge, own_tile, far_tile, found_clock}
 
-module _ {B : Type 0} (after : B → WindowValue → ℕ → WindowValue) (m : MapValue) (g : Setting) (tiles : List (TileWith B)) (t : ℕ) (x y : TileWith B) (b c : PlainBoardValue) (u : AreUnderway after m g tiles b)
+module _ {B : Type 0} (after : B → WindowValue → ℕ → WindowValue) (m : MapValue) (g : Course) (tiles : List (TileWith B)) (t : ℕ) (x y : TileWith B) (b c : PlainBoardValue) (u : AreUnderway after (on_map m g) tiles b)
     (is : slice_get tiles t ≡ Some x) (a : Advances after m t x y b c) (s : Machine) (k : Matches m tiles b s) where
-  tile : IsTileOf m g b t x.core
+  tile : IsTileOf (on_map m g) b t x.core
   tile = u.each t x is
 
   mine : IsTileIn x.core (s.tile t)
@@ -58,8 +59,8 @@ module _ {B : Type 0} (after : B → WindowValue → ℕ → WindowValue) (m : M
   inside : t < tiles_of m
   inside = let lt = slice_get_within tiles t x is in let n = u.count in omega (arith, lt, n)
 
-  under : IsUnderway (common_in m g) (attempts g.plan t) x.core (lists_on b)
-  under = subst (λ n. IsUnderway (common_in m g) (attempts g.plan t) x.core (lists_of_tile b n)) (sym a.acting) tile.underway
+  under : IsUnderway (common_in (on_map m g)) (attempts g.plan t) x.core (lists_on b)
+  under = subst (λ n. IsUnderway (common_in (on_map m g)) (attempts g.plan t) x.core (lists_of_tile b n)) (sym a.acting) tile.underway
 
   kept : (e : ℕ) → e < length (pairs_of m) → IsKept (view_of (edge_at b e))
   kept e lt = (u.board_is.each e lt).kept
@@ -252,8 +253,8 @@ module _ {B : Type 0} (after : B → WindowValue → ℕ → WindowValue) (m : M
 
   -- Refresh
   module _ (now : x.core.phase ≡ Refresh) where
-    refreshing : InPhase (common_in m g) (attempts g.plan t) under.turns (tile_at x.core (lists_on b)) Refresh
-    refreshing = subst (InPhase (common_in m g) (attempts g.plan t) under.turns (tile_at x.core (lists_on b))) now under.hand
+    refreshing : InPhase (common_in (on_map m g)) (attempts g.plan t) under.turns (tile_at x.core (lists_on b)) Refresh
+    refreshing = subst (InPhase (common_in (on_map m g)) (attempts g.plan t) under.turns (tile_at x.core (lists_on b))) now under.hand
 
     held_there : (d : ℕ) → has d x.core.needs ≡ true → IsHeld (lists_on b d)
     held_there d h = open_held m x.core under.turns x.core.needs (λ e. []) (lists_on b) under.needs.ends refreshing.1 d h
@@ -293,8 +294,8 @@ module _ {B : Type 0} (after : B → WindowValue → ℕ → WindowValue) (m : M
 
   -- Write
   module _ (now : x.core.phase ≡ Write) where
-    writing : InPhase (common_in m g) (attempts g.plan t) under.turns (tile_at x.core (lists_on b)) Write
-    writing = subst (InPhase (common_in m g) (attempts g.plan t) under.turns (tile_at x.core (lists_on b))) now under.hand
+    writing : InPhase (common_in (on_map m g)) (attempts g.plan t) under.turns (tile_at x.core (lists_on b)) Write
+    writing = subst (InPhase (common_in (on_map m g)) (attempts g.plan t) under.turns (tile_at x.core (lists_on b))) now under.hand
 
     held_here : (d : ℕ) → has d x.core.needs ≡ true → IsHeld (lists_on b d)
     held_here d h = open_held m x.core under.turns x.core.needs writing.1.0 (lists_on b) under.needs.ends writing.1.1 d h

@@ -15,11 +15,13 @@ use Rattle.edge_lock.specs.declared.history.Hold.{Hold}
 use Rattle.edge_lock.specs.PlainBoard.{PlainBoardValue}
 use Rattle.list_laws.proofs.Members.{In, InOrder, in_filter, filter_in, get_in, pairs_order}
 use Rattle.border_cache.specs.Cells.{CellValue, cell_value}
-use Rattle.border_cache.specs.Copies.{IsGridOf, IsCentre}
+use Rattle.plane_grid.specs.PlaneGrids.{IsGridOf}
+use Rattle.border_cache.specs.Copies.{IsCentre}
 use Rattle.tile_core.specs.Values.{TileWith, TileValue, atoms_of, event_site}
 use Rattle.tile_core.specs.Turns.{Won, Turn, Wins, records_in_turns}
 use Rattle.event_journal.specs.Logs.{log_of, records_in, of_tile, abandoned_by}
-use Rattle.serial_order.specs.Scene.{Setting, log_of_tile, logs_of, Scene, IsOver, registers_at}
+use Rattle.serial_order.specs.Scene.{on_map, log_of_tile, logs_of, Scene, IsOver, registers_at}
+use Rattle.event_journal.specs.Serial.{Course}
 use Rattle.serial_order.specs.Order.{records}
 use Rattle.serial_order.specs.Settled.{IsSettled}
 use Rattle.serial_order.specs.Words.{histories_on}
@@ -29,7 +31,8 @@ use Rattle.serial_order.proofs.Entries.{AreEntries, journal}
 use Rattle.serial_order.proofs.Ground.{owner_inside}
 use Rattle.serial_order.proofs.Journal.{events, ordered}
 use Rattle.serial_order.proofs.Order.{one_writer}
-use Rattle.serial_order.proofs.Promises.{one_grid, one_order}
+use Rattle.plane_grid.proofs.OneGrid.{one_grid}
+use Rattle.serial_order.proofs.Promises.{one_order}
 use Rattle.serial_order.proofs.Replay.{IsJournal, WritesRise, Split, IsLeft, DoneAt, notes, in_notes, replayed, journal_rises, same_latest}
 use Rattle.serial_order.proofs.Tile.{cell_by}
 use Rattle.serial_order.proofs.TileLog.{in_records, records_in as note_in}
@@ -69,9 +72,9 @@ module _ (m : MapValue) (meaning : WindowValue → ℕ → WindowValue) (first :
   pub two_orders : (vs ws : List Won) → IsJournal turns' vs → IsJournal turns' ws → WritesRise m vs → WritesRise m ws → replay meaning first (notes vs) ≡ replay meaning first (notes ws)
   two_orders vs ws i j p q = one_left (replay meaning first (notes vs)) (replay meaning first (notes ws)) (left_by vs i p) (left_by ws j q)
 
-module _ {B : Type 0} (m : MapValue) (g : Setting) (tiles : List (TileWith B)) (board : PlainBoardValue) (o : IsOver (scene_of m (values_of tiles) (histories_on board) g)) (s : Machine) (k : IsLike m g tiles board s) where
+module _ {B : Type 0} (m : MapValue) (g : Course) (tiles : List (TileWith B)) (board : PlainBoardValue) (o : IsOver (scene_of (on_map m g) (values_of tiles) (histories_on board))) (s : Machine) (k : IsLike (on_map m g) tiles board s) where
   abbrev c : Scene
-  c = scene_of m (values_of tiles) (histories_on board) g
+  c = scene_of (on_map m g) (values_of tiles) (histories_on board)
 
   value_there : (t : ℕ) (x : TileWith B) → slice_get tiles t ≡ Some x → slice_get (values_of tiles) t ≡ Some x.core
   value_there t x is = slice_get-map (λ (z : TileWith B). z.core) tiles t ∙ ap (option_map (λ (z : TileWith B). z.core)) is

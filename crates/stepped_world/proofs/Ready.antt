@@ -11,16 +11,17 @@ use Rattle.tile_core.specs.Values.{TileWith, atoms_of}
 use Rattle.tile_core.specs.Underway.{tile_at, IsUnderway, IsSome, GoesOn}
 use Rattle.tile_core.specs.Steps.{rules_of, StepsIn}
 use Rattle.tile_core.proofs.Boards.{board_end}
-use Rattle.serial_order.specs.Scene.{Setting}
+use Rattle.serial_order.specs.Scene.{on_map}
+use Rattle.event_journal.specs.Serial.{Course}
 use Rattle.stepped_world.specs.Running.{IsTileOf, AreUnderway}
 use Rattle.tile_core.specs.Turns.{common}
 use Rattle.stepped_world.proofs.Stepping.{Advances, turned}
 
-module _ {B : Type 0} (after : B → WindowValue → ℕ → WindowValue) (m : MapValue) (g : Setting) (tiles : List (TileWith B)) (t : ℕ) (x : TileWith B) (a b : PlainBoardValue) (u : AreUnderway after m g tiles a) (is : slice_get tiles t ≡ Some x) (acting : b.acting ≡ t) (same : b.edges ≡ a.edges) where
-  now : AreUnderway after m g tiles b
+module _ {B : Type 0} (after : B → WindowValue → ℕ → WindowValue) (m : MapValue) (g : Course) (tiles : List (TileWith B)) (t : ℕ) (x : TileWith B) (a b : PlainBoardValue) (u : AreUnderway after (on_map m g) tiles a) (is : slice_get tiles t ≡ Some x) (acting : b.acting ≡ t) (same : b.edges ≡ a.edges) where
+  now : AreUnderway after (on_map m g) tiles b
   now = turned after m g tiles a b same u
 
-  tile : IsTileOf m g b t x.core
+  tile : IsTileOf (on_map m g) b t x.core
   tile = now.each t x is
 
   pub map_is : m ≡ x.core.cache.map

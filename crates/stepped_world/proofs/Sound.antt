@@ -19,7 +19,8 @@ use Rattle.tile_core.specs.Values.{event_site}
 use Rattle.serial_order.proofs.Ground.{needed, has_in, in_has}
 use Rattle.serial_order.proofs.Tile.{greatest_each}
 use Rattle.stepped_world.specs.Machine.{wanted, Hand, Doing, Drawing, Done, Locking, Refreshing, Behaving, Writing, Giving, Backing, TileState, EdgeState, Machine, at, next_lock, next_give, next_back, does, is_held_by, record_of, drawn, draw, lock, next_stamp, write, step_in, step}
-use Rattle.serial_order.specs.Scene.{Setting}
+use Rattle.serial_order.specs.Scene.{on_map}
+use Rattle.event_journal.specs.Serial.{Course}
 use Rattle.stepped_world.specs.Running.{StampsRise, HasClocks, IsSound}
 
 -- a clock that stays
@@ -41,9 +42,9 @@ replay_more : (meaning : WindowValue → ℕ → WindowValue) (g : GridValue) (r
 replay_more meaning g [] r = refl
 replay_more meaning g (q ∷ rs) r = replay_more meaning (event meaning g q.x q.y q.seed) rs r
 
-module _ (m : MapValue) (plane : IsPlane m) (g : Setting) (t : ℕ) (s : Machine) (k : IsSound m g s) where
+module _ (m : MapValue) (plane : IsPlane m) (g : Course) (t : ℕ) (s : Machine) (k : IsSound (on_map m g) s) where
   -- a step without an event
-  unmoved : (s' : Machine) → s'.records ≡ s.records → s'.grid ≡ s.grid → ((u : ℕ) → (s'.tile u).clock ≡ (s.tile u).clock) → ((e : ℕ) → (s'.edge e).clock ≡ (s.edge e).clock) → IsSound m g s'
+  unmoved : (s' : Machine) → s'.records ≡ s.records → s'.grid ≡ s.grid → ((u : ℕ) → (s'.tile u).clock ≡ (s.tile u).clock) → ((e : ℕ) → (s'.edge e).clock ≡ (s.edge e).clock) → IsSound (on_map m g) s'
   unmoved s' records grid tiles edges = record {
     owned = subst (All (λ (r : Record). IsCentre m r.tile (event_site r))) (sym records) k.owned;
     clocks = subst (All (HasClocks m s')) (sym records) (λ i d lt. let c = k.clocks i d lt in record {
@@ -54,17 +55,17 @@ module _ (m : MapValue) (plane : IsPlane m) (g : Setting) (t : ℕ) (s : Machine
     grid = grid ∙ (k.grid ∙ ap (replay g.meaning g.start) (sym records));
   }
 
-  only : (doing : Doing) → IsSound m g (does t doing s)
+  only : (doing : Doing) → IsSound (on_map m g) (does t doing s)
   only doing = unmoved (does t doing s) refl refl (tile_clock s.tile t (record (s.tile t) { doing = doing }) refl) (λ e. refl)
 
-  frees : (e : ℕ) (holder : Option (ℕ × ℕ)) (doing : Doing) → IsSound m g (does t doing (is_held_by e holder s))
+  frees : (e : ℕ) (holder : Option (ℕ × ℕ)) (doing : Doing) → IsSound (on_map m g) (does t doing (is_held_by e holder s))
   frees e holder doing = unmoved (does t doing (is_held_by e holder s)) refl refl (tile_clock s.tile t (record (s.tile t) { doing = doing }) refl) (edge_clock s.edge e (record (s.edge e) { holder = holder }) refl)
 
-  draws : (left : List Attempt) → IsSound m g (draw m t left s)
+  draws : (left : List Attempt) → IsSound (on_map m g) (draw m t left s)
   draws [] = only Done
   draws (a ∷ more) = unmoved (draw m t (a ∷ more) s) refl refl (tile_clock s.tile t (drawn m t a more (s.tile t)) refl) (λ e. refl)
 
-  locks : (h : Hand) (had : List ℕ) (e : ℕ) (es : List ℕ) (o : Option (ℕ × ℕ)) → IsSound m g (lock t (wanted h had e es) o s)
+  locks : (h : Hand) (had : List ℕ) (e : ℕ) (es : List ℕ) (o : Option (ℕ × ℕ)) → IsSound (on_map m g) (lock t (wanted h had e es) o s)
   locks h had e es None = frees e (Some (t, h.attempt)) (next_lock h (had ++ e ∷ []) es)
   locks h had e es (Some p) = unmoved (lock t (wanted h had e es) (Some p) s) refl refl (tile_clock s.tile t (record (s.tile t) { doing = next_back had (s.tile t).left }) refl) (λ d. refl)
 
@@ -128,7 +129,7 @@ module _ (m : MapValue) (plane : IsPlane m) (g : Setting) (t : ℕ) (s : Machine
             let low = clocks.edges e.0 second in let lt = above_edge e.0 first in
             omega (arith, low, lt)
 
-    writes : IsSound m g (write m g.meaning t h (next_stamp m t h s) s)
+    writes : IsSound (on_map m g) (write m g.meaning t h (next_stamp m t h s) s)
     writes = record {
       owned = All-push (λ (r : Record). IsCentre m r.tile (event_site r)) s.records new k.owned centre;
       clocks = All-push (HasClocks m after) s.records new
@@ -141,7 +142,7 @@ module _ (m : MapValue) (plane : IsPlane m) (g : Setting) (t : ℕ) (s : Machine
       grid = ap (λ z. event g.meaning z h.site.x h.site.y h.seed) k.grid ∙ sym (replay_more g.meaning g.start s.records new);
     }
 
-  step_by : (p : Doing) → ((h : Hand) → p ≡ Writing h → IsCentre m t h.site) → IsSound m g (step_in m g.meaning t s p)
+  step_by : (p : Doing) → ((h : Hand) → p ≡ Writing h → IsCentre m t h.site) → IsSound (on_map m g) (step_in m g.meaning t s p)
   step_by Drawing c = draws (s.tile t).left
   step_by Done c = k
   step_by (Locking h had e es) c = locks h had e es (s.edge e).holder
@@ -152,5 +153,5 @@ module _ (m : MapValue) (plane : IsPlane m) (g : Setting) (t : ℕ) (s : Machine
   step_by (Backing e es) c = frees e None (next_back es (s.tile t).left)
 
   -- a step keeps it, where the tile writes at a live site of its own
-  pub step_sound : ((h : Hand) → (s.tile t).doing ≡ Writing h → IsCentre m t h.site) → IsSound m g (step m g.meaning t s)
+  pub step_sound : ((h : Hand) → (s.tile t).doing ≡ Writing h → IsCentre m t h.site) → IsSound (on_map m g) (step m g.meaning t s)
   step_sound c = step_by (s.tile t).doing c

@@ -17,7 +17,8 @@ use Rattle.tile_core.specs.Underway.{tile_at, IsUnderway, InPhase}
 use Rattle.tile_core.proofs.Boards.{board_new, fresh_there}
 use Rattle.stepped_world.specs.Machine.{Drawing, next_draw, first_machine}
 use Rattle.stepped_world.specs.Matching.{doing_in, who, Matches}
-use Rattle.serial_order.specs.Scene.{common_in, Setting}
+use Rattle.serial_order.specs.Scene.{on_map, common_in}
+use Rattle.event_journal.specs.Serial.{Course}
 use Rattle.stepped_world.specs.Running.{IsStart, AreUnderway, IsSound, IsLike}
 
 nothing_yet : (zs : List EdgeSize) (e : ℕ) → (get_or (map untouched_edge zs) e no_edge).holds ≡ []
@@ -60,12 +61,12 @@ module _ (m : MapValue) (meaning : WindowValue → ℕ → WindowValue) (start :
       go Give is h = absurd (giving u.turns tile.needs (no_turns u.turns h.0) h.2)
       go Back is h = absurd (giving u.turns _ (no_turns u.turns h.0) h.4)
 
-module _ {B : Type 0} (after : B → WindowValue → ℕ → WindowValue) (m : MapValue) (g : Setting) (tiles : List (TileWith B)) (board : PlainBoardValue) (s : IsStart after m g tiles board) where
-  there : (t : ℕ) (x : TileWith B) → slice_get tiles t ≡ Some x → IsUnderway (common_in m g) (attempts g.plan t) x.core (lists_of_tile board t)
+module _ {B : Type 0} (after : B → WindowValue → ℕ → WindowValue) (m : MapValue) (g : Course) (tiles : List (TileWith B)) (board : PlainBoardValue) (s : IsStart after (on_map m g) tiles board) where
+  there : (t : ℕ) (x : TileWith B) → slice_get tiles t ≡ Some x → IsUnderway (common_in (on_map m g)) (attempts g.plan t) x.core (lists_of_tile board t)
   there t x is = let f = s.tiles_are.fresh t x is in
-      subst (λ n. IsUnderway (common_in m g) (attempts g.plan t) x.core (lists_of_tile board n)) f.number (fresh_there m board s.edges g.meaning t (atoms_of g.start) (attempts g.plan t) x.core f)
+      subst (λ n. IsUnderway (common_in (on_map m g)) (attempts g.plan t) x.core (lists_of_tile board n)) f.number (fresh_there m board s.edges g.meaning t (atoms_of g.start) (attempts g.plan t) x.core f)
 
-  pub first_underway : AreUnderway after m g tiles board
+  pub first_underway : AreUnderway after (on_map m g) tiles board
   first_underway = record {
     count = s.tiles_are.count;
     each = λ t x is. record { number = (s.tiles_are.fresh t x is).number; underway = there t x is };
@@ -90,7 +91,7 @@ module _ {B : Type 0} (after : B → WindowValue → ℕ → WindowValue) (m : M
         record { clock = ap (λ hs. register_value hs 0) none; holder = ap (λ hs. who m e (open_hold hs)) none };
   }
 
-  first_sound : IsSound m g (first_machine g.start g.plan)
+  first_sound : IsSound (on_map m g) (first_machine g.start g.plan)
   first_sound = record {
     owned = λ i d lt. absurd (omega (arith, lt));
     clocks = λ i d lt. absurd (omega (arith, lt));
@@ -98,5 +99,5 @@ module _ {B : Type 0} (after : B → WindowValue → ℕ → WindowValue) (m : M
     grid = refl;
   }
 
-  pub first_like : IsLike m g tiles board (first_machine g.start g.plan)
+  pub first_like : IsLike (on_map m g) tiles board (first_machine g.start g.plan)
   first_like = record { matches = first_matches; sound = first_sound }

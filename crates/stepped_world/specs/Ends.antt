@@ -13,10 +13,11 @@ use Rattle.tile_core.specs.declared.phase.Phase.TheVariants.{Finished}
 use Rattle.tile_core.specs.Values.{TileWith, TileValue}
 use Rattle.tile_core.specs.Turns.{HasPlayed}
 use Rattle.event_journal.specs.Logs.{LogValue, log_of, records_in, of_tile, abandoned_by}
-use Rattle.serial_order.specs.Scene.{Setting, common_in, EdgeHistory, IsOver, logs_of, registers_at}
+use Rattle.event_journal.specs.Serial.{Course}
+use Rattle.serial_order.specs.Scene.{InEachCourse, common_in, IsOver, logs_of, registers_at}
 use Rattle.serial_order.specs.Settled.{IsSettled}
 use Rattle.serial_order.specs.Words.{plain_words, AreEdgeWords, histories_on}
-use Rattle.serial_order.specs.Outcomes.{IsSettlement, scene_of, values_of}
+use Rattle.serial_order.specs.Outcomes.{StandsInOneOrder, scene_of, values_of}
 use Rattle.serial_order.specs.declared.outcome.Outcome.{Outcome}
 use Rattle.stepped_world.specs.Machine.{Done, Machine, stepped}
 use Rattle.stepped_world.specs.Matching.{Matches}
@@ -24,22 +25,22 @@ use Rattle.stepped_world.specs.Running.{IsStart}
 use Rattle.tile_core.specs.Underway.{made_by, IsMade}
 
 -- tile t has played all its attempts of the plan, and keeps its number and its map
-pub record HasFinished (m : MapValue) (g : Setting) (board : PlainBoardValue) (t : ℕ) (tile : TileValue) : Type 0 where
+pub record HasFinished (c : Course) (board : PlainBoardValue) (t : ℕ) (tile : TileValue) : Type 0 where
   pub number : tile.number ≡ t
-  pub map : tile.cache.map ≡ m
+  pub map : tile.cache.map ≡ c.map
   pub phase : tile.phase ≡ Finished
-  pub played : HasPlayed (common_in m g) t (attempts g.plan t) (made_by tile (lists_of_tile board t))
+  pub played : HasPlayed (common_in c) t (attempts c.plan t) (made_by tile (lists_of_tile board t))
 
 -- the run is over: each tile has played all its attempts and keeps its meaning, nobody has an edge, and everything holds that
 -- the settling of the grid requires
-pub record HasRun {B : Type 0} (after : B → WindowValue → ℕ → WindowValue) (m : MapValue) (g : Setting) (tiles : List (TileWith B)) (board : PlainBoardValue) : Type 0 where
-  pub count : length tiles ≡ tiles_of m
-  pub finished : (t : ℕ) (x : TileWith B) → slice_get tiles t ≡ Some x → HasFinished m g board t x.core
-  pub meanings : (t : ℕ) (x : TileWith B) → slice_get tiles t ≡ Some x → after x.behave ≡ g.meaning
+pub record HasRun {B : Type 0} (after : B → WindowValue → ℕ → WindowValue) (c : Course) (tiles : List (TileWith B)) (board : PlainBoardValue) : Type 0 where
+  pub count : length tiles ≡ tiles_of c.map
+  pub finished : (t : ℕ) (x : TileWith B) → slice_get tiles t ≡ Some x → HasFinished c board t x.core
+  pub meanings : (t : ℕ) (x : TileWith B) → slice_get tiles t ≡ Some x → after x.behave ≡ c.meaning
   pub shut : (e : ℕ) → open_hold (edge_at board e).holds ≡ None
-  pub made : All (λ (x : TileWith B). IsMade m x.core) tiles
-  pub words : AreEdgeWords m (plain_words board)
-  pub over : IsOver (scene_of m (values_of tiles) (histories_on board) g)
+  pub made : All (λ (x : TileWith B). IsMade c.map x.core) tiles
+  pub words : AreEdgeWords c.map (plain_words board)
+  pub over : IsOver (scene_of c (values_of tiles) (histories_on board))
 
 -- the logs of all tiles, as the machine has them
 abbrev pub logs_in : MapValue → Machine → List LogValue
@@ -47,20 +48,18 @@ logs_in m s = map (λ t. log_of t (of_tile t s.records) (abandoned_by t s.abando
 
 -- Tiles, edges and entries are those of the stepped machine, and a grid of the newest cells is its grid. That grid is also what
 -- its events make of the start in the order of the journal.
-pub record IsAsStepped {B : Type 0} (m : MapValue) (g : Setting) (tiles : List (TileWith B)) (board : PlainBoardValue) (order : List ℕ) : Type 0 where
-  pub matches : Matches m tiles board (stepped m g.meaning g.start g.plan order)
-  pub logs : logs_of (values_of tiles) ≡ logs_in m (stepped m g.meaning g.start g.plan order)
-  pub newest : (h : GridValue) → IsSettled m (values_of tiles) (registers_at (histories_on board)) h → h ≡ (stepped m g.meaning g.start g.plan order).grid
-  pub replayed : replay g.meaning g.start (records_in (logs_in m (stepped m g.meaning g.start g.plan order))) ≡ (stepped m g.meaning g.start g.plan order).grid
+pub record IsAsStepped {B : Type 0} (c : Course) (tiles : List (TileWith B)) (board : PlainBoardValue) (order : List ℕ) : Type 0 where
+  pub matches : Matches c.map tiles board (stepped c.map c.meaning c.start c.plan order)
+  pub logs : logs_of (values_of tiles) ≡ logs_in c.map (stepped c.map c.meaning c.start c.plan order)
+  pub newest : (h : GridValue) → IsSettled c.map (values_of tiles) (registers_at (histories_on board)) h → h ≡ (stepped c.map c.meaning c.start c.plan order).grid
+  pub replayed : replay c.meaning c.start (records_in (logs_in c.map (stepped c.map c.meaning c.start c.plan order))) ≡ (stepped c.map c.meaning c.start c.plan order).grid
 
 -- the result of a run: the grid and the logs of the stepped machine. All its events stand in one
 -- serial order, that of the journal.
-pub record IsOutcome (m : MapValue) (g : Setting) (order : List ℕ) (o : Outcome) : Type 0 where
-  pub grid : o.grid ≡ (stepped m g.meaning g.start g.plan order).grid
-  pub journal : o.journal ≡ logs_in m (stepped m g.meaning g.start g.plan order)
-  pub tiles : List TileValue
-  pub edges : List EdgeHistory
-  pub settled : IsSettlement (scene_of m tiles edges g) o
+pub record IsOutcome (c : Course) (order : List ℕ) (o : Outcome) : Type 0 where
+  pub grid : o.grid ≡ (stepped c.map c.meaning c.start c.plan order).grid
+  pub journal : o.journal ≡ logs_in c.map (stepped c.map c.meaning c.start c.plan order)
+  pub in_order : StandsInOneOrder c o
 
 -- the machine finishes each of its tiles, whatever steps come first
 abbrev pub ComesToItsEnd : Type 0
@@ -71,6 +70,6 @@ ComesToItsEnd = (m : MapValue) (meaning : WindowValue → ℕ → WindowValue) (
 abbrev pub DrainsTo : {S : Type 0} → (S → Option ℕ → S → Type 0) → S → (List ℕ → Type 0) → Type 0
 DrainsTo steps s P = (xs : List ℕ) × Drains steps s xs × P xs
 
--- this holds in each setting in which these are fresh tiles and a fresh board
-abbrev pub FromStart : {B : Type 0} → (B → WindowValue → ℕ → WindowValue) → MapValue → List (TileWith B) → PlainBoardValue → (Setting → Type 0) → Type 0
-FromStart after m tiles board P = (g : Setting) → IsStart after m g tiles board → P g
+-- this holds in each course of the map in which these are fresh tiles and a fresh board
+abbrev pub FromStart : {B : Type 0} → (B → WindowValue → ℕ → WindowValue) → MapValue → List (TileWith B) → PlainBoardValue → (Course → Type 0) → Type 0
+FromStart after m tiles board P = InEachCourse m (λ c. IsStart after c tiles board → P c)

@@ -4,10 +4,12 @@ use Rattle.std.specs.List.{range_with_len}
 use Rattle.tile_core.specs.Steps.{steps_in}
 use Rattle.window_sites.specs.Window.{WindowValue}
 use Rattle.tile_map.specs.Plane.{Site, MapValue, tiles_of, in_window}
-use Rattle.tile_map.specs.Edges.{sizes_of, needs_of}
+use Rattle.edge_lock.specs.Edges.{sizes_of}
+use Rattle.tile_map.specs.Edges.{needs_of}
 use Rattle.cell_grid.specs.declared.record.Record.{Record}
 use Rattle.cell_grid.specs.Records.{replay}
 use Rattle.draw_stream.specs.Plans.{attempts}
+use Rattle.event_journal.specs.Serial.{Course}
 use Rattle.edge_lock.specs.PlainBoard.{PlainBoardValue, lists_of_tile, untouched_edge, sizes_of_board}
 use Rattle.border_cache.specs.Copies.{IsCentre}
 use Rattle.border_cache.specs.Windows.{has}
@@ -16,27 +18,27 @@ use Rattle.tile_core.specs.declared.phase.Phase.TheVariants.{Draw, Lock, Refresh
 use Rattle.tile_core.specs.Values.{TileWith, TileValue, event_site}
 use Rattle.tile_core.specs.Underway.{IsUnderway}
 use Rattle.tile_core.specs.Boards.{IsBoardOf}
-use Rattle.serial_order.specs.Scene.{Setting, common_in}
+use Rattle.serial_order.specs.Scene.{InEachCourse, common_in}
 use Rattle.serial_order.specs.Fresh.{AreFresh}
 use Rattle.stepped_world.specs.Machine.{Machine, step, steps, finish_tile, finish}
 use Rattle.stepped_world.specs.Matching.{Matches}
 
 -- fresh tiles of the plane and a fresh board of it
-pub record IsStart {B : Type 0} (after : B → WindowValue → ℕ → WindowValue) (m : MapValue) (g : Setting) (tiles : List (TileWith B)) (board : PlainBoardValue) : Type 0 where
-  pub tiles_are : AreFresh after m g tiles
-  pub edges : board.edges ≡ map untouched_edge (sizes_of m)
+pub record IsStart {B : Type 0} (after : B → WindowValue → ℕ → WindowValue) (c : Course) (tiles : List (TileWith B)) (board : PlainBoardValue) : Type 0 where
+  pub tiles_are : AreFresh after c tiles
+  pub edges : board.edges ≡ map untouched_edge (sizes_of c.map)
 
 -- tile t is underway on the board
-pub record IsTileOf (m : MapValue) (g : Setting) (board : PlainBoardValue) (t : ℕ) (tile : TileValue) : Type 0 where
+pub record IsTileOf (c : Course) (board : PlainBoardValue) (t : ℕ) (tile : TileValue) : Type 0 where
   pub number : tile.number ≡ t
-  pub underway : IsUnderway (common_in m g) (attempts g.plan t) tile (lists_of_tile board t)
+  pub underway : IsUnderway (common_in c) (attempts c.plan t) tile (lists_of_tile board t)
 
 -- all tiles are underway on one board of the plane
-pub record AreUnderway {B : Type 0} (after : B → WindowValue → ℕ → WindowValue) (m : MapValue) (g : Setting) (tiles : List (TileWith B)) (board : PlainBoardValue) : Type 0 where
-  pub count : length tiles ≡ tiles_of m
-  pub each : (t : ℕ) (x : TileWith B) → slice_get tiles t ≡ Some x → IsTileOf m g board t x.core
-  pub meanings : (t : ℕ) (x : TileWith B) → slice_get tiles t ≡ Some x → after x.behave ≡ g.meaning
-  pub board_is : IsBoardOf m board
+pub record AreUnderway {B : Type 0} (after : B → WindowValue → ℕ → WindowValue) (c : Course) (tiles : List (TileWith B)) (board : PlainBoardValue) : Type 0 where
+  pub count : length tiles ≡ tiles_of c.map
+  pub each : (t : ℕ) (x : TileWith B) → slice_get tiles t ≡ Some x → IsTileOf c board t x.core
+  pub meanings : (t : ℕ) (x : TileWith B) → slice_get tiles t ≡ Some x → after x.behave ≡ c.meaning
+  pub board_is : IsBoardOf c.map board
 
 -- whether a step of the tile does nothing any more
 abbrev pub is_still : Phase → Bool
@@ -78,19 +80,19 @@ pub record HasClocks (m : MapValue) (s : Machine) (r : Record) : Type 0 where
 
 -- What holds of the machine by itself: each event is at a live site of its tile, the clocks are not behind, at each site stamps
 -- rise with time, and the grid is what the events made of the start, in the order of time.
-pub record IsSound (m : MapValue) (g : Setting) (s : Machine) : Type 0 where
-  pub owned : All (λ (r : Record). IsCentre m r.tile (event_site r)) s.records
-  pub clocks : All (HasClocks m s) s.records
-  pub rises : AllPairs (StampsRise m) s.records
-  pub grid : s.grid ≡ replay g.meaning g.start s.records
+pub record IsSound (c : Course) (s : Machine) : Type 0 where
+  pub owned : All (λ (r : Record). IsCentre c.map r.tile (event_site r)) s.records
+  pub clocks : All (HasClocks c.map s) s.records
+  pub rises : AllPairs (StampsRise c.map) s.records
+  pub grid : s.grid ≡ replay c.meaning c.start s.records
 
-pub record IsLike {B : Type 0} (m : MapValue) (g : Setting) (tiles : List (TileWith B)) (board : PlainBoardValue) (s : Machine) : Type 0 where
-  pub matches : Matches m tiles board s
-  pub sound : IsSound m g s
+pub record IsLike {B : Type 0} (c : Course) (tiles : List (TileWith B)) (board : PlainBoardValue) (s : Machine) : Type 0 where
+  pub matches : Matches c.map tiles board s
+  pub sound : IsSound c s
 
 -- the tiles and the edges are as the machine has them, or some tile is worn out, which the machine does not know
-abbrev pub AreLike : {B : Type 0} → MapValue → Setting → List (TileWith B) → PlainBoardValue → Machine → Type 0
-AreLike m g tiles board s = IsLike m g tiles board s ⊎ AnyIsWorn tiles
+abbrev pub AreLike : {B : Type 0} → Course → List (TileWith B) → PlainBoardValue → Machine → Type 0
+AreLike c tiles board s = IsLike c tiles board s ⊎ AnyIsWorn tiles
 
 -- all tiles of a plane, and the board on which their ends act
 pub record TilesOnBoard (B : Type 0) : Type 0 where
@@ -124,11 +126,11 @@ rest_by ts m meaning s = finish m meaning ts s
 abbrev pub rest_of_all : Act
 rest_of_all m meaning s = finish m meaning (range_with_len 0 (tiles_of m)) s
 
--- The tiles made some steps, as the machine does in this act: from whatever setting they were underway, they still are; if they
+-- The tiles made some steps, as the machine does in this act: in whatever course of the map they were underway, they still are; if they
 -- were as a machine has them, they are now as that machine has them after the act, or some tile is worn out. A tile that stood
 -- still still does, and the board keeps its sizes.
 pub record Follows {B : Type 0} (after : B → WindowValue → ℕ → WindowValue) (m : MapValue) (old new : TilesOnBoard B) (act : Act) : Type 0 where
-  pub underway : (g : Setting) → AreUnderway after m g old.tiles old.board → AreUnderway after m g new.tiles new.board
-  pub like : (g : Setting) (s : Machine) → AreUnderway after m g old.tiles old.board → AreLike m g old.tiles old.board s → AreLike m g new.tiles new.board (act m g.meaning s)
+  pub underway : InEachCourse m (λ c. AreUnderway after c old.tiles old.board → AreUnderway after c new.tiles new.board)
+  pub like : InEachCourse m (λ c. (s : Machine) → AreUnderway after c old.tiles old.board → AreLike c old.tiles old.board s → AreLike c new.tiles new.board (act c.map c.meaning s))
   pub still : (t : ℕ) → stands_still (slice_get old.tiles t) ≡ true → stands_still (slice_get new.tiles t) ≡ true
   pub sizes : sizes_of_board new.board ≡ sizes_of_board old.board

@@ -3,7 +3,7 @@ ghost use Rattle.std.specs.Prelude.{◌≡◌, ◌<◌, ℕ, All, IsTrue, false,
 ghost use Rattle.std.specs.Iterator.{IsFinite, HoldsAlong};
 ghost use Rattle.tile_map.specs.Plane.{tiles_of};
 ghost use Rattle.edge_lock.specs.PlainBoard.{sizes_of_board};
-ghost use Rattle.serial_order.specs.Scene.{Setting};
+ghost use Rattle.serial_order.specs.Scene.{InSomeCourse};
 ghost use Rattle.stepped_world.specs.Running.{IsStart, AreUnderway, Follows, HasFewerAhead, on_board, is_still, rest_of, rest_of_all, stands_still, step_of, steps_by};
 ghost use Rattle.stepped_world.specs.Ends.{DrainsTo, FromStart, HasRun, IsAsStepped};
 
@@ -30,7 +30,7 @@ fn stands_still<B: Behave>(tiles: &[Tile<B>], tile: u32) -> bool
 /// Lets a tile make one step.
 fn step_one<B: Behave>(map: &Map, tiles: &mut [Tile<B>], board: &mut PlainBoard, tile: u32)
     requires tile { tile < tiles_of map.now }
-    requires ready { (g : Setting) × AreUnderway B.after map.now g tiles.old board.old }
+    requires ready { InSomeCourse map.now (λ c. AreUnderway B.after c tiles.old board.old) }
     ensures follows { Follows B.after map.now (on_board tiles.old board.old) (on_board tiles.new board.new) (step_of tile) }
     ensures fewer { stands_still (slice_get tiles.old tile) ≡ false → HasFewerAhead tiles.old tiles.new tile }
 {
@@ -42,7 +42,7 @@ fn step_one<B: Behave>(map: &Map, tiles: &mut [Tile<B>], board: &mut PlainBoard,
 /// Lets a tile step until it stands still.
 fn finish_one<B: Behave>(map: &Map, tiles: &mut [Tile<B>], board: &mut PlainBoard, tile: u32)
     requires tile { tile < tiles_of map.now }
-    requires ready { (g : Setting) × AreUnderway B.after map.now g tiles.old board.old }
+    requires ready { InSomeCourse map.now (λ c. AreUnderway B.after c tiles.old board.old) }
     ensures follows { Follows B.after map.now (on_board tiles.old board.old) (on_board tiles.new board.new) (rest_of tile) }
     ensures still { IsTrue (stands_still (slice_get tiles.new tile)) }
 {
@@ -61,7 +61,7 @@ fn follow<B: Behave, O: Iterator<Item = u32>>(
     requires can { O.can_next order }
     requires ends { IsFinite (O.remaining order) }
     requires names { HoldsAlong O.next_gives order (All (λ t. t < tiles_of map.now)) }
-    requires ready { (g : Setting) × AreUnderway B.after map.now g tiles.old board.old }
+    requires ready { InSomeCourse map.now (λ c. AreUnderway B.after c tiles.old board.old) }
     ensures follows { DrainsTo O.next_gives order (λ xs. Follows B.after map.now (on_board tiles.old board.old) (on_board tiles.new board.new) (steps_by xs)) }
 {
     for tile in order {
@@ -71,7 +71,7 @@ fn follow<B: Behave, O: Iterator<Item = u32>>(
 
 /// Lets each tile step until it stands still, one after another.
 fn finish_all<B: Behave>(map: &Map, tiles: &mut [Tile<B>], board: &mut PlainBoard)
-    requires ready { (g : Setting) × AreUnderway B.after map.now g tiles.old board.old }
+    requires ready { InSomeCourse map.now (λ c. AreUnderway B.after c tiles.old board.old) }
     ensures follows { Follows B.after map.now (on_board tiles.old board.old) (on_board tiles.new board.new) rest_of_all }
     ensures still { (t : ℕ) → t < tiles_of map.now → IsTrue (stands_still (slice_get tiles.new t)) }
 {
@@ -94,12 +94,12 @@ pub fn run_steps<B: Behave, O: Iterator<Item = u32>>(
     board: &mut PlainBoard,
     order: O,
 )
-    requires start { (g : Setting) × IsStart B.after map.now g tiles.old board.old }
+    requires start { InSomeCourse map.now (λ c. IsStart B.after c tiles.old board.old) }
     requires can { O.can_next order }
     requires ends { IsFinite (O.remaining order) }
     requires names { HoldsAlong O.next_gives order (All (λ t. t < tiles_of map.now)) }
-    ensures run { FromStart B.after map.now tiles.old board.old (λ g. HasRun B.after map.now g tiles.new board.new) }
-    ensures stepped { DrainsTo O.next_gives order (λ xs. FromStart B.after map.now tiles.old board.old (λ g. IsAsStepped map.now g tiles.new board.new xs)) }
+    ensures run { FromStart B.after map.now tiles.old board.old (λ c. HasRun B.after c tiles.new board.new) }
+    ensures stepped { DrainsTo O.next_gives order (λ xs. FromStart B.after map.now tiles.old board.old (λ c. IsAsStepped c tiles.new board.new xs)) }
     ensures sizes { sizes_of_board board.new ≡ sizes_of_board board.old }
 {
     map.laws();

@@ -2,7 +2,7 @@
 ghost use Rattle.std.specs.Prelude.{◌<◌, All, IfOk};
 ghost use Rattle.std.specs.Iterator.{IsFinite, HoldsAlong};
 ghost use Rattle.tile_map.specs.Plane.{tiles_of};
-ghost use Rattle.serial_order.specs.Scene.{Setting};
+ghost use Rattle.serial_order.specs.Scene.{InSomeCourse};
 ghost use Rattle.stepped_world.specs.Running.{IsStart};
 ghost use Rattle.stepped_world.specs.Ends.{DrainsTo, FromStart, IsOutcome};
 
@@ -26,11 +26,11 @@ pub fn run_settled<B: Behave + Drop, O: Iterator<Item = u32>>(
     board: PlainBoard,
     order: O,
 ) -> Result<Outcome, NoMemory>
-    requires start { (g : Setting) × IsStart B.after map.now g tiles.items board }
+    requires start { InSomeCourse map.now (λ c. IsStart B.after c tiles.items board) }
     requires can { O.can_next order }
     requires ends { IsFinite (O.remaining order) }
     requires names { HoldsAlong O.next_gives order (All (λ t. t < tiles_of map.now)) }
-    ensures outcome { IfOk result (λ o. DrainsTo O.next_gives order (λ xs. FromStart B.after map.now tiles.items board (λ g. IsOutcome map.now g xs o))) }
+    ensures outcome { IfOk result (λ o. DrainsTo O.next_gives order (λ xs. FromStart B.after map.now tiles.items board (λ c. IsOutcome c xs o))) }
 {
     let mut tiles = tiles;
     let mut board = board;

@@ -1,10 +1,10 @@
 -- The tiles of a plane and the board of one thread, on which their ends act in turn.
 use Rattle.std.specs.Prelude.{ℕ, ◌≡◌, ◌≢◌, ◌<◌, List, length, map}
-use Rattle.edge_lock.specs.Edges.{registers_of}
+use Rattle.edge_lock.specs.Edges.{registers_of, sizes_of}
 use Rattle.bit_field.specs.Atom.{AtomValue}
 use Rattle.window_sites.specs.Window.{WindowValue}
 use Rattle.tile_map.specs.Plane.{Site, MapValue, tiles_of}
-use Rattle.tile_map.specs.Edges.{pairs_of, low_end, high_end, sizes_of}
+use Rattle.tile_map.specs.Edges.{pairs_of, low_end, high_end}
 use Rattle.tile_map.specs.Laws.{IsPlane}
 use Rattle.draw_stream.specs.declared.attempt.Attempt.{Attempt}
 use Rattle.edge_lock.specs.PlainEdges.{PlainEdgeValue}

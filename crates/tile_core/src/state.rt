@@ -2,7 +2,8 @@
 ghost use Rattle.std.specs.Prelude.{◌≡◌, ◌<◌, ◌≤◌, ◌+◌, ◌-◌, ◌*◌, ℕ, length, nat_lt, IfOk};
 ghost use Rattle.tile_map.specs.Plane.{site, tiles_of};
 ghost use Rattle.tile_map.specs.Edges.{pairs_of, other_end};
-ghost use Rattle.border_cache.specs.Copies.{IsEndOf, IsGridOf, IsCentre};
+ghost use Rattle.plane_grid.specs.PlaneGrids.{IsGridOf};
+ghost use Rattle.border_cache.specs.Copies.{IsEndOf, IsCentre};
 ghost use Rattle.tile_core.specs.declared.phase.Phase.TheVariants.{Draw, Lock, Refresh, Behave, Write, Give, Back};
 ghost use Rattle.edge_lock.specs.EndLists.{EndLists};
 ghost use Rattle.edge_lock.specs.EndValues.{SameEnd};

@@ -2,7 +2,8 @@
 ghost use Rattle.std.specs.Prelude.{◌≡◌, ◌+◌, IsTrue, IfOk};
 ghost use Rattle.event_journal.specs.Logs.{log_of};
 ghost use Rattle.edge_lock.specs.EndValues.{SameEnd};
-ghost use Rattle.border_cache.specs.Copies.{IsGridOf, IsEndOf};
+ghost use Rattle.plane_grid.specs.PlaneGrids.{IsGridOf};
+ghost use Rattle.border_cache.specs.Copies.{IsEndOf};
 ghost use Rattle.tile_core.specs.declared.phase.Phase.TheVariants.{Draw, Worn};
 ghost use Rattle.tile_core.specs.Values.{atoms_of, in_hand_at};
 ghost use Rattle.tile_core.specs.Underway.{CanAttempt, IsFreshTile, IsSome, IsMade, KeepsOn, KeepsFar, IsPlayedAt, IsPlayedAll};

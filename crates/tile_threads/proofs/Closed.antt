@@ -22,7 +22,8 @@ use Rattle.border_cache.specs.Windows.{end_at, sites_on}
 use Rattle.tile_core.specs.Values.{TileWith, TileValue, atoms_of}
 use Rattle.tile_core.specs.Turns.{common, AgreeOnEdges}
 use Rattle.tile_core.proofs.Boards.{end_known}
-use Rattle.serial_order.specs.Scene.{Setting, common_in, EdgeHistory, no_history, history_at, end_lists_of, lists_at, HasEnded}
+use Rattle.serial_order.specs.Scene.{on_map, common_in, EdgeHistory, no_history, history_at, end_lists_of, lists_at, HasEnded}
+use Rattle.event_journal.specs.Serial.{Course}
 use Rattle.serial_order.specs.Words.{closed_words, AreEdgeWords, closed_history, closed_histories, no_closed, closed_at}
 use Rattle.serial_order.specs.Outcomes.{values_of}
 use Rattle.edge_lock.specs.Passes.{EdgeValue, PassValue}
@@ -91,8 +92,8 @@ ended_agrees m meaning start given tile a b same h = record {
   cells = h.cells;
 }
 
-module _ {B : Type 0} (after : B → WindowValue → ℕ → WindowValue) (m : MapValue) (valid : IsMap m) (g : Setting) (fresh tiles : List (TileWith B)) (f : AreFresh after m g fresh)
-    (edges : List EdgeValue) (passes : List (List PassValue)) (r : HaveReturned m g edges tiles passes) (closed : List ClosedValue) (k : AreClosed m (λ t. pass_lists (passes_of passes t)) closed)
+module _ {B : Type 0} (after : B → WindowValue → ℕ → WindowValue) (m : MapValue) (valid : IsMap m) (g : Course) (fresh tiles : List (TileWith B)) (f : AreFresh after (on_map m g) fresh)
+    (edges : List EdgeValue) (passes : List (List PassValue)) (r : HaveReturned (on_map m g) edges tiles passes) (closed : List ClosedValue) (k : AreClosed m (λ t. pass_lists (passes_of passes t)) closed)
   where
     tile_at : (t : ℕ) (v : TileValue) → slice_get (values_of tiles) t ≡ Some v → (x : TileWith B) × (slice_get tiles t ≡ Some x) × (x.core ≡ v)
     tile_at t v is = go tiles t is
@@ -102,7 +103,7 @@ module _ {B : Type 0} (after : B → WindowValue → ℕ → WindowValue) (m : M
         go (x ∷ xs) zero is = (x, refl, cc is)
         go (x ∷ xs) (suc t) is = go xs t is
 
-    pub has_run : HasRun m g tiles closed
+    pub has_run : HasRun (on_map m g) tiles closed
     has_run = record {
       made = r.made;
       words = words_are m (λ t. pass_lists (passes_of passes t)) closed k;
@@ -118,7 +119,7 @@ module _ {B : Type 0} (after : B → WindowValue → ℕ → WindowValue) (m : M
             let q = tile_at t v is in
             let lt = slice_get_within tiles t q.0 q.1 in
             let inside : t < tiles_of m = let c = r.count in omega (arith, lt, c) in
-            subst (λ (y : TileValue). HasEnded (common_in m g) (attempts g.plan t) (lists_at m (closed_histories closed) t) y) q.2
+            subst (λ (y : TileValue). HasEnded (common_in (on_map m g)) (attempts g.plan t) (lists_at m (closed_histories closed) t) y) q.2
             (ended_agrees m g.meaning g.start (attempts g.plan t) q.0.core (pass_lists (passes_of passes t)) (lists_at m (closed_histories closed) t)
             (subst (λ n. (e : ℕ) → has_end m n e ≡ true → lists_at m (closed_histories closed) t e ≡ pass_lists (passes_of passes t) e) (sym (r.numbers t q.0 q.1)) (lists_same m (λ t. pass_lists (passes_of passes t)) closed k t inside))
             (r.ended t q.0 q.1));

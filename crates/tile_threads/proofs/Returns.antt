@@ -20,7 +20,8 @@ use Rattle.tile_core.specs.Steps.{is_over}
 use Rattle.tile_core.specs.Turns.{common, Turn}
 use Rattle.tile_core.specs.Underway.{tile_at, InPhase, IsGiving, IsFreshTile, IsMade}
 use Rattle.tile_core.proofs.Boards.{end_known}
-use Rattle.serial_order.specs.Scene.{Setting, common_in, HasEnded}
+use Rattle.serial_order.specs.Scene.{on_map, common_in, HasEnded}
+use Rattle.event_journal.specs.Serial.{Course}
 use Rattle.tile_threads.specs.declared.worker.Worker.{Worker}
 use Rattle.tile_threads.specs.Runs.{worker_value, IsReady, HasWorked, AreReady, HaveWorked, EndsMoved}
 use Rattle.border_cache.proofs.Stored.{end_stays}
@@ -75,7 +76,7 @@ all_stand m es ps k t d lt =
     same (x ∷ xs) zero d lt = refl
     same (x ∷ xs) (suc t) d lt = same xs t d (omega (arith, lt))
 
-module _ {B : Type 0} (after : B → WindowValue → ℕ → WindowValue) (m : MapValue) (es : List EdgeValue) (ps : List (List PassValue)) (k : AreEdgesMade m (length (pairs_of m)) es ps) (g : Setting) (xs : List (TileWith B)) (f : AreFresh after m g xs)
+module _ {B : Type 0} (after : B → WindowValue → ℕ → WindowValue) (m : MapValue) (es : List EdgeValue) (ps : List (List PassValue)) (k : AreEdgesMade m (length (pairs_of m)) es ps) (g : Course) (xs : List (TileWith B)) (f : AreFresh after (on_map m g) xs)
   where
     pub same_count : length xs ≡ length ps
     same_count = f.count ∙ sym k.tiles
@@ -156,7 +157,7 @@ module _ {B : Type 0} (after : B → WindowValue → ℕ → WindowValue) (m : M
             let number = r.worked.number ∙ (f.fresh t (get_or xs t none.tile) r.is).number in
             record { run = r; number = number; came = subst (λ n. CameHome m n (get_or vs t none).end.passes (passes_of qs t)) number (home.each t none lt) }
 
-        ended_one : (t : ℕ) (x : TileWith B) (v : Worker B SharedEndValue) → IsHome t x v → HasEnded (common_in m g) (attempts g.plan t) (pass_lists (passes_of qs t)) v.tile.core
+        ended_one : (t : ℕ) (x : TileWith B) (v : Worker B SharedEndValue) → IsHome t x v → HasEnded (common_in (on_map m g)) (attempts g.plan t) (pass_lists (passes_of qs t)) v.tile.core
         ended_one t x v h =
             let w = h.run.worked in
             let ready = ready_one t x h.run.inside h.run.is in
@@ -190,7 +191,7 @@ module _ {B : Type 0} (after : B → WindowValue → ℕ → WindowValue) (m : M
             first [] l = absurd (omega (arith, l))
             first (w ∷ us) l = w.tile
 
-        pub returned : HaveReturned m g es (tiles_in vs) qs
+        pub returned : HaveReturned (on_map m g) es (tiles_in vs) qs
         returned = record {
           count = length-map vs (λ (w : Worker B SharedEndValue). w.tile) ∙ count_all;
           numbers = λ t x is. let q = taken_from t x is in ap (λ (y : TileWith B). y.core.number) q.1 ∙ (is_home t (blank x) q.0).number;
@@ -204,7 +205,7 @@ module _ {B : Type 0} (after : B → WindowValue → ℕ → WindowValue) (m : M
               (after y.behave, pass_lists v.end.passes, (ready.underway.0, ready.underway.1, h.run.worked.far ready.underway.0 ready.underway.1 ready.underway.2));
           ended = λ t x is.
               let q = taken_from t x is in
-              subst (λ (z : TileWith B). HasEnded (common_in m g) (attempts g.plan t) (pass_lists (passes_of qs t)) z.core) (sym q.1) (ended_one t (get_or xs t x) (get_or vs t (blank x)) (is_home t (blank x) q.0));
+              subst (λ (z : TileWith B). HasEnded (common_in (on_map m g)) (attempts g.plan t) (pass_lists (passes_of qs t)) z.core) (sym q.1) (ended_one t (get_or xs t x) (get_or vs t (blank x)) (is_home t (blank x) q.0));
           left = record {
             whole = omega arith;
             known = k.known;

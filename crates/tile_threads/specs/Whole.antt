@@ -5,13 +5,14 @@ use Rattle.tile_map.specs.Plane.{MapValue, tiles_of}
 use Rattle.tile_map.specs.Edges.{pairs_of}
 use Rattle.draw_stream.specs.Plans.{attempts}
 use Rattle.edge_lock.specs.EndValues.{EndValue}
+use Rattle.event_journal.specs.Serial.{Course}
 use Rattle.edge_lock.specs.Passes.{EdgeValue, PassValue, ClosedValue}
 use Rattle.edge_lock.specs.SharedEnds.{SharedEndValue, shared_end_value, edge_and_end, pass_lists}
 use Rattle.border_cache.specs.Copies.{IsEndOf}
 use Rattle.tile_core.specs.Values.{TileWith, TileValue}
 use Rattle.tile_core.specs.Turns.{AgreeOnEdges}
 use Rattle.tile_core.specs.Underway.{IsSome, IsMade}
-use Rattle.serial_order.specs.Scene.{Setting, common_in, IsOver, HasEnded}
+use Rattle.serial_order.specs.Scene.{common_in, IsOver, HasEnded}
 use Rattle.serial_order.specs.Words.{closed_words, AreEdgeWords, closed_histories}
 use Rattle.serial_order.specs.Boards.{HasStopped}
 use Rattle.serial_order.specs.Outcomes.{scene_of, values_of}
@@ -49,15 +50,15 @@ pub record HaveComeHome {B : Type 0} (m : MapValue) (workers : List (Worker B Sh
   pub each : (t : ℕ) (none : Worker B SharedEndValue) → t < length workers → CameHome m (slice_index_or workers t none).tile.core.number (slice_index_or workers t none).end.passes (passes_of passes t)
 
 -- all tiles are over, and no tile has an edge; the edges are still to be closed
-pub record HaveReturned {B : Type 0} (m : MapValue) (g : Setting) (edges : List EdgeValue) (tiles : List (TileWith B)) (passes : List (List PassValue)) : Type 0 where
-  pub count : length tiles ≡ tiles_of m
+pub record HaveReturned {B : Type 0} (c : Course) (edges : List EdgeValue) (tiles : List (TileWith B)) (passes : List (List PassValue)) : Type 0 where
+  pub count : length tiles ≡ tiles_of c.map
   pub numbers : (t : ℕ) (x : TileWith B) → slice_get tiles t ≡ Some x → x.core.number ≡ t
-  pub made : All (λ (x : TileWith B). IsMade m x.core) tiles
-  pub ended : (t : ℕ) (x : TileWith B) → slice_get tiles t ≡ Some x → HasEnded (common_in m g) (attempts g.plan t) (pass_lists (passes_of passes t)) x.core
-  pub left : AreLeft m (shared_edges edges (λ t. pass_lists (passes_of passes t))) 0 (length (pairs_of m)) passes
+  pub made : All (λ (x : TileWith B). IsMade c.map x.core) tiles
+  pub ended : (t : ℕ) (x : TileWith B) → slice_get tiles t ≡ Some x → HasEnded (common_in c) (attempts c.plan t) (pass_lists (passes_of passes t)) x.core
+  pub left : AreLeft c.map (shared_edges edges (λ t. pass_lists (passes_of passes t))) 0 (length (pairs_of c.map)) passes
 
 -- the run is over: everything holds that the settling of its grid and journal requires
-pub record HasRun {B : Type 0} (m : MapValue) (g : Setting) (tiles : List (TileWith B)) (closed : List ClosedValue) : Type 0 where
-  pub made : All (λ (x : TileWith B). IsMade m x.core) tiles
-  pub words : AreEdgeWords m (closed_words closed)
-  pub over : IsOver (scene_of m (values_of tiles) (closed_histories closed) g)
+pub record HasRun {B : Type 0} (c : Course) (tiles : List (TileWith B)) (closed : List ClosedValue) : Type 0 where
+  pub made : All (λ (x : TileWith B). IsMade c.map x.core) tiles
+  pub words : AreEdgeWords c.map (closed_words closed)
+  pub over : IsOver (scene_of c (values_of tiles) (closed_histories closed))

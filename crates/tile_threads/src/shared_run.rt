@@ -1,6 +1,6 @@
 //! A whole run: all tiles of a plane over the edges that they share.
 ghost use Rattle.std.specs.Prelude.{IfOk, length};
-ghost use Rattle.serial_order.specs.Scene.{Setting};
+ghost use Rattle.serial_order.specs.Scene.{InSomeCourse};
 ghost use Rattle.serial_order.specs.Fresh.{AreFresh, WhereFresh};
 ghost use Rattle.tile_map.specs.Edges.{pairs_of};
 ghost use Rattle.tile_threads.specs.Passes.{AreEdgesMade};
@@ -31,8 +31,8 @@ fn run_over<R: Threads + Sync, B: Behave + Send + Drop, G: Gate>(
     gate: &G,
 ) -> Result<(Vec<Tile<B>>, Vec<TilePasses>), NoMemory>
     requires made { AreEdgesMade map.now (length (pairs_of map.now)) edges.now passes.items }
-    requires fresh { (g : Setting) × AreFresh B.after map.now g tiles.items }
-    ensures { IfOk result (λ r. WhereFresh B.after map.now tiles.items (λ g. HaveReturned map.now g edges.now r.0.items r.1.items)) }
+    requires fresh { InSomeCourse map.now (λ c. AreFresh B.after c tiles.items) }
+    ensures { IfOk result (λ r. WhereFresh B.after map.now tiles.items (λ c. HaveReturned c edges.now r.0.items r.1.items)) }
 {
     let mut workers = send_out(alloc, edges, tiles, passes)?;
     run_tiles(rt, map, workers.as_mut_slice(), gate);
@@ -57,8 +57,8 @@ pub fn run_shared<R: Threads + Sync, B: Behave + Send + Drop, G: Gate>(
     tiles: Vec<Tile<B>>,
     gate: &G,
 ) -> Result<(Vec<Tile<B>>, ClosedEdges), NoMemory>
-    requires { (g : Setting) × AreFresh B.after map.now g tiles.items }
-    ensures { IfOk result (λ r. WhereFresh B.after map.now tiles.items (λ g. HasRun map.now g r.0.items r.1)) }
+    requires { InSomeCourse map.now (λ c. AreFresh B.after c tiles.items) }
+    ensures { IfOk result (λ r. WhereFresh B.after map.now tiles.items (λ c. HasRun c r.0.items r.1)) }
 {
     map.laws();
     let (edges, passes) = make_edges(alloc, map)?;

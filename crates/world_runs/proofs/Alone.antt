@@ -19,8 +19,9 @@ use Rattle.draw_stream.specs.Plans.{PlanValue, TakesNext, attempts}
 use Rattle.event_journal.specs.Accounts.{IsAccounted, IsEventOf, IsStamped, are_linked, events_at, stamp_after}
 use Rattle.event_journal.specs.Logs.{AreLogs, RisesTo, IsLog, LogValue, log_of, records_in}
 use Rattle.event_journal.proofs.Journals.{journal_of}
+use Rattle.event_journal.specs.Serial.{OwesNothing}
 use Rattle.tile_map.specs.Plane.{MapValue}
-use Rattle.world_runs.specs.OneTile.{IsAlone, OwesNothing, event_of, events_from, events_of}
+use Rattle.world_runs.specs.OneTile.{IsAlone, event_of, events_from, events_of}
 
 pub length-events : (m : MapValue) (i : ℕ) (list : List Attempt) → length (events_from m i list) ≡ length list
 length-events m i list = length-map (enumerate_from i list) (event_of m) ∙ length-enumerate_from i list
@@ -140,7 +141,7 @@ stamped m list = λ k d lt.
     let here = event_at m 0 list k d small in
     subst (λ (r : Record). r.stamp ≡ stamp_after m (take k (events_from m 0 list)) r) (sym here) (stamp_at m list k small)
 
-pub owes_nothing : (m : MapValue) (plan : PlanValue) → IsAlone m plan → OwesNothing m plan (events_of m plan)
+pub owes_nothing : (m : MapValue) (plan : PlanValue) → IsAlone m plan → OwesNothing m plan (events_of m plan) []
 owes_nothing m plan alone = record {
   accounted = accounted m plan alone;
   stamped = stamped m (attempts plan 0);

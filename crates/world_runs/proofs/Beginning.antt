@@ -12,14 +12,15 @@ use Rattle.cell_grid.specs.Grid.{GridValue, IsGrid}
 use Rattle.draw_stream.specs.declared.attempt.Attempt.{Attempt}
 use Rattle.draw_stream.specs.Plans.{PlanValue, IsPlan, attempts}
 use Rattle.draw_stream.proofs.Plans.{attempts_few}
-use Rattle.border_cache.specs.Copies.{IsGridOf}
+use Rattle.plane_grid.specs.PlaneGrids.{IsGridOf}
 use Rattle.tile_map.specs.Plane.{MapValue, is_on, tiles_of}
 use Rattle.tile_core.specs.Underway.{CanAttempt, IsFreshTile}
 use Rattle.tile_core.specs.Values.{TileWith, atoms_of}
 use Rattle.serial_order.specs.Fresh.{AreFresh}
+use Rattle.serial_order.specs.Scene.{on_map}
 use Rattle.world_runs.specs.Worlds.{IsAttempt, IsWorld}
 use Rattle.world_text.specs.Named.{WorldValue}
-use Rattle.world_runs.specs.Fresh.{AllCanAttempt, AreMade, setting_of}
+use Rattle.world_runs.specs.Fresh.{AllCanAttempt, AreMade, world_course}
 
 -- each of some tiles has only been made
 abbrev pub EachFresh : {B : Type 0} → MapValue → GridValue → PlanValue → List (TileWith B) → Type 0
@@ -84,8 +85,8 @@ pub all_can : (w : WorldValue) → IsWorld w → IsPlan w.plan → AllCanAttempt
 all_can w h p t inside = can_attempt w h p t inside (attempts w.plan t) refl
 
 -- tiles that were made, all with one meaning, are fresh ones for the run of a world
-all_fresh : {B : Type 0} (after : B → WindowValue → ℕ → WindowValue) (w : WorldValue) (meaning : WindowValue → ℕ → WindowValue) (behaves : List B) (tiles : List (TileWith B)) (start : GridValue) → IsWorld w → IsPlan w.plan → IsGrid start → IsGridOf w.plane start → start ≡ (setting_of w meaning).start
-    → AreMade w.plane start w.plan behaves tiles → length behaves ≡ tiles_of w.plane → All (λ b. after b ≡ meaning) behaves → AreFresh after w.plane (setting_of w meaning) tiles
+all_fresh : {B : Type 0} (after : B → WindowValue → ℕ → WindowValue) (w : WorldValue) (meaning : WindowValue → ℕ → WindowValue) (behaves : List B) (tiles : List (TileWith B)) (start : GridValue) → IsWorld w → IsPlan w.plan → IsGrid start → IsGridOf w.plane start → start ≡ (world_course w meaning).start
+    → AreMade w.plane start w.plan behaves tiles → length behaves ≡ tiles_of w.plane → All (λ b. after b ≡ meaning) behaves → AreFresh after (world_course w meaning) tiles
 all_fresh {B} after w meaning behaves tiles start h p grid fits is f count one = record {
   grid = subst IsGrid is grid;
   fits = subst (IsGridOf w.plane) is fits;
@@ -106,8 +107,8 @@ all_fresh {B} after w meaning behaves tiles start h p grid fits is f count one =
         subst (λ b. after b ≡ meaning) same (All-get_or (λ b. after b ≡ meaning) behaves t x.behave (omega (arith, inside, many)) one)
 
 -- the same on a map that is the world's
-pub all_ready : {B : Type 0} (after : B → WindowValue → ℕ → WindowValue) (w : WorldValue) (m : MapValue) (meaning : WindowValue → ℕ → WindowValue) (behaves : List B) (tiles : List (TileWith B)) (start : GridValue) → m ≡ w.plane → IsWorld w → IsPlan w.plan → IsGrid start → IsGridOf w.plane start → start ≡ (setting_of w meaning).start
-    → AreMade m start w.plan behaves tiles → length behaves ≡ tiles_of w.plane → All (λ b. after b ≡ meaning) behaves → AreFresh after m (setting_of w meaning) tiles
+pub all_ready : {B : Type 0} (after : B → WindowValue → ℕ → WindowValue) (w : WorldValue) (m : MapValue) (meaning : WindowValue → ℕ → WindowValue) (behaves : List B) (tiles : List (TileWith B)) (start : GridValue) → m ≡ w.plane → IsWorld w → IsPlan w.plan → IsGrid start → IsGridOf w.plane start → start ≡ (world_course w meaning).start
+    → AreMade m start w.plan behaves tiles → length behaves ≡ tiles_of w.plane → All (λ b. after b ≡ meaning) behaves → AreFresh after (on_map m (world_course w meaning)) tiles
 all_ready after w m meaning behaves tiles start same h p grid fits is f count one =
     let made = subst (λ (n : MapValue). AreMade n start w.plan behaves tiles) same f in
-    subst (λ (n : MapValue). AreFresh after n (setting_of w meaning) tiles) (sym same) (all_fresh after w meaning behaves tiles start h p grid fits is made count one)
+    subst (λ (n : MapValue). AreFresh after (on_map n (world_course w meaning)) tiles) (sym same) (all_fresh after w meaning behaves tiles start h p grid fits is made count one)

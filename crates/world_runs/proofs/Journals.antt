@@ -8,10 +8,10 @@ use Rattle.text_lines.specs.Lines.{ended_lines}
 use Rattle.cell_grid.specs.declared.record.Record.{Record}
 use Rattle.draw_stream.specs.declared.attempt.Attempt.{Attempt}
 use Rattle.event_journal.specs.declared.abandoned.Abandoned.{Abandoned}
-use Rattle.event_journal.specs.declared.fault.LineFault.{LineFault}
-use Rattle.event_journal.specs.declared.fault.LineFault.TheVariants.{BadForm}
-use Rattle.event_journal.specs.Forms.{record_form, abandoned_form, is_atom, is_header}
-use Rattle.event_journal.specs.Reading.{Said, Wants, header, atom_count, atoms, record_count, records, abandoned_count, abandoned, nothing, want_atoms, want_records, want_abandoned, counted, earlier, fields_step, first_of, go_on, is_at_home, is_attempt, is_behind, is_over, line_step, not_later, nothing_said, put_abandoned, put_record, read_lines, read_report, record_fault, record_step, unless}
+use Rattle.report_text.specs.declared.journal_fault.LineFault.{LineFault}
+use Rattle.report_text.specs.declared.journal_fault.LineFault.TheVariants.{BadForm}
+use Rattle.report_text.specs.Forms.{record_form, abandoned_form, is_atom, is_header}
+use Rattle.report_text.specs.Reading.{Said, Wants, header, atom_count, atoms, record_count, records, abandoned_count, abandoned, nothing, want_atoms, want_records, want_abandoned, counted, earlier, fields_step, first_of, go_on, is_at_home, is_attempt, is_behind, is_over, line_step, not_later, nothing_said, put_abandoned, put_record, put_sites, read_lines, read_report, record_fault, record_step, unless}
 use Rattle.tile_map.specs.Plane.{MapValue, site, in_plane, is_on, owner_of}
 use Rattle.world_runs.specs.Worlds.{IsAttempt, IsLiveEvent}
 
@@ -30,6 +30,10 @@ module _ (m : MapValue) (lists : List (List Attempt)) (attempts : (t : ℕ) → 
   by_count : (o : Option ℕ) (next : ℕ → Wants) (d e : Said) → counted d next o ≡ Ok e → Live d → Live e
   by_count None next d e h live = cc
   by_count (Some k) next d e h live = let same : record d { wants = next k } ≡ e = cc in subst Live same live
+
+  by_sites : (o : Option ℕ) (d e : Said) → put_sites d o ≡ Ok e → Live d → Live e
+  by_sites None d e h live = cc
+  by_sites (Some k) d e h live = let same : record d { wants = want_atoms k; sites = k } ≡ e = cc in subst Live same live
 
   by_abandoned : (o : Option Abandoned) (next : Wants) (d e : Said) → put_abandoned d next o ≡ Ok e → Live d → Live e
   by_abandoned None next d e h live = cc
@@ -76,7 +80,7 @@ module _ (m : MapValue) (lists : List (List Attempt)) (attempts : (t : ℕ) → 
   step_live : (n : ℕ) (d e : Said) (w : Wants) (fs : List (List ℕ)) → fields_step m lists n d w fs ≡ Ok e → Live d → Live e
   unfolding fields_step
   step_live n d e header fs h live = by_test (is_header fs) (record d { wants = atom_count }) e h live
-  step_live n d e atom_count fs h live = by_count _ want_atoms d e h live
+  step_live n d e atom_count fs h live = by_sites _ d e h live
   step_live n d e (atoms k) fs h live = by_test (is_atom fs) (record d { wants = want_atoms k }) e h live
   step_live n d e record_count fs h live = by_count _ want_records d e h live
   step_live n d e (records k) fs h live = by_record n (want_records k) (record_form fs) d e h live

@@ -12,7 +12,7 @@ use Rattle.cell_grid.specs.Grid.{GridValue, atom_left, event, place_of, put_wind
 use Rattle.cell_grid.specs.Records.{replay}
 use Rattle.tile_map.specs.Plane.{MapValue}
 use Rattle.cell_grid.specs.Known.{BringsNone, IsKnown, ShowsKnown}
-use Rattle.serial_order.specs.BlankGrid.{blank_grid, plane_sites}
+use Rattle.plane_grid.specs.BlankGrid.{blank_grid, plane_sites}
 use Rattle.world_runs.specs.Known.{ArePlacedKnown}
 use Rattle.world_runs.specs.Start.{start_grid, with_placed}
 use Rattle.world_text.specs.declared.world.Placed.{Placed}

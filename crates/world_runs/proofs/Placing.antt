@@ -3,7 +3,7 @@ use Rattle.std.proofs.Common.{ℕ, ◌≡◌, ◌+◌, ◌*◌, ◌<◌, true, L
 use Rattle.std.specs.Prelude.{nat_lt}
 use Rattle.std.proofs.lemmas.List.{drop_more}
 use Rattle.list_laws.proofs.Tests.{both}
-use Rattle.border_cache.specs.Copies.{IsGridOf}
+use Rattle.plane_grid.specs.PlaneGrids.{IsGridOf}
 use Rattle.cell_grid.specs.Grid.{GridValue, IsLive}
 use Rattle.tile_map.specs.Plane.{MapValue, site, in_plane, is_on, is_live, owner_of}
 use Rattle.world_runs.specs.Start.{with_placed}

@@ -3,7 +3,7 @@ use Rattle.std.specs.Prelude.{ℕ, ◌≡◌, ◌<◌, List, All, map, slice_get
 use Rattle.window_sites.specs.Window.{WindowValue}
 use Rattle.cell_grid.specs.Grid.{GridValue}
 use Rattle.draw_stream.specs.Plans.{PlanValue, attempts}
-use Rattle.serial_order.specs.Scene.{Setting}
+use Rattle.event_journal.specs.Serial.{Course, course}
 use Rattle.tile_core.specs.Underway.{CanAttempt, IsFreshTile}
 use Rattle.tile_core.specs.Values.{TileWith, atoms_of}
 use Rattle.tile_map.specs.Plane.{MapValue, tiles_of}
@@ -19,9 +19,9 @@ pub record AreMade {B : Type 0} (m : MapValue) (start : GridValue) (plan : PlanV
   pub fresh : (t : ℕ) (x : TileWith B) → slice_get tiles t ≡ Some x → IsFreshTile m t (atoms_of start) (attempts plan t) x.core
   pub acts : map (λ (x : TileWith B). x.behave) tiles ≡ behaves
 
--- the start grid and the plan of a world, with what events do
-abbrev pub setting_of : WorldValue → (WindowValue → ℕ → WindowValue) → Setting
-setting_of w meaning = record { meaning = meaning; start = start_of w; plan = w.plan }
+-- the course of a world, where events do this
+abbrev pub world_course : WorldValue → (WindowValue → ℕ → WindowValue) → Course
+world_course w meaning = course w.plane w.plan meaning (start_of w)
 
 -- this holds of the meaning that all of these have
 abbrev pub OfTheMeaning : {B : Type 0} → (B → WindowValue → ℕ → WindowValue) → List B → ((WindowValue → ℕ → WindowValue) → Type 0) → Type 0

@@ -1,10 +1,9 @@
 -- The events of a plane of one tile.
-use Rattle.std.specs.Prelude.{ℕ, ◌≡◌, ◌+◌, ◌*◌, ◌<◌, All, List, [], length, map}
+use Rattle.std.specs.Prelude.{ℕ, ◌≡◌, ◌+◌, ◌*◌, ◌<◌, All, List, length, map}
 use Rattle.std.specs.List.{enumerate_from}
 use Rattle.cell_grid.specs.declared.record.Record.{Record}
 use Rattle.draw_stream.specs.declared.attempt.Attempt.{Attempt}
 use Rattle.draw_stream.specs.Plans.{PlanValue, attempts}
-use Rattle.event_journal.specs.Accounts.{AreExcused, IsAccounted, IsStamped}
 use Rattle.tile_map.specs.Plane.{MapValue, IsMap, tiles_of, site_in}
 
 -- attempt i as an event: its stamp is i + 1
@@ -25,11 +24,3 @@ pub record IsAlone (m : MapValue) (plan : PlanValue) : Type 0 where
   pub one : tiles_of m ≡ 1
   pub lists : length plan.lists ≡ 1
   pub centres : All (λ (a : Attempt). a.centre < m.w * m.h) (attempts plan 0)
-
--- what holds of a journal of events without an abandoned attempt: each attempt of the plan is
--- accounted for, the stamps are those of the events before that are linked, and no attempt was
--- given up
-pub record OwesNothing (m : MapValue) (plan : PlanValue) (records : List Record) : Type 0 where
-  pub accounted : IsAccounted m plan records []
-  pub stamped : IsStamped m records
-  pub excused : AreExcused m plan records []

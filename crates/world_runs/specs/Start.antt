@@ -1,7 +1,7 @@
 -- The flat grid with which the run of a world starts.
 use Rattle.std.specs.Prelude.{List, fold}
 use Rattle.cell_grid.specs.Grid.{GridValue, with_site}
-use Rattle.serial_order.specs.BlankGrid.{blank_grid}
+use Rattle.plane_grid.specs.BlankGrid.{blank_grid}
 use Rattle.tile_map.specs.Plane.{MapValue}
 use Rattle.world_text.specs.Named.{WorldValue}
 use Rattle.world_text.specs.declared.world.Placed.{Placed}

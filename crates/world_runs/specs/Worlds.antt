@@ -3,7 +3,7 @@ use Rattle.std.specs.Prelude.{ℕ, ◌≡◌, ◌*◌, ◌<◌, true, List, All,
 use Rattle.cell_grid.specs.declared.record.Record.{Record}
 use Rattle.draw_stream.specs.declared.attempt.Attempt.{Attempt}
 use Rattle.draw_stream.specs.Plans.{attempts}
-use Rattle.event_journal.specs.Reading.{Said, read_report}
+use Rattle.report_text.specs.Reading.{Said, read_report}
 use Rattle.tile_map.specs.Plane.{MapValue, IsMap, site, tiles_of, is_on, is_live}
 use Rattle.world_text.specs.Named.{WorldValue}
 use Rattle.world_text.specs.Printed.{IsNamed}

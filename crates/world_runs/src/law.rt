@@ -1,10 +1,11 @@
 //! What is true of worlds, of the journals of their reports, and of planes of one tile.
-ghost use Rattle.std.specs.Prelude.{ℕ, List};
+ghost use Rattle.std.specs.Prelude.{ℕ, List, []};
 ghost use Rattle.draw_stream.specs.Plans.{PlanValue};
+ghost use Rattle.event_journal.specs.Serial.{OwesNothing};
 ghost use Rattle.tile_map.specs.Plane.{MapValue};
 ghost use Rattle.world_text.specs.Named.{WorldValue};
 ghost use Rattle.world_text.specs.Printed.{IsNamed};
-ghost use Rattle.world_runs.specs.OneTile.{IsAlone, OwesNothing, events_of};
+ghost use Rattle.world_runs.specs.OneTile.{IsAlone, events_of};
 ghost use Rattle.world_runs.specs.Orders.{IsOrder};
 ghost use Rattle.world_runs.specs.Worlds.{NamedWorldsAreValid, ReadEventsAreLive};
 
@@ -27,5 +28,5 @@ pub fn listed_order()
 /// attempt is accounted for, each stamp is 1 more than the greatest of the linked events before it,
 /// and no attempt is left to be excused. The call does nothing: its contract is the law.
 pub fn each_attempt_is_an_event()
-    ensures { (m : MapValue) (plan : PlanValue) → IsAlone m plan → OwesNothing m plan (events_of m plan) }
+    ensures { (m : MapValue) (plan : PlanValue) → IsAlone m plan → OwesNothing m plan (events_of m plan) [] }
 {}

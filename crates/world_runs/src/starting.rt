@@ -1,6 +1,6 @@
 //! The map of a world, and the flat grid that it starts with.
 ghost use Rattle.std.specs.Prelude.{◌≡◌, IfOk};
-ghost use Rattle.border_cache.specs.Copies.{IsGridOf};
+ghost use Rattle.plane_grid.specs.PlaneGrids.{IsGridOf};
 ghost use Rattle.tile_map.specs.Plane.{IsMap};
 ghost use Rattle.world_runs.specs.Start.{start_grid};
 ghost use Rattle.world_runs.specs.Worlds.{IsWorld};
@@ -8,7 +8,7 @@ ghost use Rattle.world_text.specs.Values.{world_value};
 
 use cell_grid::Grid;
 use feast_base::NoMemory;
-use serial_order::blank_grid;
+use plane_grid::blank_grid;
 use std::alloc::Global;
 use tile_map::Map;
 use world_text::World;

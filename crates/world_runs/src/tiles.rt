@@ -1,6 +1,6 @@
 //! The tiles of a plane before their first step.
 ghost use Rattle.std.specs.Prelude.{◌≡◌, ◌<◌, ◌≤◌, IfOk, length};
-ghost use Rattle.border_cache.specs.Copies.{IsGridOf};
+ghost use Rattle.plane_grid.specs.PlaneGrids.{IsGridOf};
 ghost use Rattle.draw_stream.specs.Plans.{attempts};
 ghost use Rattle.tile_core.specs.Underway.{CanAttempt, IsFreshTile};
 ghost use Rattle.tile_core.specs.Values.{atoms_of};

@@ -1,5 +1,5 @@
 use Rattle.std.proofs.Common.{sym, subst, ◌∙◌}
-use Rattle.serial_order.specs.Outcomes.{IsPlaneGrid}
+use Rattle.plane_grid.specs.PlaneGrids.{IsPlaneGrid}
 use Rattle.cases_order.proofs.Starts.{with_atom}
 use Rattle.cases_order.proofs.runs.put.Goals as goal
 

@@ -1,4 +1,4 @@
-use Rattle.grid_print.specs.Report.{AreNamed}
+use Rattle.report_text.specs.Report.{AreNamed}
 use Rattle.cases_text.proofs.reports.grid.Given as goal
 
 abbrev pub invariant-loop-placed : goal.invariant-loop-placed

@@ -1,5 +1,5 @@
 use Rattle.std.proofs.Common.{ap, ◌∙◌, map}
-use Rattle.tile_map.specs.Edges.{sizes_of}
+use Rattle.edge_lock.specs.Edges.{sizes_of}
 use Rattle.edge_lock.specs.PlainBoard.{untouched_edge}
 use Rattle.cases_tile.proofs.alone.empty_board.Goals as goal
 

@@ -1,5 +1,4 @@
 use Rattle.std.proofs.Common.{inr}
-use Rattle.feast_run.specs.Values.{journal_value}
 use Rattle.feast_run.proofs.Runs.{ready_valid}
 use Rattle.feast_run.proofs.auditing.audit_loaded.Goals as goal
 
@@ -9,7 +8,7 @@ read_loaded-requires-clause-world c = ready_valid c.args.ready.now c.requires.re
 pub returns-clause-tells : goal.returns-clause-tells
 returns-clause-tells c =
     inr (record {
-      value = journal_value c.in_ok-journal.journal;
+      value = c.in_ok-journal.journal;
       passed = c.in_ok-journal.ensures;
       rest = c.in_ok-text.ensures;
     })

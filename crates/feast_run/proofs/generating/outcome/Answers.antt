@@ -1,5 +1,5 @@
 use Rattle.stepped_world.specs.Ends.{IsOutcome}
-use Rattle.world_runs.specs.Fresh.{setting_of}
+use Rattle.world_runs.specs.Fresh.{world_course}
 use Rattle.world_runs.specs.Orders.{order_in}
 use Rattle.world_text.specs.Values.{world_value}
 use Rattle.feast_run.proofs.Machines.{outcome_by}
@@ -17,4 +17,4 @@ stepped-requires-clause-meaning c = ((elements_value c.args.elements.now).meanin
 pub returns : goal.returns
 returns c =
     let w = world_value c.args.world.now in
-    outcome_by acts (λ means o. IsOutcome w.plane (setting_of w means) (order_in w) o) (elements_value c.args.elements.now).meaning c.in_ok-actors.actors.items c.stepped.result c.in_ok-actors.ensures.acts c.stepped.ensures
+    outcome_by acts (λ means o. IsOutcome (world_course w means) (order_in w) o) (elements_value c.args.elements.now).meaning c.in_ok-actors.actors.items c.stepped.result c.in_ok-actors.ensures.acts c.stepped.ensures

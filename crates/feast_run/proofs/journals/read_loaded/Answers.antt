@@ -1,5 +1,5 @@
 use Rattle.feast_run.proofs.Runs.{journal_halts}
-use Rattle.event_journal.specs.Reading.{fault_of}
+use Rattle.report_text.specs.Reading.{fault_of}
 use Rattle.world_text.specs.Values.{world_value}
 use Rattle.feast_run.proofs.journals.read_loaded.Goals as goal
 

@@ -1,10 +1,11 @@
 use Rattle.feast_run.proofs.Telling.{tells_exit}
 use Rattle.feast_run.specs.Outputs.{output_text}
+use Rattle.report_text.specs.Entries.{Entries}
 use Rattle.std.proofs.Common.{◌∙◌, List, All, ap, inr, subst, sym}
 use Rattle.cell_grid.specs.declared.record.Record.{Record}
 use Rattle.feast_run.proofs.Runs.{journal_events, ready_valid}
 use Rattle.feast_run.specs.Answer.{atoms_after}
-use Rattle.feast_run.specs.Values.{journal_value, ready_value}
+use Rattle.feast_run.specs.Values.{ready_value}
 use Rattle.world_runs.specs.Worlds.{IsLiveEvent}
 use Rattle.world_text.specs.Values.{world_value}
 use Rattle.feast_run.proofs.replaying.replay_rest.Goals as goal
@@ -16,18 +17,18 @@ pub replay_text-requires-clause-live : goal.replay_text-requires-clause-live
 replay_text-requires-clause-live g c =
     let w = world_value c.args.ready.world in
     let valid = ready_valid c.args.ready c.requires in
-    subst (λ (rs : List Record). All (IsLiveEvent w.plane) rs) (sym c.as_slice.ensures.value) (journal_events _ _ w (journal_value c.in_ok-journal.journal) valid c.in_ok-journal.ensures.tells)
+    subst (λ (rs : List Record). All (IsLiveEvent w.plane) rs) (sym c.records.ensures) (journal_events _ _ w c.in_ok-journal.journal valid c.in_ok-journal.ensures.tells)
 
 pub returns-clause-tells : goal.returns-clause-tells
 returns-clause-tells g c =
     inr (record {
-      value = journal_value c.in_ok-journal.journal;
+      value = c.in_ok-journal.journal;
       passed = c.in_ok-journal.ensures.tells;
-      rest = c.in_ok-text.ensures ∙ ap (atoms_after (ready_value c.args.ready)) c.as_slice.ensures.value;
+      rest = c.in_ok-text.ensures ∙ ap (atoms_after (ready_value c.args.ready)) c.records.ensures;
     })
 
 pub returns-in_err-journal-clause-tells : goal.returns-in_err-journal-clause-tells
 returns-in_err-journal-clause-tells g c =
     let exit = c.from_residual in
-    tells_exit journal_value output_text _ _ c.in_err-journal.field-0.0 exit.result exit.ensures.1
+    tells_exit (λ (j : Entries). j) output_text _ _ c.in_err-journal.field-0.0 exit.result exit.ensures.1
     c.in_err-journal.ensures.tells

@@ -1,7 +1,7 @@
 use Rattle.feast_run.proofs.Runs.{journal_events, ready_valid}
 use Rattle.feast_run.proofs.Telling.{tells_then, tells_exit}
 use Rattle.feast_run.specs.Outputs.{output_text}
-use Rattle.feast_run.specs.Values.{journal_value}
+use Rattle.report_text.specs.Entries.{Entries}
 use Rattle.world_text.specs.Values.{world_value}
 use Rattle.feast_run.proofs.rewinding.rewind_rest.Goals as goal
 
@@ -12,13 +12,13 @@ pub rewind_loaded-requires-clause-live : goal.rewind_loaded-requires-clause-live
 rewind_loaded-requires-clause-live g c =
     let w = world_value c.args.ready.world in
     let valid = ready_valid c.args.ready c.requires in
-    journal_events _ _ w (journal_value c.in_ok-journal.journal) valid c.in_ok-journal.ensures.tells
+    journal_events _ _ w c.in_ok-journal.journal valid c.in_ok-journal.ensures.tells
 
 pub returns-clause-tells : goal.returns-clause-tells
-returns-clause-tells g c = tells_then output_text _ _ (journal_value c.in_ok-journal.journal) c.rewind_loaded.result c.in_ok-journal.ensures.tells c.rewind_loaded.ensures.tells
+returns-clause-tells g c = tells_then output_text _ _ c.in_ok-journal.journal c.rewind_loaded.result c.in_ok-journal.ensures.tells c.rewind_loaded.ensures.tells
 
 pub returns-in_err-journal-clause-tells : goal.returns-in_err-journal-clause-tells
 returns-in_err-journal-clause-tells g c =
     let exit = c.from_residual in
-    tells_exit journal_value output_text _ _ c.in_err-journal.field-0.0 exit.result exit.ensures.1
+    tells_exit (λ (j : Entries). j) output_text _ _ c.in_err-journal.field-0.0 exit.result exit.ensures.1
     c.in_err-journal.ensures.tells

@@ -4,7 +4,7 @@ use Rattle.feast_run.proofs.Judged.{replay_named}
 use Rattle.feast_run.proofs.Runs.{ready_valid}
 use Rattle.feast_run.specs.Acting.{acts}
 use Rattle.feast_run.specs.Values.{elements_value}
-use Rattle.grid_print.specs.Report.{AreNamed}
+use Rattle.report_text.specs.Report.{AreNamed}
 use Rattle.cell_grid.specs.Grid.{GridValue}
 use Rattle.window_sites.specs.Window.{WindowValue}
 use Rattle.world_runs.proofs.Placing.{live_in}

@@ -4,8 +4,8 @@ use Rattle.tile_map.proofs.Numbers.{tiles_few}
 use Rattle.code_file.proofs.set.CodeSet.TheSendSync as CodeSet
 use Rattle.event_machine.proofs.machine.Machine.TheSendSync as Machine
 use Rattle.element_set.proofs.Sharing.{set_sync}
-use Rattle.world_runs.specs.Fresh.{setting_of}
-use Rattle.world_runs.specs.OneOrder.{StandsInOneOrder}
+use Rattle.world_runs.specs.Fresh.{world_course}
+use Rattle.serial_order.specs.Outcomes.{StandsInOneOrder}
 use Rattle.world_text.specs.Values.{world_value}
 use Rattle.feast_run.proofs.Machines.{outcome_by}
 use Rattle.feast_run.proofs.Runs.{ready_valid}
@@ -28,4 +28,4 @@ threaded-requires-clause-meaning g c = λ lives bounds. ((elements_value c.args.
 pub returns : goal.returns
 returns g c =
     let w = world_value c.args.ready.now.world in
-    outcome_by acts (λ means o. StandsInOneOrder w.plane (setting_of w means) o) (elements_value c.args.ready.now.elements).meaning c.in_ok-actors.actors.items c.threaded.result c.in_ok-actors.ensures.acts c.threaded.ensures
+    outcome_by acts (λ means o. StandsInOneOrder (world_course w means) o) (elements_value c.args.ready.now.elements).meaning c.in_ok-actors.actors.items c.threaded.result c.in_ok-actors.ensures.acts c.threaded.ensures

@@ -2,7 +2,7 @@ use Rattle.std.proofs.Common.{◌∙◌, ap}
 use Rattle.feast_run.proofs.Runs.{alone_reports, events_live, first_records, is_alone, ready_valid}
 use Rattle.feast_run.specs.Answer.{grid_after}
 use Rattle.feast_run.specs.Values.{elements_value, ready_value}
-use Rattle.grid_print.specs.Report.{report}
+use Rattle.report_text.specs.Report.{report}
 use Rattle.world_runs.specs.OneTile.{events_of}
 use Rattle.world_text.specs.Values.{world_value}
 use Rattle.feast_run.proofs.running.ran_alone.Goals as goal

@@ -2,7 +2,7 @@ use Rattle.event_journal.specs.Logs.{abandoned_in, records_in}
 use Rattle.feast_run.proofs.Machines.{is_run, left_named, machine_grid, machine_logs}
 use Rattle.feast_run.proofs.Runs.{ready_known}
 use Rattle.feast_run.specs.Values.{ready_value}
-use Rattle.grid_print.specs.Report.{report}
+use Rattle.report_text.specs.Report.{report}
 use Rattle.feast_run.proofs.stepping.ran_stepped.Goals as goal
 
 pub returns-clause-run : goal.returns-clause-run

@@ -1,6 +1,6 @@
 use Rattle.std.proofs.Common.{ℕ, ◌≡◌, List, [], ◌++◌, codes, ap, append_assoc, sym, ◌∙◌}
 use Rattle.std.proofs.lemmas.List.{append-nil}
-use Rattle.event_journal.specs.Text.{count_fields}
+use Rattle.report_text.specs.JournalText.{count_fields}
 use Rattle.text_lines.specs.Lines.{ended_line}
 use Rattle.generated_world.proofs.counts.summary.Goals as goal
 

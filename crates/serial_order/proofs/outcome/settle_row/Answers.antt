@@ -3,7 +3,7 @@ use Rattle.serial_order.specs.Scene.{registers_at}
 use Rattle.serial_order.specs.Settled.{IsSettledTo}
 use Rattle.serial_order.specs.Outcomes.{IsStretch, values_of}
 use Rattle.serial_order.specs.Words.{AreEdgeWords, WordsValue}
-use Rattle.serial_order.proofs.Blanks.{wide}
+use Rattle.plane_grid.proofs.Blanks.{wide}
 use Rattle.serial_order.proofs.UnsharedSites.{stretch_is}
 use Rattle.serial_order.proofs.Runs.{row_end, tiles_in_row}
 use Rattle.serial_order.proofs.outcome.settle_row.Goals as goal

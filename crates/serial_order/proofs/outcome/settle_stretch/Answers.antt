@@ -4,7 +4,7 @@ use Rattle.serial_order.specs.Scene.{registers_at}
 use Rattle.serial_order.specs.Settled.{IsSettledAt, IsSettledTo}
 use Rattle.serial_order.specs.Outcomes.{values_of}
 use Rattle.serial_order.specs.Words.{AreEdgeWords, WordsValue}
-use Rattle.serial_order.proofs.Blanks.{wide}
+use Rattle.plane_grid.proofs.Blanks.{wide}
 use Rattle.serial_order.proofs.Filling.{one_settled}
 use Rattle.serial_order.proofs.outcome.settle_stretch.Goals as goal
 

@@ -6,6 +6,7 @@ use Rattle.tile_threads.specs.declared.worker.Worker.{Worker}
 use Rattle.tile_threads.specs.Runs.{AreReady, HaveWorked, EndsMoved}
 use Rattle.tile_threads.specs.Whole.{IsDone, HaveComeHome, HaveReturned, tiles_in}
 use Rattle.tile_threads.proofs.Returns.{all_stand, ready, all_done, returned}
+use Rattle.serial_order.specs.Scene.{on_map}
 use Rattle.tile_threads.proofs.shared_run.run_over.Goals as goal
 
 pub send_out-requires-clause-passes : goal.send_out-requires-clause-passes
@@ -41,5 +42,5 @@ returns g c k f =
     let moved = subst (λ (l : List (Worker g.row.B.Denot SharedEndValue)). EndsMoved SamePasses l new) now c.run_tiles.ensures.moved in
     let home = subst (λ (l : List (Worker g.row.B.Denot SharedEndValue)). HaveComeHome c.args.map.now l c.in_ok-tiles.passes.items) back c.in_ok-tiles.ensures.passes in
     let tiles = c.in_ok-tiles.ensures.tiles ∙ ap (λ (l : List (Worker g.row.B.Denot SharedEndValue)). tiles_in l) back in
-    subst (λ xs. HaveReturned c.args.map.now k c.args.edges.now xs c.in_ok-tiles.passes.items) (sym tiles)
+    subst (λ xs. HaveReturned (on_map c.args.map.now k) c.args.edges.now xs c.in_ok-tiles.passes.items) (sym tiles)
     (returned g.B.Behave.after c.args.map.now c.args.edges.now c.args.passes.items c.requires.made k c.args.tiles.items f new (long ∙ ap (λ l. length l) now) did moved c.in_ok-tiles.passes.items home)

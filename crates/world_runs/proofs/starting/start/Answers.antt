@@ -1,8 +1,8 @@
 use Rattle.std.proofs.Common.{◌≡◌, ◌≤◌, ◌<◌, ◌∙◌, true, List, ap, arith, fold, get_or, length, subst, sym}
 use Rattle.std.proofs.lemmas.List.{drop_all}
-use Rattle.border_cache.specs.Copies.{IsGridOf}
+use Rattle.plane_grid.specs.PlaneGrids.{IsGridOf}
 use Rattle.cell_grid.specs.Grid.{GridValue}
-use Rattle.serial_order.specs.BlankGrid.{blank_grid}
+use Rattle.plane_grid.specs.BlankGrid.{blank_grid}
 use Rattle.tile_map.specs.Plane.{MapValue, is_live, plane_of, site}
 use Rattle.world_runs.specs.Start.{with_placed}
 use Rattle.world_runs.proofs.Placing.{fits_placed, live_in, placed_more}

@@ -1,5 +1,5 @@
 use Rattle.std.proofs.Common.{◌≡◌, drop, fold}
-use Rattle.border_cache.specs.Copies.{IsGridOf}
+use Rattle.plane_grid.specs.PlaneGrids.{IsGridOf}
 use Rattle.world_runs.specs.Start.{start_grid, with_placed}
 use Rattle.world_text.specs.Values.{world_value}
 use Rattle.world_runs.proofs.starting.start.Given as goal

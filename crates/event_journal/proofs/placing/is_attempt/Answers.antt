@@ -1,5 +1,0 @@
-use Rattle.std.proofs.Common.{rules}
-use Rattle.event_journal.proofs.placing.is_attempt.Goals as goal
-
-pub returns-then-y-r : goal.returns-then-y-r
-returns-then-y-r c = search rules

@@ -1,6 +1,0 @@
-use Rattle.std.proofs.Common.{All, take}
-use Rattle.grid_print.specs.OneReport.{AreRecordWords}
-use Rattle.grid_print.proofs.fitting.records_fit.Given as goal
-
-abbrev pub invariant-loop-event : goal.invariant-loop-event
-invariant-loop-event l = All AreRecordWords (take l.event-index l.records)

@@ -1,5 +1,0 @@
-use Rattle.grid_print.proofs.Reported.{one_report}
-use Rattle.grid_print.proofs.law.one_report.Goals as goal
-
-pub returns-clause-one : goal.returns-clause-one
-returns-clause-one c = one_report c.args.names.now c.requires.names

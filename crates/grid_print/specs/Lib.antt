@@ -1,4 +1,0 @@
-pub mod Again
-pub mod OneReport
-pub mod Report
-pub mod Writing

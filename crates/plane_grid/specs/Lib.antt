@@ -1,0 +1,2 @@
+pub mod PlaneGrids
+pub mod BlankGrid

@@ -1,0 +1,16 @@
+pub mod Ahead
+pub mod AtomLengths
+pub mod Bounds
+pub mod Counting
+pub mod LineLengths
+pub mod Lists
+pub mod Pairs
+pub mod PrintedLines
+pub mod Putting
+pub mod ReadAgain
+pub mod ReadLines
+pub mod Reported
+pub mod Shorter
+pub mod Stamps
+pub mod Takings
+pub mod WrittenLines

@@ -1,0 +1,12 @@
+use Rattle.std.proofs.Common.{arith, length, map}
+use Rattle.std.proofs.lemmas.List.{at_drop_all}
+use Rattle.text_lines.specs.Lines.{text_of}
+use Rattle.event_journal.specs.Logs.{abandoned_in}
+use Rattle.report_text.specs.JournalText.{abandoned_fields}
+use Rattle.report_text.proofs.journal_lengths.log_abandoned_len.Goals as goal
+
+pub returns : goal.returns
+returns c =
+    let l = c.loop-log in
+    let none = at_drop_all (λ xs. length (text_of (map abandoned_fields (abandoned_in xs)))) c.args.logs.now l.log-index c.loop-log-test.false in
+    omega (arith, none, l.invariant.left, l.invariant.fits)

@@ -1,0 +1,13 @@
+use Rattle.std.proofs.Common.{arith, length, map}
+use Rattle.std.specs.Prelude.{flat_map}
+use Rattle.std.proofs.lemmas.List.{at_drop_all}
+use Rattle.text_lines.specs.Lines.{text_of}
+use Rattle.event_journal.specs.Logs.{records_of}
+use Rattle.report_text.specs.JournalText.{record_fields}
+use Rattle.report_text.proofs.journal_lengths.log_records_len.Goals as goal
+
+pub returns : goal.returns
+returns c =
+    let l = c.loop-log in
+    let none = at_drop_all (λ xs. length (text_of (map record_fields (flat_map records_of xs)))) c.args.logs.now l.log-index c.loop-log-test.false in
+    omega (arith, none, l.invariant.left, l.invariant.fits)

@@ -1,0 +1,10 @@
+use Rattle.std.proofs.Common.{List, ℕ, ◌≡◌, ◌++◌, drop, map}
+use Rattle.text_lines.specs.Lines.{text_of}
+use Rattle.report_text.specs.JournalText.{record_fields}
+use Rattle.report_text.proofs.printed.push_record_lines.Given as goal
+
+abbrev pub invariant-loop-entry : goal.invariant-loop-entry
+invariant-loop-entry l = record {
+  done : l.out.items ++ text_of (map record_fields (drop l.entry-index l.records)) ≡ l.initial.out.items ++ text_of (map record_fields l.records);
+  kept : (more : List ℕ) × (l.out.items ≡ l.initial.out.items ++ more);
+}

@@ -1,0 +1,11 @@
+pub mod Again
+pub mod Cursors
+pub mod Cuts
+pub mod Entries
+pub mod Forms
+pub mod JournalText
+pub mod Lengths
+pub mod OneReport
+pub mod Reading
+pub mod Report
+pub mod Writing

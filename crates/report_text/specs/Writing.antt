@@ -1,0 +1,18 @@
+-- A text that is put to a sink.
+use Rattle.std.specs.Prelude.{◌≡◌, ℕ, List, Result, Ok, Err}
+use Rattle.feast_base.specs.Loading.{IsPut, IsCut}
+use Rattle.feast_base.specs.Outside.{SinkState}
+use Rattle.feast_base.specs.declared.sink.SinkFailed.{SinkFailed}
+use Rattle.report_text.specs.declared.write_fault.WriteFault.{WriteFault}
+use Rattle.report_text.specs.declared.write_fault.WriteFault.TheVariants.{Sink, NoMemory}
+
+-- all of a text was put, or the sink failed and has a first part of it
+abbrev pub PutsAll : {T : Type 0} → SinkState → SinkState → List ℕ → Result T SinkFailed → Type 0
+PutsAll old new text (Ok x) = IsPut old new text
+PutsAll old new text (Err e) = IsCut old new text
+
+-- the same, or there was no memory and nothing was put
+abbrev pub Writes : {T : Type 0} → SinkState → SinkState → List ℕ → Result T WriteFault → Type 0
+Writes old new text (Ok x) = IsPut old new text
+Writes old new text (Err Sink) = IsCut old new text
+Writes old new text (Err NoMemory) = (new.written ≡ old.written) × (new.faults ≡ old.faults)

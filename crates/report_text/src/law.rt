@@ -1,0 +1,51 @@
+//! Laws on reports as texts, on reports that are read again, and on reports that are cut short.
+ghost use Rattle.report_text.specs.Again.{AreFormed, AreReadAgain, IsDrawablePlan};
+ghost use Rattle.report_text.specs.Cuts.{AreCutShort};
+ghost use Rattle.report_text.specs.OneReport.{AreTypeNames, IsOneReport, IsReported};
+ghost use Rattle.report_text.specs.Report.{AreNamed, of_logs};
+
+use crate::fitting::is_reported;
+use cell_grid::Grid;
+use draw_stream::AttemptPlan;
+use event_journal::Journal;
+use feast_base::Name;
+use tile_map::Map;
+
+/// The report of any run of a plan, printed with these names of types and read with the map and the
+/// plan, says the events and the abandoned attempts that the run left. The call does nothing: its
+/// contract is the law.
+pub fn reads_again(map: &Map, plan: &AttemptPlan, names: &[Name])
+    requires names { AreFormed names.now }
+    requires plan { IsDrawablePlan map.now plan.now }
+    ensures { AreReadAgain names.now map.now plan.now }
+{
+    // Only the contract speaks of the arguments; they are read so that none is unused.
+    let _tiles = map.tiles();
+    let _origin = plan.origin();
+    let _names = names.len();
+}
+
+/// If two reports with these names are equal as texts, they show the same atoms, so that grids of
+/// one size are the same, and they have the same events and the same abandoned attempts. No two of
+/// the names are the same. What `write_report` takes with these names makes such a report. The call
+/// does nothing: its contract is the law.
+pub fn one_report(grid: &Grid, journal: &Journal, names: &[Name])
+    requires named { AreNamed names.now grid.now.atoms }
+    requires names { AreTypeNames names.now }
+    ensures one { IsOneReport names.now }
+    ensures reported { IsReported names.now (of_logs grid.now journal.now) }
+{
+    is_reported(grid, journal, names);
+}
+
+/// If a text of lines is a report of a map and a plan, then its first lines, unless they are all of
+/// them, are no report, and `read` answers `BadLine` with the line after them. The call does
+/// nothing: its contract is the law.
+#[tactic(auto, using(crate::proofs::Shorter::cut_short))]
+pub fn cuts(map: &Map, plan: &AttemptPlan)
+    ensures { AreCutShort map.now plan.now.lists }
+{
+    // Only the contract speaks of the arguments; they are read so that none is unused.
+    let _tiles = map.tiles();
+    let _origin = plan.origin();
+}

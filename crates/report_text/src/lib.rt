@@ -1,0 +1,32 @@
+//! The text of the report of a run: printed, put to a sink in pieces of one size, and read again.
+//!
+//! A report is the line `feast 1`, the number of sites that are not empty and a line for each of
+//! them in row order, and then the journal: the number of events and a line for each, and the
+//! number of attempts that were given up and a line for each.
+#![tactic(auto)]
+
+mod cursors;
+mod fitting;
+mod forms;
+mod grid_lengths;
+mod journal_fault;
+mod journal_lengths;
+mod law;
+mod line;
+mod page;
+mod placing;
+mod printed;
+mod reader;
+mod reading;
+mod shown;
+mod write_fault;
+mod writer;
+
+pub use journal_fault::{JournalFault, LineFault};
+pub use journal_lengths::{count_len, entries_text_len, journal_text_len, number_len};
+pub use law::{cuts, one_report, reads_again};
+pub use printed::{count_fields, print, print_entries};
+pub use reader::{ReadJournal, read};
+pub use shown::atoms;
+pub use write_fault::WriteFault;
+pub use writer::{grid_text, printed_report, write_report};
