@@ -1,7 +1,7 @@
 """The frames of a film: what changed on the plane from each to the next, and which attempts were given up."""
 from bisect import bisect_right
 from collections import Counter, defaultdict
-from collections.abc import Collection, Iterator, Sequence
+from collections.abc import Collection, Generator, Sequence
 from dataclasses import dataclass, field
 from pathlib import Path
 from typing import Protocol
@@ -137,8 +137,8 @@ class Kept:
             frame.abandoned += self.leg.abandoned
 
 
-def frames(plane: Plane, legs: Sequence[Leg], moments: Collection[int]) -> Iterator[Frame]:
-    """The frame at the start, and those at the moments, counted in events over all legs.
+def frames(plane: Plane, legs: Sequence[Leg], moments: Collection[int]) -> Generator[Frame, None, Frame]:
+    """The frame at the start, and those at the moments, counted in events over all legs; it ends with what is behind these.
 
     If a leg begins with other atoms than the one before left, that is a frame too, with as many events.
     """
@@ -160,6 +160,7 @@ def frames(plane: Plane, legs: Sequence[Leg], moments: Collection[int]) -> Itera
                 yield frame
                 frame = Frame()
         done += leg.events
+    return frame
 
 
 def moments_of(world: World, report: Report) -> list[tuple[int, int]]:
