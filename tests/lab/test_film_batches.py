@@ -1,4 +1,5 @@
 """Films of long chains, whose legs are played side by side, against those whose legs are played one after another."""
+import os
 from pathlib import Path
 from unittest.mock import patch
 
@@ -19,7 +20,7 @@ class SideBySide(LabCase):
     def made(self, name: str, least: int, *options: str) -> tuple[str, str]:
         """The page and the table of the chain's film, made in batches of so many events."""
         page, table = self.room / f"{name}.html", self.room / f"{name}.csv"
-        with patch.object(film_batches, "LEAST", least), patch.object(film_batches.os, "sched_getaffinity", return_value={0, 1, 2}):
+        with patch.object(film_batches, "LEAST", least), patch.object(os, "sched_getaffinity", return_value={0, 1, 2}):
             done = here("film", self.chain, "-o", page, "--table", table, *options)
         self.assertEqual((done.status, done.said), (0, ""))
         return page.read_text(), table.read_text()
