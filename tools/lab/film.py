@@ -177,9 +177,10 @@ def table_of(source: Source, films: Iterator[Frame], curves: Curves, has_failure
 
 def told_drift(source: Source, made: bytes) -> float:
     """The drift of the whole run, from the tile of each of its events; warns if its moments mix ages."""
-    legs = [(plans(World.read(leg.world)), made[begin:end])
-            for leg, (begin, end) in zip(source.legs, pairwise(source.ends), strict=True)] if made else []
-    drift = max(of_legs(legs), default=0.0)
+    drift = 0.0
+    if made and source.world.tiles > 1:
+        parts = zip(source.legs, pairwise(source.ends), strict=True)
+        drift = max(of_legs([(plans(World.read(leg.world)), made[begin:end]) for leg, (begin, end) in parts]))
     if drift > MIXED:
         print(f"lab: warning: {source.title}: {warning(drift)}", file=sys.stderr)
     return drift
