@@ -11,6 +11,7 @@ import tempfile
 from collections.abc import Collection, Iterable, Iterator, Sequence
 from concurrent.futures import ThreadPoolExecutor
 from dataclasses import dataclass
+from functools import partial
 from pathlib import Path
 
 from lab.errors import LabError
@@ -62,11 +63,14 @@ def side_by_side(plane: Plane, legs: Sequence[Leg], moments: Collection[int]) ->
     if jobs < 2 or not all(isinstance(leg, Reported) for leg in legs):
         yield from frames(plane, legs, moments)
         return
-    pool = ThreadPoolExecutor(jobs)
+    pool, running = ThreadPoolExecutor(jobs), list[subprocess.Popen[bytes]]()
     try:
-        yield from joined(found, pool.map(played_apart, found))
-    finally:
-        pool.shutdown(cancel_futures=True)
+        yield from joined(found, pool.map(partial(played_apart, running), found))
+    finally:  # if the film is stopped, or a batch can't be played, the others end too
+        pool.shutdown(wait=False, cancel_futures=True)
+        for process in running:
+            process.kill()
+        pool.shutdown()
 
 
 def batches(plane: Plane, legs: Sequence[Leg], moments: Collection[int]) -> list[Batch]:
@@ -85,14 +89,16 @@ def batches(plane: Plane, legs: Sequence[Leg], moments: Collection[int]) -> list
     return found
 
 
-def played_apart(batch: Batch) -> Played:
-    """Has a process of its own play a batch."""
+def played_apart(running: list["subprocess.Popen[bytes]"], batch: Batch) -> Played:
+    """Has a process of its own, which is put to those that run, play a batch."""
     words = [sys.executable, "-B", "-c", CALL, str(TOOLS)]
-    done = subprocess.run(words, input=pickle.dumps(batch), capture_output=True, check=False)
-    if done.returncode != 0:
-        last = done.stderr.decode(errors="replace").strip().rpartition("\n")[2]
-        raise LabError(f"{batch.legs[0].world}: the process that was to play it ended with status {done.returncode}: {last}")
-    found = pickle.loads(done.stdout)
+    with subprocess.Popen(words, stdin=subprocess.PIPE, stdout=subprocess.PIPE, stderr=subprocess.PIPE) as process:
+        running.append(process)
+        out, errors = process.communicate(pickle.dumps(batch))
+    if process.returncode != 0:
+        last = errors.decode(errors="replace").strip().rpartition("\n")[2]
+        raise LabError(f"{batch.legs[0].world}: the process that was to play it ended with status {process.returncode}: {last}")
+    found = pickle.loads(out)
     if isinstance(found, Exception):
         raise found
     assert isinstance(found, Played)
