@@ -107,10 +107,12 @@ def piece_of(part: str, tests: Sequence[unittest.TestCase], number: int) -> list
     """The tests of a part that are in one of its pieces."""
     if number == WHOLE:
         return list(tests)
-    alone = [test for test in tests if test.id() in PARTS[part].alone]
+    # (by their names, since unittest takes all tests of a class and a method for equal)
+    is_alone = [test.id() in PARTS[part].alone for test in tests]
     if number == ALONE:
-        return alone
-    groups = [list(group) for _, group in itertools.groupby((it for it in tests if it not in alone), key_of)]
+        return list(itertools.compress(tests, is_alone))
+    side = (test for test, by_itself in zip(tests, is_alone) if not by_itself)
+    groups = [list(group) for _, group in itertools.groupby(side, key_of)]
     return [test for group in groups[number :: PARTS[part].pieces] for test in group]
 
 

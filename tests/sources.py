@@ -31,9 +31,22 @@ def links() -> Optional[str]:
     return f"symbolic links, which rt refuses: {', '.join(found)}" if found else None
 
 
+def pieces() -> Optional[str]:
+    """Whether some check of a part is in none of the pieces into which the driver cuts it, or in several."""
+    from driver import ALONE, PARTS, piece_of
+
+    part = PARTS["hostile"]
+    names = sorted([*"abcdefghijkl", *part.alone])
+    tests = [Check(name, links) for name in names]
+    found = [piece_of("hostile", tests, number) for number in [*range(part.pieces), ALONE]]
+    wrong = sorted(test.id() for piece in found for test in piece) != names or len(found[-1]) != len(part.alone)
+    return f"of {names} the pieces have {[[test.id() for test in piece] for piece in found]}" if wrong else None
+
+
 def checks(_: object) -> Iterator[Check]:
-    """A check for each script, and one for links."""
+    """A check for each script, one for links, and one for the driver's pieces."""
     yield Check("links", links)
+    yield Check("pieces", pieces)
     for script, *options in SCRIPTS:
         yield Check(script, partial(fault, script, *options))
 

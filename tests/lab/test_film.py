@@ -253,8 +253,9 @@ class Refusals(FilmCase):
         front = self.elements.read_text().split("/** Wanders")[0]
         line = front.count("\n") + 2
         text = self.elements.read_text()
-        for number, (command, wanted) in enumerate((("\\color red", "#rgb or #rrggbb, not 'red'"), ("\\color #12", "#rgb or #rrggbb, not '#12'"),
-                                                    ("\\symbol long", "one to three letters, not 'long'"), ("\\symbol", "one to three letters, not ''"))):
+        cases = (("\\color red", "#rgb or #rrggbb, not 'red'"), ("\\color #12", "#rgb or #rrggbb, not '#12'"),
+                 ("\\symbol long", "one to three letters, not 'long'"), ("\\symbol", "one to three letters, not ''"))
+        for number, (command, wanted) in enumerate(cases):
             file = self.file(f"bad{number}.ulam", text.replace("/** Wanders,", f"/** Wanders\n{command} */ /*"))
             kind = command[1:].partition(" ")[0]
             for out in ("one.html", "two.svg"):  # it is said once, and in place of it there is one of the lab's own

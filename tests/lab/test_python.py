@@ -130,6 +130,15 @@ class Package(LabCase):
         events = len(re.findall(r"(?m)^\d+ \d+ \d+ \d+ \d+ [0-9a-f]{16}$", gzip.decompress(packed.read_bytes()).decode()))
         self.assertEqual(done.stdout.splitlines(), [f"2 yes [0, 1, 2] {course[3].split(',')[2]}", str(events), *["refused"] * 9])
 
+    def test_failed(self) -> None:
+        """The course of a chain that looks for failed events has them, in the place where its file has them."""
+        chain = self.room / "failing"
+        self.passes("chain", chain, "--legs", "2", "--failures", self.world, self.elements)
+        script = f"import feast_lab\nfor row in feast_lab.Chain({str(chain)!r}).course: print(*row); print(row['failed'])\n"
+        done = subprocess.run(without_extras(), input=script, capture_output=True, text=True, check=False)
+        head, *rows = (line.split(",") for line in (chain / "course.csv").read_text().splitlines())
+        self.assertEqual(done.stdout.splitlines(), [line for row in rows for line in (" ".join(head), row[4])])
+
     def test_version(self) -> None:
         """The package has the version of the repository."""
         script = "import feast_lab; print(feast_lab.__version__)"

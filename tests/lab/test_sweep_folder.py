@@ -118,7 +118,8 @@ class Folders(FolderCase):
         self.refused("--at 1:clear:0,0,{p},1: p has no values", *self.words("--at", "1:clear:0,0,{p},1"))
         self.refused("--at 1:clear:0,0,17,1: ", *self.words("--at", "1:clear:0,0,17,1"))
         self.refused("--at 2:clear:0,0,1,1: a run has 1 leg; give --legs 2 or more", *self.words("--at", "2:clear:0,0,1,1"))
-        self.refused("--at 4:clear:0,0,1,1: a run has 3 legs; give --legs 4 or more", *self.words("--legs", "3", "--at", "{k}:clear:0,0,1,1", "--set", "k=2:4"))
+        self.refused("--at 4:clear:0,0,1,1: a run has 3 legs; give --legs 4 or more",
+                     *self.words("--legs", "3", "--at", "{k}:clear:0,0,1,1", "--set", "k=2:4"))
         self.refused("--keep reports: it takes a folder", *self.words("--keep", "reports"))
         self.refused("--until Atoms.Nobody=0: no file", *self.words("--until", "Atoms.Nobody=0"))
         self.refused("not allowed with argument", *self.words("--into", self.out, "--plan", self.out))

@@ -32,7 +32,8 @@ def with_failures(maker: Maker, course: Course) -> Maker:
         return maker
     legs = len(course.legs) - 1
     if legs and maker.begun.keep != "reports":
-        raise LabError(f"{maker.folder.path}: --failures takes the reports of the legs that are done, and the chain keeps none")
+        raise LabError(f"{maker.folder.path}: --failures takes the reports of the legs that are done, and the chain keeps none; "
+                       "begin another one with it")
     finder = Finder(maker.program, maker.folder.files, maker.rule.world)
     progress, found = Progress(max(legs, 1)), [0]
     for leg in range(1, legs + 1):

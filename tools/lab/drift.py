@@ -37,6 +37,8 @@ def drifts(planned: Sequence[int], tiles: Sequence[int]) -> list[float]:
 
     A tile without events is never ahead, and nobody is ahead of it.
     """
+    if len(planned) == 1:
+        return [0.0]
     made, events, most = [0] * len(planned), Counter(tiles), max(planned) or 1
     each = [plan / most / max(events[tile], 1) for tile, plan in enumerate(planned)]
     # the tiles that aren't done, each with its age or an earlier one of its ages; the first has its age of now

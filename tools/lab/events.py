@@ -8,7 +8,7 @@ import argparse
 import sys
 from pathlib import Path
 
-from lab.report import Reader
+from lab.report import Report
 
 EVENT = "event,stamp,tile,attempt,x,y,seed"
 ABANDONED = "tile,attempt,x,y,edge,holder,holder_attempt"
@@ -22,9 +22,7 @@ def add_arguments(parser: argparse.ArgumentParser) -> None:
 
 def run(arguments: argparse.Namespace) -> int:
     """Writes the rows to standard output."""
-    reader = Reader.of(arguments.report)
-    report = reader.report(reader.atoms())
-    reader.end()
+    report = Report.read(arguments.report)
     if arguments.abandoned:
         head, rows = ABANDONED, [line.replace(" ", ",") for line in report.abandoned.lines]
     else:

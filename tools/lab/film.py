@@ -24,12 +24,13 @@ from lab.errors import LabError
 from lab.failure_plane import FailurePlane
 from lab.figure import plane_figure
 from lab.files import write_whole
+from lab.film_batches import side_by_side
 from lab.film_data import Packer
 from lab.film_measures import Curves
 from lab.film_page import page
 from lab.film_source import Source
 from lab.film_table import Table
-from lab.frames import Frame, Reported, frames
+from lab.frames import Frame, Reported
 from lab.layout import Leaf
 from lab.marks import marks
 from lab.measures import add_measure_options
@@ -147,7 +148,7 @@ def refuse_outputs(arguments: argparse.Namespace) -> None:
 def shown(plane: Plane, source: Source, count: int) -> Iterator[Frame]:
     """The frames, with the progress on standard error."""
     progress = Progress(max(source.ends[-1], 1))
-    for frame in frames(plane, source.legs, source.moments(count)):
+    for frame in side_by_side(plane, source.legs, source.moments(count)):
         yield frame
         progress.at(frame.events, f"after {frame.events:,} events")
     progress.end()
@@ -176,9 +177,10 @@ def table_of(source: Source, films: Iterator[Frame], curves: Curves, has_failure
 
 def told_drift(source: Source, made: bytes) -> float:
     """The drift of the whole run, from the tile of each of its events; warns if its moments mix ages."""
-    legs = [(plans(World.read(leg.world)), made[begin:end])
-            for leg, (begin, end) in zip(source.legs, pairwise(source.ends), strict=True)] if made else []
-    drift = max(of_legs(legs), default=0.0)
+    drift = 0.0
+    if made and source.world.tiles > 1:
+        parts = zip(source.legs, pairwise(source.ends), strict=True)
+        drift = max(of_legs([(plans(World.read(leg.world)), made[begin:end]) for leg, (begin, end) in parts]))
     if drift > MIXED:
         print(f"lab: warning: {source.title}: {warning(drift)}", file=sys.stderr)
     return drift

@@ -1,7 +1,7 @@
 """The frames of a film: what changed on the plane from each to the next, and which attempts were given up."""
 from bisect import bisect_right
 from collections import Counter, defaultdict
-from collections.abc import Collection, Iterator, Sequence
+from collections.abc import Collection, Generator, Sequence
 from dataclasses import dataclass, field
 from pathlib import Path
 from typing import Protocol
@@ -9,6 +9,7 @@ from typing import Protocol
 from lab.drift import tiles_of
 from lab.errors import LabError
 from lab.files import read_text
+from lab.kept import read_report
 from lab.outcome import atom_lines
 from lab.program import Program
 from lab.replays import Plane, call_on
@@ -68,15 +69,17 @@ class Reported(Leg):
 
     def checked(self, program: Program, files: Sequence[Path], room: Path) -> Report:
         """The report. Refuses one whose events aren't those of its world, or don't lead to its atoms."""
-        report = self.known or Report.read(self.report)
-        lines = call_on(program, self.report, room, ["replay", self.world], files)
+        data = read_report(self.report)
+        report = self.known or Report.of(self.report, data)
+        lines = call_on(program, self.report, data, room, ["replay", self.world], files)
         if lines[2:] != [atom.text() for atom in report.atoms]:
             raise LabError(f"{self.report}: its atoms are not those to which its events lead from {self.world}")
         return report
 
     def atoms_after(self, plane: Plane, events: int) -> list[str]:
         """The lines of the atoms, by `rewind`."""
-        return call_on(plane.program, self.report, plane.room, ["rewind", self.world, str(events)], plane.files)[2:]
+        data = read_report(self.report)
+        return call_on(plane.program, self.report, data, plane.room, ["rewind", self.world, str(events)], plane.files)[2:]
 
 
 @dataclass(frozen=True)
@@ -111,7 +114,7 @@ class Played:
     def go(self, upto: int, frame: Frame) -> None:
         """Plays until so many events of the leg are over, into a frame."""
         frame.changes |= self.plane.play(self.records[self.at:upto])
-        frame.made += tiles_of(self.records[self.at:upto])
+        frame.made += tiles_of(self.records[self.at:upto]) if self.plane.world.tiles > 1 else bytes(max(upto - self.at, 0))
         frame.failed.update(self.plane.failed)
         self.plane.failed.clear()
         self.at = upto
@@ -134,8 +137,8 @@ class Kept:
             frame.abandoned += self.leg.abandoned
 
 
-def frames(plane: Plane, legs: Sequence[Leg], moments: Collection[int]) -> Iterator[Frame]:
-    """The frame at the start, and those at the moments, counted in events over all legs.
+def frames(plane: Plane, legs: Sequence[Leg], moments: Collection[int]) -> Generator[Frame, None, Frame]:
+    """The frame at the start, and those at the moments, counted in events over all legs; it ends with what is behind these.
 
     If a leg begins with other atoms than the one before left, that is a frame too, with as many events.
     """
@@ -157,6 +160,7 @@ def frames(plane: Plane, legs: Sequence[Leg], moments: Collection[int]) -> Itera
                 yield frame
                 frame = Frame()
         done += leg.events
+    return frame
 
 
 def moments_of(world: World, report: Report) -> list[tuple[int, int]]:

@@ -16,7 +16,7 @@ is another than the one that the leg wrote, that is found. What is kept is a tex
 import gzip
 import hashlib
 from collections import defaultdict
-from collections.abc import Iterator, Sequence
+from collections.abc import Iterator, Mapping, Sequence
 from itertools import accumulate, groupby, pairwise
 from pathlib import Path
 
@@ -40,9 +40,8 @@ def pack(report: bytes, world: World) -> bytes:
     """A report of a world that draws its attempts, to be kept. Raises ValueError or LookupError if it isn't in the form of one."""
     journal, abandoned = report.index(JOURNAL) + 1, report.rindex(ABANDONED) + 1
     on = [tile for tile in range(world.tiles) if tile not in world.off]
-    events = report[journal:abandoned].decode("ascii").splitlines()
     given_up = report[abandoned:].decode("ascii").splitlines()[1:]
-    stamps = stamps_of(events[1:], on)
+    stamps = stamps_of(report[journal:abandoned], on)
     lost: dict[int, list[list[int]]] = defaultdict(list)
     for line in given_up:
         tile, attempt, _, _, edge, holder, held = map(int, line.split(" "))
@@ -57,12 +56,15 @@ def pack(report: bytes, world: World) -> bytes:
     return gzip.compress((FRONT + "".join(lines)).encode(), PACKING, mtime=0)
 
 
-def stamps_of(events: Sequence[str], on: Sequence[int]) -> dict[int, list[int]]:
-    """The stamps of the events of each tile. A tile without neighbours stamps its events 1, 2, 3 and so on."""
+def stamps_of(journal: bytes, on: Sequence[int]) -> Mapping[int, Sequence[int]]:
+    """The stamps of the events of each tile, from the lines of the journal and the one before them, which counts them.
+
+    A tile without neighbours stamps its events 1, 2, 3 and so on.
+    """
     if len(on) == 1:
-        return {on[0]: list(range(1, len(events) + 1))}
+        return {on[0]: range(1, journal.count(b"\n"))}
     texts: dict[str, list[str]] = {str(tile): [] for tile in on}
-    for line in events:
+    for line in journal.decode("ascii").splitlines()[1:]:
         stamp, tile, _ = line.split(" ", 2)
         texts[tile].append(stamp)
     return {int(tile): list(map(int, stamps)) for tile, stamps in texts.items()}
@@ -70,6 +72,8 @@ def stamps_of(events: Sequence[str], on: Sequence[int]) -> dict[int, list[int]]:
 
 def runs(stamps: Sequence[int]) -> str:
     """The differences of numbers, equal ones together."""
+    if isinstance(stamps, range):  # 1, 2, 3 and so on
+        return f"1x{len(stamps)}" if len(stamps) > 1 else "1" * len(stamps)
     groups = ((way, sum(1 for _ in group)) for way, group in groupby(later - stamp for stamp, later in pairwise([0, *stamps])))
     return " ".join(f"{way}x{count}" if count > 1 else str(way) for way, count in groups)
 

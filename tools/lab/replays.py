@@ -9,9 +9,9 @@ reaches: a window lies in the block of its centre and the eight about that.
 from collections import Counter, defaultdict
 from collections.abc import Iterable, Sequence
 from dataclasses import replace
+from itertools import count
 from pathlib import Path
 
-from lab.kept import read_report
 from lab.program import Program, Refusal
 from lab.world import World
 
@@ -46,8 +46,9 @@ class Plane:
         """Makes the next events, which are lines of a journal; gives back what changed."""
         if not records:
             return {}
-        fields = [line.split(" ") for line in records]
-        centres = {(int(x) // SIDE, int(y) // SIDE) for _, _, _, x, y, _ in fields}
+        fields = " ".join(records).split(" ")  # six of each event
+        sites = set(zip(fields[3::6], fields[4::6], strict=True))
+        centres = {(int(x) // SIDE, int(y) // SIDE) for x, y in sites}
         reached = {(across + x, down + y) for across, down in centres for x in (-1, 0, 1) for y in (-1, 0, 1)}
         before = set().union(*(self.blocks[block] for block in reached if block in self.blocks))
         return self.change(before, set(self.replayed(fields, before)))
@@ -65,25 +66,24 @@ class Plane:
             changes[int(y) * self.world.columns + int(x)] = atom
         return changes
 
-    def replayed(self, records: Iterable[Sequence[str]], before: Iterable[str]) -> list[str]:
-        """The lines of the atoms that events leave, by a call of the program."""
-        made: Counter[str] = Counter()
-        tries, journal = [], []
-        for stamp, tile, _, x, y, seed in records:
-            tries.append(f"try {tile} {x} {y} {seed}\n")
-            journal.append(f"{stamp} {tile} {made[tile]} {x} {y} {seed}\n")
-            made[tile] += 1
+    def replayed(self, fields: Sequence[str], before: Iterable[str]) -> list[str]:
+        """The lines of the atoms that events leave, by a call of the program; each event has six of the fields."""
+        stamps, tiles, _, columns, rows, seeds = (fields[at::6] for at in range(6))
+        turns = {tile: count() for tile in set(tiles)}
+        made = [next(turns[tile]) for tile in tiles]
+        tries = "".join(map("try {} {} {} {}\n".format, tiles, columns, rows, seeds))
+        journal = "".join(map("{} {} {} {} {} {}\n".format, stamps, tiles, made, columns, rows, seeds))
         world, report = self.room / "part.world", self.room / "part.report"
         atoms = "".join(f"atom {line}\n" for line in before)
-        world.write_text(self.world.front() + "".join(tries) + atoms)
-        report.write_text(f"feast 1\natoms 0\njournal {len(journal)}\n{''.join(journal)}abandoned 0\n")
+        world.write_text(self.world.front() + tries + atoms)
+        report.write_text(f"feast 1\natoms 0\njournal {len(made)}\n{journal}abandoned 0\n")
         return self.program.call(["replay", world, report, *self.files]).text.splitlines()[2:]
 
 
-def call_on(program: Program, report: Path, room: Path, words: Sequence[str | Path], files: Sequence[Path]) -> list[str]:
-    """The lines that a call writes of a report, which may be packed, between the words and the files."""
+def call_on(program: Program, report: Path, data: bytes, room: Path, words: Sequence[str | Path], files: Sequence[Path]) -> list[str]:
+    """The lines that a call writes of a report, which has these bytes or leads to them, between the words and the files."""
     plain = room / "whole.report"
-    plain.write_bytes(read_report(report))
+    plain.write_bytes(data)
     before, after = words[:2], words[2:]
     try:
         return program.call([*before, plain, *after, *files]).text.splitlines()

@@ -86,7 +86,12 @@ class Report:
     @staticmethod
     def read(path: Path) -> "Report":
         """The report of a file, packed by gzip or not, or kept by a chain; each line is tested for its form."""
-        reader = Reader.of(path)
+        return Report.of(path, read_report(path))
+
+    @staticmethod
+    def of(path: Path, data: bytes) -> "Report":
+        """The report whose bytes a file has, or leads to; each line is tested for its form."""
+        reader = Reader.of(path, data)
         report = reader.report(reader.atoms())
         reader.end()
         return report
@@ -94,7 +99,7 @@ class Report:
 
 def read_atoms(path: Path) -> list[Placed]:
     """The atoms of a report, or of what `replay` and `rewind` write, which is the first part of one."""
-    reader = Reader.of(path)
+    reader = Reader.of(path, read_report(path))
     atoms = reader.atoms()
     if not reader.is_over:
         reader.report(atoms)
@@ -119,9 +124,8 @@ class Reader:
             raise LabError(f"{path}:1: no report: its first line is not `feast 1`")
 
     @staticmethod
-    def of(path: Path) -> "Reader":
-        """What reads a file, packed by gzip or not, or kept by a chain."""
-        data = read_report(path)
+    def of(path: Path, data: bytes) -> "Reader":
+        """What reads the bytes that a file has, or leads to."""
         if REFUSAL.fullmatch(data):
             raise LabError(f"{path}: no report, but the line of a call that was refused: "
                            f"{data.decode(errors='replace').strip()}")
@@ -149,9 +153,9 @@ class Reader:
         if self.at >= len(self.lines):
             raise LabError(f"{self.path}: the report ends too early: it has fewer than {head[1]} lines of `{word}`")
         found = self.lines[first:self.at]
-        for number, line in enumerate(found, first + 1):
-            if form.fullmatch(line) is None:
-                raise LabError(f"{self.path}:{number}: no line of the part `{word}` of a report: {line[:40]}")
+        if not all(map(form.fullmatch, found)):
+            number, line = next((number, line) for number, line in enumerate(found, first + 1) if form.fullmatch(line) is None)
+            raise LabError(f"{self.path}:{number}: no line of the part `{word}` of a report: {line[:40]}")
         return found
 
     @property

@@ -1,5 +1,5 @@
 //! A tile's copy of the sites that it holds.
-ghost use Rattle.std.specs.Prelude.{◌≡◌, ◌+◌, ◌*◌, ◌<◌, ◌≤◌, ℕ, length, IsTrue, IsSome, IfOk, IfSome};
+ghost use Rattle.std.specs.Prelude.{◌≡◌, ◌+◌, ◌<◌, ◌≤◌, ℕ, length, IsTrue, IsSome, IfOk, IfSome};
 ghost use Rattle.bit_field.specs.Atom.{empty_atom};
 ghost use Rattle.tile_map.specs.Plane.{IsMap, site, tiles_of, is_held};
 ghost use Rattle.tile_map.specs.Edges.{window_site, needs_of};
@@ -7,11 +7,12 @@ ghost use Rattle.cell_grid.specs.Grid.{site_atom};
 ghost use Rattle.window_sites.specs.Window.{atom_at};
 ghost use Rattle.edge_lock.specs.EndLists.{IsHeld};
 ghost use Rattle.edge_lock.specs.EndValues.{SameEnd};
+ghost use Rattle.border_cache.specs.Borders.{IsCentreOf, site_of};
 ghost use Rattle.border_cache.specs.Cells.{cell_value};
 ghost use Rattle.border_cache.specs.Windows.{has, has_corners, IsView, IsWhole};
 ghost use Rattle.border_cache.specs.Shared.{Renews};
 ghost use Rattle.plane_grid.specs.PlaneGrids.{IsGridOf};
-ghost use Rattle.border_cache.specs.Copies.{IsFirstCopy, patch, AreAtomsIn, IsCentre, HoldsWindow, IsEndOf, Puts, PutsFor, at, Refreshed, Published, Marked, Stamped, IsCorner, place_held, held_cell, window_cells};
+ghost use Rattle.border_cache.specs.Copies.{IsFirstCopy, patch, AreAtomsIn, IsCentre, IsEndOf, Puts, PutsFor, at, Refreshed, Published, Marked, Stamped, IsCorner, place_held, held_cell, window_cells};
 
 use crate::border::Centre;
 use crate::cell::Cell;
@@ -129,7 +130,7 @@ impl Cache {
         map.laws();
         match self.corner(map, x, y) {
             Some(low) => self.cells.read_window(low, self.width as usize, window),
-            None => *window = view_of(map, self, x, y),
+            None => *window = view_of(map, self, Centre { x, y }),
         }
     }
 
@@ -143,7 +144,7 @@ impl Cache {
         map.laws();
         match self.corner(map, x, y) {
             Some(low) => self.cells.mark(low, self.width as usize, window, stamp),
-            None => self.mark_sites(map, x, y, window, stamp),
+            None => self.mark_sites(map, Centre { x, y }, window, stamp),
         }
     }
 
@@ -157,7 +158,7 @@ impl Cache {
         map.laws();
         match self.corner(map, x, y) {
             Some(low) => self.cells.stamp(low, self.width as usize, stamp),
-            None => self.stamp_sites(map, x, y, stamp),
+            None => self.stamp_sites(map, Centre { x, y }, stamp),
         }
     }
 
@@ -238,7 +239,7 @@ impl Cache {
         ensures whole { IsTrue result → IsWhole self.now.map (site x y) }
         ensures found { IsTrue (has_corners self.now.map (site x y)) → IsTrue result }
     {
-        self.has_own_window(x, y) || is_whole(map, x, y)
+        self.has_own_window(x, y) || is_whole(map, Centre { x, y })
     }
 
     /// The place at which the nine rows and nine columns around a centre start, if `is_all_live`
@@ -258,61 +259,45 @@ impl Cache {
     }
 
     /// The cell of site `n` of the window at a centre.
-    fn cell_around(&self, map: &Map, x: u32, y: u32, n: u8) -> Cell
-        requires map { map.now ≡ self.now.map }
-        requires valid { IsMap map.now }
-        requires holds { HoldsWindow self.now.map self.now.tile (site x y) }
+    fn cell_around(&self, map: &Map, centre: Centre, n: u8) -> Cell
+        requires centre { IsCentreOf map.now self.now centre }
         requires n { n ≤ 40 }
-        requires x { x < map.now.tx * map.now.w }
-        requires y { y < map.now.ty * map.now.h }
-        ensures { result ≡ window_cells self.now (site x y) n }
+        ensures { result ≡ window_cells self.now (site_of centre) n }
     {
-        match site_at(map, x, y, n) {
+        match site_at(map, centre, n) {
             Some((u, v)) => self.cells.get(self.index(u, v)),
             None => Cell::new(0, Atom::new(0, 0)),
         }
     }
 
     /// Gives each live site of the window at a centre its atom of an event's window and a stamp.
-    fn mark_sites(&mut self, map: &Map, x: u32, y: u32, window: &Window, stamp: u32)
-        requires map { map.now ≡ self.old.map }
-        requires valid { IsMap map.now }
-        requires holds { HoldsWindow self.old.map self.old.tile (site x y) }
-        requires x { x < map.now.tx * map.now.w }
-        requires y { y < map.now.ty * map.now.h }
-        ensures { Marked (site x y) window.now stamp self.old self.new }
+    fn mark_sites(&mut self, map: &Map, centre: Centre, window: &Window, stamp: u32)
+        requires centre { IsCentreOf map.now self.old centre }
+        ensures { Marked (site_of centre) window.now stamp self.old self.new }
     {
         for n in 0..41u8 {
-            self.put_around(map, x, y, n, Cell::new(stamp, window.get(n)));
+            self.put_around(map, centre, n, Cell::new(stamp, window.get(n)));
         }
     }
 
     /// Gives the live sites of the window at a centre a stamp. Each keeps its atom.
-    fn stamp_sites(&mut self, map: &Map, x: u32, y: u32, stamp: u32)
-        requires map { map.now ≡ self.old.map }
-        requires valid { IsMap map.now }
-        requires holds { HoldsWindow self.old.map self.old.tile (site x y) }
-        requires x { x < map.now.tx * map.now.w }
-        requires y { y < map.now.ty * map.now.h }
-        ensures { Stamped (site x y) stamp self.old self.new }
+    fn stamp_sites(&mut self, map: &Map, centre: Centre, stamp: u32)
+        requires centre { IsCentreOf map.now self.old centre }
+        ensures { Stamped (site_of centre) stamp self.old self.new }
     {
         for n in 0..41u8 {
-            let cell = self.cell_around(map, x, y, n);
-            self.put_around(map, x, y, n, Cell::new(stamp, cell.atom()));
+            let cell = self.cell_around(map, centre, n);
+            self.put_around(map, centre, n, Cell::new(stamp, cell.atom()));
         }
     }
 
     /// Gives site `n` of the window at a centre a cell, if the site is live.
-    fn put_around(&mut self, map: &Map, x: u32, y: u32, n: u8, cell: Cell)
-        requires map { map.now ≡ self.old.map }
-        requires valid { IsMap map.now }
-        requires holds { HoldsWindow self.old.map self.old.tile (site x y) }
+    fn put_around(&mut self, map: &Map, centre: Centre, n: u8, cell: Cell)
+        requires centre { IsCentreOf map.now self.old centre }
         requires n { n ≤ 40 }
-        requires x { x < map.now.tx * map.now.w }
-        requires y { y < map.now.ty * map.now.h }
-        ensures { PutsFor (window_site self.old.map (site x y) n) cell self.old self.new }
+        ensures { PutsFor (window_site self.old.map (site_of centre) n) cell self.old self.new }
     {
-        if let Some((u, v)) = site_at(map, x, y, n) {
+        if let Some((u, v)) = site_at(map, centre, n) {
             self.put(u, v, cell);
         }
     }

@@ -1,12 +1,13 @@
 //! The sites of a window in the news words of an edge, where each has a bit.
 ghost use Rattle.std.specs.Prelude.{◌≡◌, ◌+◌, ◌-◌, ◌^◌, ◌==◌, ◌<◌, ◌≤◌, ℕ, length};
 ghost use Rattle.std.specs.List.{list_all};
-ghost use Rattle.tile_map.specs.Plane.{site};
 ghost use Rattle.tile_map.specs.Tables.{sites_in, IsSmall};
+ghost use Rattle.border_cache.specs.Borders.{site_of};
 ghost use Rattle.border_cache.specs.News.{nth_place, IsPlace, AreMasks, SetsPlace, SetsRun};
 ghost use Rattle.border_cache.specs.Windows.{place_at, SetsRow};
 ghost use Rattle.border_cache.specs.Published.{IsWithMask};
 
+use crate::border::Centre;
 use crate::row_runs::run_of;
 use tile_map::Area;
 
@@ -64,32 +65,32 @@ pub(crate) fn set_run(masks: &mut [u64], start: u32, end: u32)
 
 /// Sets the bits of row `j` of the window at a site, by their places in an area. The sites of a row
 /// that the area has are one run of places.
-fn set_row(masks: &mut [u64], area: Area, x: u32, y: u32, j: u32)
+fn set_row(masks: &mut [u64], area: Area, centre: Centre, j: u32)
     requires count { length masks.old ≡ 9 }
     requires small { IsSmall area }
     requires few { length (sites_in area) ≤ 576 }
-    requires x { x < 512 }
-    requires y { y < 512 }
+    requires x { centre.x < 512 }
+    requires y { centre.y < 512 }
     requires j { j < 9 }
-    ensures { SetsRow area (site x y) j masks.old masks.new }
+    ensures { SetsRow area (site_of centre) j masks.old masks.new }
 {
-    if let Some(run) = run_of(area, x, y, j) {
+    if let Some(run) = run_of(area, centre, j) {
         set_run(masks, run.start, run.start + (run.east - run.west));
     }
 }
 
 /// The bits of the sites of the window at a site, by their places in an area.
-pub(crate) fn masks_at(area: Area, x: u32, y: u32) -> [u64; 9]
+pub(crate) fn masks_at(area: Area, centre: Centre) -> [u64; 9]
     requires small { IsSmall area }
     requires few { length (sites_in area) ≤ 576 }
-    requires x { x < 512 }
-    requires y { y < 512 }
-    ensures masks { AreMasks (place_at area (site x y)) 41 result }
+    requires x { centre.x < 512 }
+    requires y { centre.y < 512 }
+    ensures masks { AreMasks (place_at area (site_of centre)) 41 result }
     ensures count { length result ≡ 9 }
 {
     let mut masks = [0; 9];
     for j in 0..9u32 {
-        set_row(&mut masks, area, x, y, j);
+        set_row(&mut masks, area, centre, j);
     }
     masks
 }

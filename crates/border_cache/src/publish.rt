@@ -56,7 +56,7 @@ fn put_row<D: Board>(
     ensures same { SameEnd (D.end board.old) (D.end board.new) }
     ensures moved { D.moved board.old board.new }
 {
-    if let Some(run) = run_of(area, centre.x, centre.y, j) {
+    if let Some(run) = run_of(area, centre, j) {
         put_run(cache, run, border, board);
         set_run(masks, run.start, run.start + (run.east - run.west));
     }
@@ -104,8 +104,8 @@ fn put_site<D: Board>(
     ensures same { SameEnd (D.end board.old) (D.end board.new) }
     ensures moved { D.moved board.old board.new }
 {
-    if let Some(place) = place_in(map, border.edge, centre.x, centre.y, n) {
-        if let Some((u, v)) = site_at(map, centre.x, centre.y, n) {
+    if let Some(place) = place_in(map, border.edge, centre, n) {
+        if let Some((u, v)) = site_at(map, centre, n) {
             put_cell(board, border, place, cache.at(u, v));
         }
     }
@@ -147,7 +147,7 @@ fn put_window<D: Board>(
         Some(area) => put_rows(cache, area, centre, border, board),
         None => {
             put_sites(cache, map, centre, border, board);
-            masks_by_site(map, border.edge, centre.x, centre.y)
+            masks_by_site(map, border.edge, centre)
         }
     }
 }

@@ -82,7 +82,7 @@ fn refresh_row<D: Board>(
     ensures same { SameEnd (D.end board.old) (D.end board.new) }
     ensures moved { D.moved board.old board.new }
 {
-    if let Some(run) = run_of(area, centre.x, centre.y, j) {
+    if let Some(run) = run_of(area, centre, j) {
         refresh_run(cache, run, border, news, board);
     }
 }
@@ -128,8 +128,8 @@ fn refresh_site<D: Board>(
     ensures same { SameEnd (D.end board.old) (D.end board.new) }
     ensures moved { D.moved board.old board.new }
 {
-    if let Some(place) = place_in(map, border.edge, centre.x, centre.y, n) {
-        if let Some((u, v)) = site_at(map, centre.x, centre.y, n) {
+    if let Some(place) = place_in(map, border.edge, centre, n) {
+        if let Some((u, v)) = site_at(map, centre, n) {
             refresh_place(cache, u, v, place, border, news, board);
         }
     }
@@ -195,7 +195,7 @@ fn refresh_on<D: Board>(cache: &mut Cache, map: &Map, centre: Centre, edge: u32,
     let sites = map.shared(edge);
     let end = end_of(map, cache.tile(), edge);
     let border = Border { edge, sites, end };
-    let masks = masks_of(map, edge, centre.x, centre.y);
+    let masks = masks_of(map, edge, centre);
     let news = read_news(board, border, &masks);
     if are_clear(&news) {
         return;

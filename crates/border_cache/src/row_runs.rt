@@ -1,9 +1,10 @@
 //! The rows of a window in an area, as runs of places.
 ghost use Rattle.std.specs.Prelude.{◌<◌};
-ghost use Rattle.tile_map.specs.Plane.{site};
 ghost use Rattle.tile_map.specs.Tables.{IsSmall};
+ghost use Rattle.border_cache.specs.Borders.{site_of};
 ghost use Rattle.border_cache.specs.Windows.{IsRowRun};
 
+use crate::border::Centre;
 use tile_map::Area;
 
 /// The sites of one row of a window that an area has. They are one run of columns, and one of
@@ -23,20 +24,20 @@ pub(crate) struct Run {
 /// The run of row `j` of the window at a site, counted from the north, or `None` if the area has no
 /// site of it.
 #[inline]
-pub(crate) fn run_of(area: Area, x: u32, y: u32, j: u32) -> Option<Run>
+pub(crate) fn run_of(area: Area, centre: Centre, j: u32) -> Option<Run>
     requires small { IsSmall area }
-    requires x { x < 512 }
-    requires y { y < 512 }
+    requires x { centre.x < 512 }
+    requires y { centre.y < 512 }
     requires j { j < 9 }
-    ensures { IsRowRun area (site x y) j result }
+    ensures { IsRowRun area (site_of centre) j result }
 {
-    let row = (y + j).checked_sub(4)?;
+    let row = (centre.y + j).checked_sub(4)?;
     if row < area.rows.first || area.rows.end <= row {
         return None;
     }
     let reach = j.min(8 - j);
-    let west = area.columns.first.max(x.saturating_sub(reach));
-    let east = area.columns.end.min(x + reach + 1);
+    let west = area.columns.first.max(centre.x.saturating_sub(reach));
+    let east = area.columns.end.min(centre.x + reach + 1);
     if east <= west {
         return None;
     }

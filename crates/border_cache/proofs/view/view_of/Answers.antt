@@ -1,7 +1,7 @@
 use Rattle.std.proofs.Common.{◌∙◌, arith, cond, false}
 use Rattle.std.proofs.lemmas.List.{length-set}
 use Rattle.bit_field.specs.Atom.{empty_atom}
-use Rattle.tile_map.specs.Plane.{site}
+use Rattle.border_cache.specs.Borders.{site_of}
 use Rattle.border_cache.specs.Copies.{window_cells}
 use Rattle.border_cache.specs.Windows.{is_shown}
 use Rattle.border_cache.proofs.Views.{one_more, window_valid}
@@ -10,14 +10,14 @@ use Rattle.border_cache.proofs.view.view_of.Goals as goal
 pub new-requires : goal.new-requires
 new-requires c =
     let v = c.loop-n.invariant in
-    window_valid c.args.map.now (site c.args.x c.args.y) c.loop-n.atoms c.loop-n.live (window_cells c.args.cache.now (site c.args.x c.args.y)) c.requires.live v.long v.wide
+    window_valid c.args.map.now (site_of c.args.centre) c.loop-n.atoms c.loop-n.live (window_cells c.args.cache.now (site_of c.args.centre)) c.requires.live v.long v.wide
     (λ j lt. v.marks j (omega (arith, lt, c.loop-n-test.false))) (λ j lt. v.shows j (omega (arith, lt, c.loop-n-test.false)))
 
 pub loop-n-preserved : goal.loop-n-preserved
 loop-n-preserved c =
     let v = c.loop-n.invariant in
     let n = c.loop-n.n in
-    let here = site c.args.x c.args.y in
+    let here = site_of c.args.centre in
     let shown = is_shown c.args.map.now here in
     record {
       long = length-set c.loop-n.atoms n c.shown-atom.result.0 ∙ v.long;

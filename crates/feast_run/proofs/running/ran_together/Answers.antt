@@ -10,4 +10,4 @@ returns-clause-reports g c = threaded_reports (ready_value c.args.ready) c.in_ok
 pub returns-clause-writable : goal.returns-clause-writable
 returns-clause-writable g c =
     let o = c.in_ok-outcome.outcome in
-    left_named (ready_value c.args.ready) o.grid (records_in o.journal) c.in_ok-outcome.ensures.settled.grid c.requires.ready.brings (ready_known c.args.ready c.requires.ready)
+    left_named (ready_value c.args.ready) o.grid (records_in o.journal) c.in_ok-outcome.ensures.serial.replayed c.requires.ready.brings (ready_known c.args.ready c.requires.ready)

@@ -18,4 +18,4 @@ returns-clause-text c =
 pub returns-clause-writable : goal.returns-clause-writable
 returns-clause-writable c =
     let o = c.in_ok-outcome.outcome in
-    left_named (ready_value c.args.ready) o.grid (records_in o.journal) c.in_ok-outcome.ensures.settled.grid c.requires.brings (ready_known c.args.ready c.requires)
+    left_named (ready_value c.args.ready) o.grid (records_in o.journal) c.in_ok-outcome.ensures.in_order.serial.replayed c.requires.brings (ready_known c.args.ready c.requires)

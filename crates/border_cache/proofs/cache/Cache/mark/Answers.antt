@@ -1,4 +1,4 @@
-use Rattle.std.proofs.Common.{ℕ, sym, subst}
+use Rattle.std.proofs.Common.{rules, ℕ, sym, subst}
 use Rattle.window_sites.specs.Window.{atom_at}
 use Rattle.tile_map.specs.Plane.{site}
 use Rattle.tile_map.specs.Laws.{IsPlane}
@@ -9,8 +9,14 @@ use Rattle.border_cache.proofs.Stored.{centre_holds}
 use Rattle.border_cache.proofs.Given.{gives_stores}
 use Rattle.border_cache.proofs.cache.Cache.mark.Goals as goal
 
-pub mark_sites-requires-clause-holds : goal.mark_sites-requires-clause-holds
-mark_sites-requires-clause-holds c = centre_holds c.args.self.now.map (subst IsPlane c.requires.map c.laws.ensures.plane) c.args.self.now.tile (site c.args.x c.args.y) c.requires.centre
+pub mark_sites-requires : goal.mark_sites-requires
+mark_sites-requires c = record {
+  centre = record {
+    map = c.requires.map;
+    plane = record { valid = search rules; x = search rules; y = search rules };
+    holds = centre_holds c.args.self.now.map (subst IsPlane c.requires.map c.laws.ensures.plane) c.args.self.now.tile (site c.args.x c.args.y) c.requires.centre;
+  };
+}
 
 pub returns-in-Some : goal.returns-in-Some
 returns-in-Some c =

@@ -1,4 +1,4 @@
-use Rattle.std.proofs.Common.{sym, ap, ◌∙◌, subst}
+use Rattle.std.proofs.Common.{rules, sym, ap, ◌∙◌, subst}
 use Rattle.window_sites.specs.Inner.{inner_window}
 use Rattle.tile_map.specs.Plane.{site}
 use Rattle.tile_map.specs.Laws.{IsPlane}
@@ -9,8 +9,12 @@ use Rattle.border_cache.proofs.Stored.{centre_holds}
 use Rattle.border_cache.proofs.Given.{view_whole}
 use Rattle.border_cache.proofs.cache.Cache.read_window.Goals as goal
 
-pub view_of-requires-clause-holds : goal.view_of-requires-clause-holds
-view_of-requires-clause-holds c = centre_holds c.args.self.now.map (subst IsPlane c.requires.map c.laws.ensures.plane) c.args.self.now.tile (site c.args.x c.args.y) c.requires.centre
+pub view_of-requires-clause-centre : goal.view_of-requires-clause-centre
+view_of-requires-clause-centre c = record {
+  map = c.requires.map;
+  plane = record { valid = search rules; x = search rules; y = search rules };
+  holds = centre_holds c.args.self.now.map (subst IsPlane c.requires.map c.laws.ensures.plane) c.args.self.now.tile (site c.args.x c.args.y) c.requires.centre;
+}
 
 pub returns-in-Some : goal.returns-in-Some
 returns-in-Some c =

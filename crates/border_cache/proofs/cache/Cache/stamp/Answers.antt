@@ -1,4 +1,4 @@
-use Rattle.std.proofs.Common.{sym, subst}
+use Rattle.std.proofs.Common.{rules, sym, subst}
 use Rattle.tile_map.specs.Plane.{site}
 use Rattle.tile_map.specs.Laws.{IsPlane}
 use Rattle.border_cache.specs.Rows.{GivesWhole, stamped_at}
@@ -7,8 +7,14 @@ use Rattle.border_cache.proofs.Stored.{centre_holds}
 use Rattle.border_cache.proofs.Given.{gives_stamped}
 use Rattle.border_cache.proofs.cache.Cache.stamp.Goals as goal
 
-pub stamp_sites-requires-clause-holds : goal.stamp_sites-requires-clause-holds
-stamp_sites-requires-clause-holds c = centre_holds c.args.self.now.map (subst IsPlane c.requires.map c.laws.ensures.plane) c.args.self.now.tile (site c.args.x c.args.y) c.requires.centre
+pub stamp_sites-requires : goal.stamp_sites-requires
+stamp_sites-requires c = record {
+  centre = record {
+    map = c.requires.map;
+    plane = record { valid = search rules; x = search rules; y = search rules };
+    holds = centre_holds c.args.self.now.map (subst IsPlane c.requires.map c.laws.ensures.plane) c.args.self.now.tile (site c.args.x c.args.y) c.requires.centre;
+  };
+}
 
 pub returns-in-Some : goal.returns-in-Some
 returns-in-Some c =
