@@ -4,8 +4,8 @@ ghost use Rattle.std.specs.Prelude.{◌≡◌, ◌≤◌, ◌+◌, length};
 
 use feast_base::text::{push, push_hex, push_number};
 use feast_base::{
-    ClockGate, CountLedger, FileShelf, Gate, LoadFault, MemShelf, MemSink, Name, NoLedger,
-    OpenGate, Rest, Shelf, Sink, Source, StdSink, Steps, Stop, is_type_name,
+    ClockGate, FileShelf, Gate, LoadFault, MemShelf, MemSink, Name, OpenGate, Rest, Shelf, Sink,
+    Source, StdSink, Stop, is_type_name,
 };
 use std::alloc::Global;
 use std::test::Fail;
@@ -146,17 +146,6 @@ fn a_stop_keeps_the_first_bytes_of_its_piece(rt: HostRuntime) -> Result<(), Fail
     assert!(rt; sink.written() == b"abcdeghjkl".as_slice());
     assert!(rt; sink.calls() == 7);
     Ok(())
-}
-
-#[test]
-fn each_step_is_noted_once(rt: HostRuntime) {
-    let mut steps = Steps::new(CountLedger::new());
-    steps.tick();
-    steps.tick();
-    assert!(rt; steps.into_ledger().count() == 2);
-    let mut steps = Steps::new(NoLedger);
-    steps.tick();
-    steps.into_ledger();
 }
 
 #[test]

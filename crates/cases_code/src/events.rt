@@ -3,7 +3,7 @@
 
 use crate::acting::{act, centred, code, ends, fails};
 use bit_field::Atom;
-use event_machine::Ended;
+use event_machine::{CountLedger, Ended, NoLedger, Steps};
 use feast_base::Name;
 use sat_math::Kind;
 use stack_code::Instr::*;
@@ -166,4 +166,15 @@ fn calls_take_their_arguments_in_order(rt: HostRuntime) -> Result<(), Fail> {
     assert!(rt; ended == Some((Ended::Done, 10)));
     assert!(rt; window.get(0) == Atom::new(1, 5 * 128));
     Ok(())
+}
+
+#[test]
+fn each_step_is_noted_once(rt: HostRuntime) {
+    let mut steps = Steps::new(CountLedger::new());
+    steps.tick();
+    steps.tick();
+    assert!(rt; steps.into_ledger().count() == 2);
+    let mut steps = Steps::new(NoLedger);
+    steps.tick();
+    steps.into_ledger();
 }
