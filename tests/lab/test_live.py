@@ -314,7 +314,7 @@ class Ends(LiveCase):
         live.shot(leg=1)
         live.ends(signal.SIGINT)
         self.refused("begun with another world", "live", self.chain, EXAMPLES / "regulator.world", ELEMENTS)
-        self.refused("begun with --step not set, not set", "live", "--step", self.chain, WORLD, ELEMENTS)
+        self.refused("the chain was begun without --step", "live", "--step", self.chain, WORLD, ELEMENTS)
         for option in (["--step"], ["--seed", "1"], ["--keep", "none"]):
             self.refused("--step, --seed and --keep are for a chain to begin", "live", *option, self.chain)
         self.assertEqual(self.living(self.chain).shot()["leg"], 1)
