@@ -147,7 +147,7 @@ def blocks(lines: list[str]) -> Iterator[Block]:
     """The blocks of a page."""
     for at, line in enumerate(lines):
         if found := LINE.fullmatch(line):
-            begin = end = at + 2
+            begin = end = at + 1 + (lines[at + 1:at + 2] == [""])
             while end < len(lines) and is_of_block(lines, end):
                 end += 1
             yield Block([Name(found[1], name) for name in re.findall(r"`([^`]+)`", found[2])], begin, end)
