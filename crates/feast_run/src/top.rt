@@ -132,8 +132,8 @@ fn call<R: Threads + Sync, F: Shelf, K: Sink, G: Gate>(
 /// failed. `NoMemory` comes if memory runs out; then nothing is put.
 ///
 /// The shelf appends to its failed names only a file word whose load failed. On `run` and `runpack`
-/// each worker calls the gate before each attempt, with the tile's number and the attempt's; the
-/// other forms call no gate and start no thread.
+/// each worker calls the gate before each attempt, with the tile's number and the attempt's, and if
+/// its tile is far ahead of another it rests there. The other forms call no gate and start no thread.
 pub fn feast<R: Threads + Sync, F: Shelf, K: Sink, G: Gate>(
     rt: &R,
     alloc: Global,

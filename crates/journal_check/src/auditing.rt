@@ -22,8 +22,8 @@ use tile_map::Map;
 /// replayed from the start, by what acts on windows. Otherwise the answer is the first that does
 /// not hold, with the position of its first event or abandoned attempt. The plan is one of the map,
 /// and the start is a grid of its plane. For n entries the time is at most of the order n log n.
-/// `NoMemory` if there is none for the events of each tile, the attempts of one, the clocks, the
-/// events of each edge.
+/// `NoMemory` if there is none for the events of each tile, the attempts of one, the clocks, or
+/// the events of each edge.
 pub fn audit<B: Behave>(
     alloc: Global,
     map: &Map,

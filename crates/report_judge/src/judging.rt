@@ -45,7 +45,8 @@ fn is_report(
 /// and whether the bytes are their report over the grid that the events make of the start. The
 /// answer is the first of these that does not hold, with its line in the report. The plan is one of
 /// the map, the start is a grid of its plane, and the types of the atoms that the events leave have
-/// names. `NoMemory` if there is none for the audit or for printing the report again.
+/// names. The journal is what `read` made of the bytes, and its lines are those that it tells.
+/// `NoMemory` if there is none for the audit or for printing the report again.
 pub fn judge<B: Behave>(
     alloc: Global,
     map: &Map,

@@ -14,9 +14,9 @@ use feast_base::Name;
 use tile_map::Map;
 
 /// Which bytes are read as a report of a map and a plan, and as which entries: exactly those that
-/// are the one text of these entries. Its lines of sites have their form, and its events fit the
-/// map and the plan. So `read` answers `Ok` exactly for such bytes, if there is memory. The call
-/// does nothing: its contract is the law.
+/// are a text of these entries. Nothing but the lines of sites is free in it: these have their
+/// form, and are as many as the entries say. The events fit the map and the plan. So `read` answers
+/// `Ok` exactly for such bytes, if there is memory. The call does nothing: its contract is the law.
 pub fn reports(map: &Map, plan: &AttemptPlan)
     ensures { AreReports map.now plan.now.lists }
 {
