@@ -3,8 +3,12 @@
 import dataclasses
 import pathlib
 import random
+import sys
 
 HERE = pathlib.Path(__file__).resolve().parent
+sys.path.insert(0, str(HERE.parent / "tools"))
+from lab.limits import STATE_BITS  # noqa: E402
+
 EXAMPLES = HERE.parent / "examples"
 SIDE = 64
 ATTEMPTS = 1_000_000
@@ -33,7 +37,7 @@ class Mix:
         for share in self.shares:
             if site < share.sites:
                 # the first digit of a state has three bits of it, and each further one four
-                state = f" {draw.getrandbits(share.bits) << (71 - share.bits):018x}" if share.bits else ""
+                state = f" {draw.getrandbits(share.bits) << (STATE_BITS - share.bits):018x}" if share.bits else ""
                 return share.name + state
             site -= share.sites
         return None

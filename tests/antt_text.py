@@ -6,6 +6,8 @@ import re
 from dataclasses import dataclass
 from typing import Iterator
 
+# Comments and texts.
+WORDS = re.compile(r"""(?<!\S)--(?!\S)[^\n]*|"(?:[^"\\\n]|\\.)*\"""")
 MARKS = r"(?:(?:abbrev|unfoldable|opaque|private|pub)\s+)*"
 RECORD = re.compile(rf"{MARKS}(?:record|data)\s+(?P<name>[^\s:(){{}}]+)(?P<type>.*?)\s+where\b(?P<body>.*)")
 TYPED = re.compile(rf"{MARKS}(?P<name>[^\s:(){{}},.]+) : (?P<type>.+)")

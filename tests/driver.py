@@ -13,7 +13,7 @@ The parts, in the order in which they are begun:
   errors      the examples of docs/errors.md
   audits      audits of the reports of the cases
   edits       each crate has its edits that the check must refuse, each can be applied, and they show its public calls
-  sources     what scripts find in the sources: answers of NoMemory, libraries, statements, clauses
+  sources     what scripts find in the sources: answers of NoMemory, libraries, statements, clauses, limits
   release     tools/release, and the released folder used without the kit
   editors     the files for editors: colours of each token, places of refusals
 

@@ -65,13 +65,14 @@ FURTHER = {
 }
 # public calls that no edit has to show, by the reason
 SPARED = {
-    "it puts its arguments, or copies of them, into fields": {
+    "it gives a field, or puts its arguments, or copies of them, into fields": {
         "code_gen": "make::seq make::pick make::only make::test_loop make::ever",
         "draw_stream": "AttemptPlan::seeded",
         "edge_lock": "SharedEnd::new",
         "event_film": "Film::new",
         "event_machine": "CountLedger::new Steps::new",
         "feast_base": "FileShelf::new MemShelf::new MemSink::stopping Name::new Source::new StdSink::new",
+        "report_judge": "ReadReport::journal",
         "report_text": "count_fields",
         "tile_map": "Map::plane",
         "ulam_tree": "typed_build::group",
@@ -110,7 +111,7 @@ SPARED = {
         "event_machine": "CountLedger::note Steps::tick",
         "feast_base": "StdSink::put text::push_hex is_word_byte is_type_name",
         "feast_run": "Status::code",
-        "report_text": "count_len entries_text_len journal_text_len",
+        "report_text": "count_len entries_text_len",
         "sat_math": "add sub mul and or xor shr",
         "text_lines": "first_field seed_digits state_digits seed",
         "tile_core": "Phase::is_over Tile::attempt_whole Tile::in_hand",

@@ -70,7 +70,7 @@ class FirstCall(unittest.TestCase):
         shutil.copy(TOP / "feast", self.top)
         shutil.copytree(TOP / "tools" / "first_call", self.top / "tools" / "first_call")
         # The pretended toolchain is quicker than the true one, so it is looked at more often; and memory is enough.
-        self.change("children.py", "TICK = 0.5", "TICK = 0.1")
+        self.change("call.py", "TICK = 0.5", "TICK = 0.1")
         self.change("machine.py", "int(found[1]) // 1_000_000 if found else 0", "24")
         self.change("machine.py", "len(os.sched_getaffinity(0))", "4")
         (self.top / "tools" / "first_call" / "seconds.txt").write_text("feast 2\n")
@@ -300,11 +300,37 @@ class FirstCall(unittest.TestCase):
         self.assertNotIn("3 of 5 crates are proved", told)
         self.assertTrue(told.endswith("feast: the program could not be built: the toolchain's reasons are above\n"))
 
+    def test_crate_that_is_done_when_another_fails_is_kept(self) -> None:
+        # (looked at so seldom that both are over by then, in whichever order they were begun)
+        self.change("call.py", "TICK = 0.1", "TICK = 3")
+        for fails, kept in (("middle", "beside"), ("beside", "middle")):
+            with self.subTest(fails):
+                shutil.rmtree(self.program.parent, ignore_errors=True)
+                (self.top / "fails").write_text(fails)
+                told = Call(self, ["run"], FEAST_PREVIEW="no").end()[2]
+                self.assertIn(f"error: the sum of {fails} is not proved\n", told)
+                sums = [note.stem for note in self.program.with_name("rlib").glob("*.sum")]
+                self.assertEqual(sorted(sums), sorted(["low", kept]))
+
     def test_end_by_a_signal_is_told(self) -> None:
-        (self.top / "killed").write_text("middle")
-        status, _, told = Call(self, ["run"], FEAST_PREVIEW="no").end()
-        self.assertEqual(status, 1)
-        self.assertIn("== middle\nthe toolchain was ended by signal 9, most likely for want of memory\n", told)
+        for crate in ("middle", "feast"):
+            with self.subTest(crate):
+                (self.top / "killed").write_text(crate)
+                status, _, told = Call(self, ["run"], FEAST_PREVIEW="no").end()
+                self.assertEqual(status, 1)
+                # (a shell says so too)
+                ended = "the toolchain was ended by signal 9, most likely for want of memory"
+                self.assertRegex(told, f"== {crate}\n(.*Killed.*\n)?{ended}\n")
+
+    def test_seconds_are_kept_for_the_next_build(self) -> None:
+        Call(self, ["run"], FEAST_PREVIEW="no").end()
+        self.program.with_name("seconds.txt").write_text("low 6000\nhigh 60\n")
+        self.write("low", "// changed\n")
+        told = Call(self, ["run"], FEAST_PREVIEW="no").end()[2]
+        self.assertIn("its 5 crates are proved first, 4 at a time, in about 25 min\n", told)
+        measured = dict(line.split() for line in self.program.with_name("seconds.txt").read_text().splitlines())
+        self.assertEqual(set(measured), {"low", "middle", "beside", "high", "feast"})
+        self.assertLess(int(measured["low"]), 60)
 
     def test_without_the_toolchain(self) -> None:
         call = Call(self, ["run"], PATH="/usr/bin:/bin")

@@ -1,19 +1,26 @@
 """Tests of the parts of tools/first_call that need no repository; tests/first_call.py runs them with its own."""
 from __future__ import annotations
 
+import itertools
+import os
 import pathlib
 import sys
+import tempfile
 import time
 import unittest
+from unittest import mock
 
 TOP = pathlib.Path(__file__).resolve().parent.parent
 sys.path.insert(0, str(TOP / "tools"))
 
 from first_call import progress  # noqa: E402
-from first_call.children import GIVING_WAY, Child, spent_by_sessions  # noqa: E402
 from first_call.crates import Crate, chains, crates_of_program  # noqa: E402
+from first_call.machine import GIVING_WAY, Child, end, spent_by_sessions  # noqa: E402
 from first_call.progress import Progress, Status  # noqa: E402
 from first_call.teller import as_bar  # noqa: E402
+from first_call.toolchain import Toolchain  # noqa: E402
+
+FAKES = TOP / "tests" / "fakes" / "bin"
 
 
 class Crates(unittest.TestCase):
@@ -27,7 +34,12 @@ class Crates(unittest.TestCase):
 
     def test_toolchain_has_what_is_named_beside_crates(self) -> None:
         crate = Crate("high", TOP, ("lowest", "low"), ("low", "itoa"))
-        self.assertEqual((crate.near(), crate.outside()), (["low"], ["itoa"]))
+        libraries = pathlib.Path(self.enterContext(tempfile.TemporaryDirectory()))
+        with mock.patch.dict(os.environ, {"PATH": f"{FAKES}:{os.environ['PATH']}"}):
+            words = Toolchain(libraries).command(crate, 1)
+        given = [word for before, word in itertools.pairwise(words) if before == "--extern"]
+        kit = FAKES.parent / "rlibs"
+        self.assertEqual(given, [f"std={kit}/std.rlib", f"low={libraries}/low.rlib", f"itoa={kit}/itoa.rlib"])
 
 
 class Sessions(unittest.TestCase):
@@ -35,17 +47,17 @@ class Sessions(unittest.TestCase):
 
     def test_seconds_of_a_session(self) -> None:
         child = Child(["sh", "-c", "(while :; do :; done); :"], TOP, sys.stderr.buffer)
-        self.addCleanup(child.end)
-        end = time.monotonic() + 600
-        while spent_by_sessions().get(child.process.pid, 0.0) < 0.5 and time.monotonic() < end:
+        self.addCleanup(end, [child])
+        latest = time.monotonic() + 600
+        while spent_by_sessions().get(child.pid, 0.0) < 0.5 and time.monotonic() < latest:
             time.sleep(0.1)
-        self.assertGreaterEqual(spent_by_sessions()[child.process.pid], 0.5)
+        self.assertGreaterEqual(spent_by_sessions()[child.pid], 0.5)
 
     def test_session_gives_way(self) -> None:
         child = Child(["sleep", "60"], TOP, sys.stderr.buffer)
-        self.addCleanup(child.end)
+        self.addCleanup(end, [child])
         child.give_way()
-        shared = pathlib.Path(f"/proc/{child.process.pid}/autogroup")
+        shared = pathlib.Path(f"/proc/{child.pid}/autogroup")
         if shared.exists():
             self.assertRegex(shared.read_text(), f"nice {GIVING_WAY}")
 
@@ -60,9 +72,8 @@ class Estimates(unittest.TestCase):
         self.assertGreater(len(named), len(crates) / 2)
 
     def test_time_of_several_lanes(self) -> None:
-        crates = [Crate("low", TOP, ()), Crate("aside", TOP, ()), Crate("high", TOP, ("low",))]
         spent = {"low": 10.0, "aside": 5.0, "high": 20.0}
-        self.assertEqual([Progress(crates, lanes, spent, set()).ahead() for lanes in (1, 2, 7, 9)], [35.0, 17.5, 5.0, 5.0])
+        self.assertEqual([Progress(spent, lanes, set()).ahead() for lanes in (1, 2, 7, 9)], [35.0, 17.5, 5.0, 5.0])
 
     def test_crate_that_no_table_has_is_reckoned_by_its_length(self) -> None:
         crate = next(it for it in crates_of_program(TOP) if it.name == "bit_field")
@@ -70,16 +81,15 @@ class Estimates(unittest.TestCase):
         self.assertGreater(progress.expected([unknown], TOP / "nothing")["unknown"], progress.LEAST)
 
     def test_measured_speed_corrects_what_is_left(self) -> None:
-        crates = [Crate("low", TOP, ()), Crate("high", TOP, ("low",))]
-        build = Progress(crates, 1, {"low": 100.0, "high": 100.0}, set())
-        self.assertAlmostEqual(build.status().left, 200.0, delta=0.1)
-        build.at_work({"low": 130.0})
-        build.finish("low")
+        build = Progress({"low": 100.0, "high": 100.0}, 1, set())
+        self.assertAlmostEqual(build.status([]).left, 200.0, delta=0.1)
+        build.spent["low"] = 130.0
+        build.done.add("low")
         build.start -= 260
-        status = build.status()
+        status = build.status(["high"])
         self.assertAlmostEqual(status.left, 100 * (60 + 260) / (60 + 100), delta=0.1)
         self.assertAlmostEqual(status.share, 0.5)
-        self.assertEqual(build.measured(), {"low": 130.0})
+        self.assertEqual((status.crates, status.done, status.now), (2, 1, "proving high"))
 
 
 class Lines(unittest.TestCase):

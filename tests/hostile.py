@@ -29,7 +29,7 @@ from typing import Iterator, Optional
 
 HERE = pathlib.Path(__file__).resolve().parent
 sys.dont_write_bytecode = True
-sys.path.insert(0, str(HERE / "hostile"))
+sys.path[0:0] = [str(HERE.parent / "tools"), str(HERE / "hostile")]
 
 from bench import Bench  # noqa: E402
 from checks import Check  # noqa: E402

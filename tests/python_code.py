@@ -26,11 +26,11 @@ TYPED: dict[str, list[str]] = {
     "tools/pictures": ["tools"],
     "tests/lab": ["tools", "tests"],
     "tests": ["tools", "tests/tables", "tests/hostile"],
-    "tests/tables": ["tests"],
-    "tests/hostile": ["tests"],
+    "tests/tables": ["tools", "tests"],
+    "tests/hostile": ["tools", "tests"],
     "tests/models": ["tests"],
     "tests/fakes": [],
-    "bench": ["tools"],
+    "bench": ["tools", "tests", "tests/tables", "tests/hostile"],
     "editors": [],
 }
 # What mypy keeps from one folder for the next: what it knows of the standard library.

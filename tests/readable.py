@@ -27,10 +27,6 @@ LONG, LONGEST, PLACES = 100, 200, 5
 PARAMETERS, CLAUSES = 6, 8
 # Functions that take or say more, by crate and name, and why.
 EXCEPTIONS = {
-    ("border_cache", "put_row"): "the cells of a row go to the edge, and their bits to the masks",
-    ("border_cache", "refresh_place"): "what a publishing takes, and the news",
-    ("border_cache", "refresh_row"): "what a publishing takes, and the news",
-    ("border_cache", "refresh_site"): "what a publishing takes, and the news",
     ("cases_edge", "count_up"): "a loop of a test, which says of each register what it is",
     ("cases_order", "run"): "a worked run with all that it starts from",
     ("code_gen", "assign_at"): "the parts of an assignment",
@@ -38,7 +34,6 @@ EXCEPTIONS = {
     ("edge_lock", "try_take"): "the clauses of `Board`, and what one edge keeps",
     ("feast_base", "load"): "the clauses of `Shelf`, and the list of calls that fail",
     ("feast_run", "feast"): "the promise of the whole program",
-    ("report_judge", "judge"): "a report with the world that it is judged by",
     ("serial_order", "settle_site"): "an edge between two tiles, and what is settled there",
     ("serial_order", "settle_stretch"): "an edge between two tiles, and what is settled there",
     ("tile_core", "advance"): "the promise of each step of the machine",
@@ -48,7 +43,6 @@ EXCEPTIONS = {
     ("ulam_meaning", "laws"): "a list of laws",
     ("ulam_names", "branch"): "the parts of an `if`",
     ("ulam_names", "declare"): "the parts of a declaration",
-    ("ulam_names", "function"): "the parts of a function",
     ("world_text", "put_atom"): "the parts of a line",
 }
 

@@ -8,7 +8,9 @@ from dataclasses import dataclass
 from typing import Iterator, Optional
 
 TOP = pathlib.Path(__file__).resolve().parent.parent
-PLAIN = re.compile(r"""//[^\n]*|b?"(?:[^"\\]|\\.)*"|b?'(?:[^'\\\n]|\\[^\n]+?)'|ghost\s+use\b[^;]*;|\buse\b[^;{]*(?:\{[^;]*\})?[^;]*;""")
+# Comments and texts, and with them the imports.
+WORDS = re.compile(r"""//[^\n]*|b?"(?:[^"\\]|\\[\s\S])*"|b?'(?:[^'\\\n]|\\[^\n]+?)'""")
+PLAIN = re.compile(rf"{WORDS.pattern}|ghost\s+use\b[^;]*;|\buse\b[^;{{]*(?:\{{[^;]*\}})?[^;]*;")
 CLAUSE = re.compile(
     r"\b(?:(?:requires|ensures)(?:\s*\*)?(?:\s*\b\w+)?|ghost(?:\s+\w+\s*[:=](?:\s*(?:owns|lends))?)?|law\s+\w+\s*:)\s*(?=\{)"
 )
@@ -33,13 +35,23 @@ def end_of_clause(text: str, at: int) -> int:
     return end
 
 
+def spaces(text: str) -> str:
+    """As many spaces on as many lines."""
+    return re.sub(r"[^\n]", " ", text)
+
+
+def without(words: re.Pattern[str], text: str) -> str:
+    """The text with spaces in place of such words; no place and no line moves."""
+    return words.sub(lambda hit: spaces(hit[0]), text)
+
+
 def blank(text: str) -> str:
     """The text with spaces in place of its comments, texts, clauses and imports; no place and no line moves."""
     found, at = [], 0
     word = re.compile(rf"{PLAIN.pattern}|{CLAUSE.pattern}")
     while hit := word.search(text, at):
         end = end_of_clause(text, hit.end()) if CLAUSE.match(text, hit.start()) else hit.end()
-        found += [text[at : hit.start()], re.sub(r"[^\n]", " ", text[hit.start() : end])]
+        found += [text[at : hit.start()], spaces(text[hit.start() : end])]
         at = end
     return "".join([*found, text[at:]])
 

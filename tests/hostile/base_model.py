@@ -16,6 +16,7 @@ TOLD = {
     30: b"name declared twice", 33: b"no behave", 35: b"too many", 37: b"base is not a quark",
     38: b"class is its own base", 39: b"override does not match", 56: b"missing return",
 }
+# A model is written apart from the rest, so it has these limits once more.
 MOST_CLASSES, MOST_MEMBERS = 256, 64
 # How many bits a data member of each type takes.
 BITS = {b"Random": 0, b"Bool": 1}

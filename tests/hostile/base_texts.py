@@ -4,7 +4,7 @@ from __future__ import annotations
 from dataclasses import dataclass
 from typing import Iterator, Optional
 
-from element_texts import LIMIT
+from lab.limits import ELEMENT_LIMIT
 
 # A line and a column, both from 1.
 Place = tuple[int, int]
@@ -107,6 +107,6 @@ def star(root: Class, count: int, own: tuple[Member, ...] = (), width: int = 0) 
 def text_of(classes: list[Class]) -> bytes:
     """All classes, each in a line, and spaces up to a mebibyte."""
     text = b"".join(of.text() for of in classes)
-    if len(text) > LIMIT:
+    if len(text) > ELEMENT_LIMIT:
         raise ValueError(f"{len(text)} bytes are more than an element file may have")
-    return text.ljust(LIMIT)
+    return text.ljust(ELEMENT_LIMIT)

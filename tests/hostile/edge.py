@@ -20,6 +20,7 @@ from bench import (
 from edge_faults import growing, may_trace, read_faults, write_faults
 from edge_texts import LONG_REPORT, LONG_WORLD, too_long, unreadable
 from jobs import ONE_TILE, WALKER, File, Job, clear, jobs_of, lay
+from lab.limits import MOST_FILES
 
 
 def feed(path: pathlib.Path, pieces: Sequence[bytes], pause: float, done: threading.Event) -> None:
@@ -212,13 +213,13 @@ def names(bench: Bench) -> None:
 
 
 def many_files(bench: Bench) -> None:
-    """Files are closed as soon as they are loaded, and there are 64 at most."""
-    for count in range(64):
+    """Files are closed as soon as they are loaded, and there are so many at most."""
+    for count in range(MOST_FILES):
         bench.write(f"e{count}", b"element E%d { Void behave() { } }" % count)
-    words = ["check", *(f"e{count}" for count in range(64))]
-    layout = b"".join(b"element E%d %d 0\n" % (count, count + 1) for count in range(64))
-    bench.expect("64 files, one open at a time", bench.call(words, Limits(files=4)), DONE, layout)
-    bench.expect("65 files", bench.call([*words, "e0"]), NO_FORM, USAGE)
+    words = ["check", *(f"e{count}" for count in range(MOST_FILES))]
+    layout = b"".join(b"element E%d %d 0\n" % (count, count + 1) for count in range(MOST_FILES))
+    bench.expect(f"{MOST_FILES} files, one open at a time", bench.call(words, Limits(files=4)), DONE, layout)
+    bench.expect("one file more", bench.call([*words, "e0"]), NO_FORM, USAGE)
     bench.expect("100,000 words", bench.call(["check"] + ["e0"] * 100_000), NO_FORM, USAGE)
     bench.expect("a word of 100,000 bytes", bench.call(["w" * 100_000]), NO_FORM, USAGE)
 

@@ -12,6 +12,7 @@ from typing import Union
 from bench import DONE, MEMORY, SINK, UNREADABLE, Answer, Bench, tool
 from edge_texts import LONG_REPORT, LONG_WORLD, unreadable
 from jobs import WALKER, File, Job, lay
+from lab.limits import ELEMENT_LIMIT
 
 
 @dataclass(frozen=True)
@@ -121,6 +122,6 @@ def growing(bench: Bench) -> None:
         stop.clear()
         held = (answer.status, answer.out) in (
             (DONE, b"element Walker 1 0\n"),
-            (UNREADABLE, b"e: E02 longer than 1048576 bytes\n"),
+            (UNREADABLE, b"e: E02 longer than %d bytes\n" % ELEMENT_LIMIT),
         )
         bench.say(held, "a file grows while it is read", answer.shown())

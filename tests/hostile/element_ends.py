@@ -3,12 +3,13 @@ from __future__ import annotations
 
 from bench import Bench
 from element_texts import element, survives
+from lab.limits import MOST_CALLS, MOST_TURNS
 
 
 def without_end(bench: Bench) -> None:
     """What never ends is ended by its turns or its depth."""
     down = b"element D { Unsigned(7) n; Void down(Unsigned(7) k) { if (k > 1) down(k - 1); } Void behave() { down(n); } }"
-    for deep, stays in ((1, True), (16, True), (17, False), (127, False)):
+    for deep, stays in ((1, True), (MOST_CALLS, True), (MOST_CALLS + 1, False), (127, False)):
         survives(bench, f"calls {deep} deep", down, b"D", stays, b"%018x" % (deep << 64))
     rows = [
         ("while", b"while (true) { }", False),
@@ -20,14 +21,14 @@ def without_end(bench: Bench) -> None:
         ("a call of itself", b"g();", False),
         ("two calls of each other", b"h();", False),
         ("calls in a loop", b"while (true) k();", False),
-        ("1,000 turns", b"for (Unsigned i = 0; i < 1000; i++) { }", True),
-        ("1,001 turns", b"for (Unsigned i = 0; i < 1001; i++) { }", False),
+        ("all turns", b"for (Unsigned i = 0; i < %d; i++) { }" % MOST_TURNS, True),
+        ("one turn more", b"for (Unsigned i = 0; i < %d; i++) { }" % (MOST_TURNS + 1), False),
         ("31 by 31 turns", b"for (Int i = 0; i < 31; i++) for (Int j = 0; j < 31; j++) ;", True),
         ("32 by 32 turns", b"for (Int i = 0; i < 32; i++) for (Int j = 0; j < 32; j++) ;", False),
         ("a loop left at once", b"while (true) break;", True),
         ("a loop that returns", b"while (true) return;", True),
-        ("1,000 calls", b"k();" * 1000, True),
-        ("1,001 calls", b"k();" * 1001, False),
+        ("a call for each turn", b"k();" * MOST_TURNS, True),
+        ("one call more", b"k();" * (MOST_TURNS + 1), False),
     ]
     functions = b"Void g() { g(); } Void h() { m(); } Void m() { h(); } Void k() { }"
     for name, body, stays in rows:

@@ -4,7 +4,11 @@ from __future__ import annotations
 from typing import Callable
 
 from bench import BAD_ELEMENT, DONE, Bench, Limits
-from element_texts import LIMIT, NESTS, accepted, atoms, deepest, depth_fault, element, nested, refused, too_deep, world
+from element_texts import NESTS, accepted, atoms, deepest, depth_fault, element, nested, refused, too_deep, world
+from lab.limits import (
+    ELEMENT_LIMIT, LONGEST_NAME, MOST_CLASSES, MOST_INSTRS, MOST_LOCALS, MOST_MEMBERS, MOST_OPERANDS, MOST_PARAMS, MOST_TOKENS,
+    STATE_BITS,
+)
 
 
 def nesting(bench: Bench) -> None:
@@ -56,20 +60,20 @@ def limits(bench: Bench) -> None:
         return text.rindex(name) + 1
 
     rows: list[tuple[str, int, Callable[[int], bytes], bytes]] = [
-        ("data members", 64, lambda n: class_of(names(n, b"Bool m%d_;")), b"m64_"),
-        ("functions", 63, lambda n: class_of(names(n, b"Void f%d_() { }")), b"behave"),
-        ("constants", 64, lambda n: class_of(names(n, b"constant Int k%d_ = 1;")), b"k64_"),
-        ("typedefs", 64, lambda n: class_of(names(n, b"typedef Int T%d_;")), b"T64_"),
-        ("locals", 64, lambda n: element(names(n, b"Int l%d_;")), b"l64_"),
-        ("locals in blocks", 64, lambda n: element(names(n, b"{ Int l%d_; }")), b"l64_"),
-        ("parameters", 8, lambda n: class_of(b"Void g(" + names(n, b"Int p%d_,")[:-1] + b") { }"), b"p8_"),
-        ("classes", 255, lambda n: names(n, b"quark Q%d_ { }") + class_of(b""), b"A "),
+        ("data members", MOST_MEMBERS, lambda n: class_of(names(n, b"Bool m%d_;")), b"m%d_"),
+        ("functions", MOST_MEMBERS - 1, lambda n: class_of(names(n, b"Void f%d_() { }")), b"behave"),
+        ("constants", MOST_MEMBERS, lambda n: class_of(names(n, b"constant Int k%d_ = 1;")), b"k%d_"),
+        ("typedefs", MOST_MEMBERS, lambda n: class_of(names(n, b"typedef Int T%d_;")), b"T%d_"),
+        ("locals", MOST_LOCALS, lambda n: element(names(n, b"Int l%d_;")), b"l%d_"),
+        ("locals in blocks", MOST_LOCALS, lambda n: element(names(n, b"{ Int l%d_; }")), b"l%d_"),
+        ("parameters", MOST_PARAMS, lambda n: class_of(b"Void g(" + names(n, b"Int p%d_,")[:-1] + b") { }"), b"p%d_"),
+        ("classes", MOST_CLASSES - 1, lambda n: names(n, b"quark Q%d_ { }") + class_of(b""), b"A "),
     ]
     for what, most, form, name in rows:
         accepted(bench, f"{most} {what}", form(most))
         text = form(most + 1)
-        refused(bench, f"{most + 1} {what}", text, last(text, name), 35, b"too many")
-    for length, good in ((1, True), (71, True), (72, False), (0, False), (4294967295, False)):
+        refused(bench, f"{most + 1} {what}", text, last(text, name.replace(b"%d", b"%d" % most)), 35, b"too many")
+    for length, good in ((1, True), (STATE_BITS, True), (STATE_BITS + 1, False), (0, False), (2**32 - 1, False)):
         text = class_of(b"Bool row[%d];" % length)
         if good:
             accepted(bench, f"an array of {length}", text)
@@ -83,12 +87,12 @@ def limits(bench: Bench) -> None:
 def widths(bench: Bench, class_of: Callable[[bytes], bytes]) -> None:
     """Bits of classes and of types."""
     accepted(bench, "71 bits", class_of(b"Bits(64) p; Bits(7) q;"))
-    refused(bench, "72 bits", class_of(b"Bits(64) p; Bits(8) q;"), 9, 41, b"element takes 72 bits, at most 71")
+    refused(bench, "72 bits", class_of(b"Bits(64) p; Bits(8) q;"), 9, 41, b"element takes 72 bits, at most %d" % STATE_BITS)
     wide = class_of(b"Bits(64) p[71]; ")
-    refused(bench, "4,544 bits", wide, 9, 41, b"element takes 4544 bits, at most 71")
+    refused(bench, "4,544 bits", wide, 9, 41, b"element takes 4544 bits, at most %d" % STATE_BITS)
     refused(bench, "33 bits", b"quark Q { Bits(33) p; }", 7, 40, b"quark takes 33 bits, at most 32")
     for kind, least, most in ((b"Int", 2, 64), (b"Unsigned", 1, 64), (b"Bits", 1, 64), (b"Unary", 1, 64), (b"Bool", 1, 1)):
-        for width in (0, least - 1, least, most, most + 1, 4294967295):
+        for width in (0, least - 1, least, most, most + 1, 2**32 - 1):
             text = class_of(kind + b"(%d) p;" % width)
             if least <= width <= most:
                 accepted(bench, f"{kind.decode()}({width})", text)
@@ -98,43 +102,45 @@ def widths(bench: Bench, class_of: Callable[[bytes], bytes]) -> None:
 
 def words(bench: Bench, class_of: Callable[[bytes], bytes]) -> None:
     """Tokens at their longest, and too long."""
-    accepted(bench, "a name of 255 bytes", class_of(b"Bool " + b"m" * 255 + b";"))
-    text = class_of(b"Bool " + b"m" * 256 + b";")
-    refused(bench, "a name of 256 bytes", text, text.index(b"m" * 256) + 256, 10, b"bad byte")
+    accepted(bench, "the longest name", class_of(b"Bool " + b"m" * LONGEST_NAME + b";"))
+    longer = LONGEST_NAME + 1
+    text = class_of(b"Bool " + b"m" * longer + b";")
+    refused(bench, "a longer name", text, text.index(b"m" * longer) + longer, 10, b"bad byte")
     text = class_of(b"Bool " + b"m" * 1_000_000 + b";")
-    refused(bench, "a name of a million bytes", text, text.index(b"mmm") + 256, 10, b"bad byte")
-    text = b"element " + b"N" * 256 + b" { }"
-    refused(bench, "a class name of 256 bytes", text, 9 + 255, 10, b"bad byte")
+    refused(bench, "a name of a million bytes", text, text.index(b"mmm") + longer, 10, b"bad byte")
+    text = b"element " + b"N" * longer + b" { }"
+    refused(bench, "a longer class name", text, len(b"element ") + longer, 10, b"bad byte")
     for number in (b"4294967295u", b"0xffffffffu", b"0b" + b"1" * 32 + b"u", b"0x" + b"0" * 100_000 + b"1", b"0b" + b"0" * 100_000):
         accepted(bench, f"the number {number[:20]!r}", class_of(b"constant Unsigned(64) k = " + number + b";"))
     for number in (b"4294967296", b"9" * 1_000_000, b"0x1" + b"0" * 900_000, b"0b1" + b"0" * 900_000):
         text = class_of(b"constant Unsigned(64) k = " + number + b";")
         refused(bench, f"the number {number[:20]!r}", text, text.index(number) + 1, 12, b"number too large")
     head = b"element A { Void behave() { "
-    accepted(bench, "200,000 tokens", head + b";" * 199_990 + b" } }")
-    text = head + b";" * 199_991 + b" } }"
-    refused(bench, "200,001 tokens", text, len(text), 13, b"too many tokens")
-    bench.write("e", b";" * LIMIT)
-    bench.expect("1,048,576 tokens", bench.call(["check", "e"]), BAD_ELEMENT, b"e:1:200001: E13 too many tokens\n")
+    few = MOST_TOKENS - 10  # eight before these and two behind
+    accepted(bench, "most tokens", head + b";" * few + b" } }")
+    text = head + b";" * (few + 1) + b" } }"
+    refused(bench, "one token more", text, len(text), 13, b"too many tokens")
+    bench.write("e", b";" * ELEMENT_LIMIT)
+    bench.expect("a file of tokens", bench.call(["check", "e"]), BAD_ELEMENT, b"e:1:%d: E13 too many tokens\n" % (MOST_TOKENS + 1))
     bytes_of(bench)
 
 
 def bytes_of(bench: Bench) -> None:
     """Bytes that are no text."""
     for what, text, line in (
-        ("NULs alone", b"\0" * LIMIT, b"e:1:1: E10 bad byte\n"),
-        ("a NUL at the end", b" " * (LIMIT - 1) + b"\0", b"e:1:1048576: E10 bad byte\n"),
-        ("LFs and a bad byte", b"\n" * (LIMIT - 1) + b"@", b"e:1048576:1: E10 bad byte\n"),
-        ("CRs and a bad byte", b"\r" * (LIMIT - 1) + b"@", b"e:1:1048576: E10 bad byte\n"),
-        ("a comment without an end", b"/*" + b"*" * (LIMIT - 2), b"e:1:1: E11 comment is not closed\n"),
+        ("NULs alone", b"\0" * ELEMENT_LIMIT, b"e:1:1: E10 bad byte\n"),
+        ("a NUL at the end", b" " * (ELEMENT_LIMIT - 1) + b"\0", b"e:1:%d: E10 bad byte\n" % ELEMENT_LIMIT),
+        ("LFs and a bad byte", b"\n" * (ELEMENT_LIMIT - 1) + b"@", b"e:%d:1: E10 bad byte\n" % ELEMENT_LIMIT),
+        ("CRs and a bad byte", b"\r" * (ELEMENT_LIMIT - 1) + b"@", b"e:1:%d: E10 bad byte\n" % ELEMENT_LIMIT),
+        ("a comment without an end", b"/*" + b"*" * (ELEMENT_LIMIT - 2), b"e:1:1: E11 comment is not closed\n"),
         ("comments and one without an end", b"/**/" * 200_000 + b"/*/", b"e:1:800001: E11 comment is not closed\n"),
         ("a byte order mark", b"\xef\xbb\xbfelement", b"e:1:1: E10 bad byte\n"),
     ):
         bench.write("e", text)
         bench.expect(what, bench.call(["check", "e"]), BAD_ELEMENT, line)
     for what, text in (
-        ("nothing", b""), ("a comment of a mebibyte", b"//" + b"\0" * (LIMIT - 2)), ("white space alone", b" \t\r\n" * 262_144),
-        ("comments alone", b"/**/" * 262_144), ("a comment of slashes", b"/*" + b"/" * (LIMIT - 4) + b"*/"),
+        ("nothing", b""), ("a comment of a mebibyte", b"//" + b"\0" * (ELEMENT_LIMIT - 2)), ("white space alone", b" \t\r\n" * 262_144),
+        ("comments alone", b"/**/" * 262_144), ("a comment of slashes", b"/*" + b"/" * (ELEMENT_LIMIT - 4) + b"*/"),
     ):
         bench.write("e", text)
         bench.expect(what, bench.call(["check", "e"]), DONE, b"")
@@ -146,11 +152,12 @@ def codes(bench: Bench) -> None:
     accepted(bench, "65,536 instructions", walker)
     bench.write("w", world(b"Walker"))
     bench.expect("65,536 instructions, run", bench.call(["run", "w", "e"]), DONE, None)
+    told = b"code is longer than %d instructions" % MOST_INSTRS
     longer = walker.replace(b" } }", b" ; ew.swap(0, 4); } }")
-    refused(bench, "65,539 instructions", longer, 9, 60, b"code is longer than 65536 instructions")
+    refused(bench, "65,539 instructions", longer, 9, 60, told)
     one = b"element Walker { EventWindow ew; Int x; Void behave() { " + b"ew.swap(0, 4);" * 21_844 + b"%s } }"
     accepted(bench, "65,536 instructions of other kinds", one % b"x = -x;")
-    refused(bench, "65,537 instructions", one % b"x = -x; return;", 9, 60, b"code is longer than 65536 instructions")
+    refused(bench, "65,537 instructions", one % b"x = -x; return;", 9, 60, told)
     operands(bench)
 
 
@@ -170,4 +177,4 @@ def operands(bench: Bench) -> None:
     state = b"%018x" % (levels << 39)
     answer = bench.call(["run", "w", "e"])
     bench.say(answer.out.startswith(atoms(b"3 4 A " + state)), "operands at their deepest, run", answer.shown())
-    bench.note(f"the deepest operands of a text: {7 * levels} and some, of 512")
+    bench.note(f"the deepest operands of a text: {7 * levels} and some, of {MOST_OPERANDS}")

@@ -5,7 +5,8 @@ from __future__ import annotations
 from typing import Callable
 
 from bench import BAD_ELEMENT, DONE, Bench
-from element_texts import LIMIT, accepted, element, refused, survives
+from element_texts import accepted, element, refused, survives
+from lab.limits import ELEMENT_LIMIT, MOST_FILES
 
 
 def widest(bench: Bench) -> None:
@@ -79,12 +80,12 @@ def chains(bench: Bench) -> None:
 
 
 def many_files(bench: Bench) -> None:
-    """64 files of nearly a mebibyte each."""
-    for count in range(64):
+    """As many files as there can be, of nearly a mebibyte each."""
+    for count in range(MOST_FILES):
         functions = b"".join(b"Void f%d() { " % i + b"x = x * 3 + 1; " * 400 + b"}\n" for i in range(60))
         text = b"element E%d { Int x;\n" % count + functions + b"Void behave() { f0(); } }\n"
-        bench.make(f"f{count}", [text, b" " * (LIMIT - len(text))])
-    words = ["check", *(f"f{count}" for count in range(64 if bench.long else 16))]
+        bench.make(f"f{count}", [text, b" " * (ELEMENT_LIMIT - len(text))])
+    words = ["check", *(f"f{count}" for count in range(MOST_FILES if bench.long else 16))]
     answer = bench.call(words, seconds=300)
     due = b"".join(b"element E%d %d 32\nmember x Int(32) 0 32\n" % (count, count + 1) for count in range(len(words) - 1))
     bench.expect(f"{len(words) - 1} files of a mebibyte", answer, DONE, due)

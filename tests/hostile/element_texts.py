@@ -6,14 +6,14 @@ from typing import Optional
 
 from bench import BAD_ELEMENT, DONE, Answer, Bench, Limits
 from jobs import STATE, ZEROS
+from lab.limits import MOST_DEPTH
 
-LIMIT = 1_048_576
 TOKEN = re.compile(rb"[A-Za-z0-9_]+|<<=|>>=|==|!=|<=|>=|&&|\|\||<<|>>|\+\+|--|[-+*/%&|^]=|\S")
 PLAIN = {b";", b",", b".", b"(", b")", b"[", b"]", b"{", b"}"}
 
 
 def too_deep(text: bytes) -> Optional[int]:
-    """The column of the first token of a line with which the nesting is above 64, or None."""
+    """The column of the first token of a line with which the nesting is too deep, or None."""
     counts = [0]
     before = b""
     for found in TOKEN.finditer(text):
@@ -29,7 +29,7 @@ def too_deep(text: bytes) -> Optional[int]:
             counts.append(0)
         elif token in (b")", b"]", b"}") and len(counts) > 1:
             counts.pop()
-        if len(counts) - 1 + sum(counts) > 64:
+        if len(counts) - 1 + sum(counts) > MOST_DEPTH:
             return found.start() + 1
         before = token
     return None

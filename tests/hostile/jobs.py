@@ -6,9 +6,10 @@ from dataclasses import dataclass
 from typing import Iterator, Optional
 
 from bench import DONE, Bench
+from lab.limits import CODE_LIMIT, ELEMENT_LIMIT, JOURNAL_LIMIT, WORLD_LIMIT
 
-# How many bytes an element file may have, and any other input.
-MOST_OF_ELEMENTS, MOST = 1_048_576, 268_435_456
+# How many bytes an input may have that is no element file: worlds, reports and code files have one limit.
+MOST = WORLD_LIMIT
 
 WALKER = b"element Walker { EventWindow ew; Void behave() { ew.swap(0, 4); } }"
 ZEROS = b"0" * 16
@@ -40,22 +41,22 @@ class File:
 
 def world(text: bytes) -> File:
     """The world of a job."""
-    return File("w", text, MOST)
+    return File("w", text, WORLD_LIMIT)
 
 
 def report(text: bytes) -> File:
     """The report of a job."""
-    return File("j", text, MOST)
+    return File("j", text, JOURNAL_LIMIT)
 
 
 def code(text: bytes) -> File:
     """The code file of a job."""
-    return File("c", text, MOST)
+    return File("c", text, CODE_LIMIT)
 
 
 def element(text: bytes) -> File:
     """The element file of a job."""
-    return File("e", text, MOST_OF_ELEMENTS)
+    return File("e", text, ELEMENT_LIMIT)
 
 
 @dataclass

@@ -15,6 +15,7 @@ from typing import Iterator, Optional, Sequence
 from bench import DONE, MEMORY, NO_FORM, Answer, Bench, Limits, main_of, tool
 from fronts import ELEMENT
 from jobs import STATE, WALKER, ZEROS, Job, element, jobs_of, lay, world
+from lab.limits import ELEMENT_LIMIT
 from rooms import KIB, rooms
 
 HERE = pathlib.Path(__file__).resolve().parent
@@ -119,7 +120,7 @@ def large(bench: Bench) -> None:
     """A run of many attempts and a file of the greatest length, in spaces from little to enough."""
     bench.make("w", [b"feast 1\ntiles 8 8\nsize 16 16\nseed 7\nattempts 2000\n"])
     bench.write("e", WALKER)
-    bench.make("long", [WALKER, b" " * (1_048_576 - len(WALKER))])
+    bench.make("long", [WALKER, b" " * (ELEMENT_LIMIT - len(WALKER))])
     bench.make("text", [b"feast 1\ntiles 1 1\nsize 8 8\n", (b"try 0 0 0 " + ZEROS + b"\n") * 100_000])
     for words in (["check", "long"], ["run", "text", "e"], ["step", "text", "e"], ["step", "w", "e"]):
         in_spaces(bench, words, True)

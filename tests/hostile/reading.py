@@ -15,6 +15,7 @@ TYPE_NAME = re.compile(rb"[A-Z][A-Za-z0-9_]{0,254}\Z")
 SEED = re.compile(rb"[0-9a-f]{16}\Z")
 STATE = re.compile(rb"[0-9a-f]{18}\Z")
 MASK = (1 << 64) - 1
+# This reader is apart from the lab too, so it has the limits once more.
 MOST_ATTEMPTS = 1_000_000
 
 TEXTS = {

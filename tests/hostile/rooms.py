@@ -22,6 +22,8 @@ KIB = 1024
 BEGIN = 3252
 # How many attempts the worlds have, over all tiles; the second one is for the long run.
 FEW, MANY = 20_000, 1_000_000
+# What a run of one tile takes, in kibibytes.
+ONE = 450
 # What planes of 64 tiles of 8 by 8 sites take that are run with tiles, in kibibytes.
 TILES = 20_900
 # What a generated world takes, in kibibytes.
@@ -99,10 +101,10 @@ def heirs(count: int, swaps: int) -> bytes:
 def rooms_of(attempts: int) -> Iterator[Room]:
     """The calls over worlds with so many attempts, on one tile and on 64, and their reports."""
     whole, parts = attempts, attempts // 64 * 64
-    yield Room(["run", "one", "e"], 0, 87.5, whole)
-    yield Room(["runpack", "one", "c"], 0, 87.5, whole)
-    yield Room(["step", "one", "e"], 0, 107, whole)
-    yield Room(["steppack", "one", "c"], 0, 107, whole)
+    yield Room(["run", "one", "e"], ONE, 33, whole)
+    yield Room(["runpack", "one", "c"], ONE, 33, whole)
+    yield Room(["step", "one", "e"], 0, 72, whole)
+    yield Room(["steppack", "one", "c"], 0, 72, whole)
     yield Room(["step", "many", "e"], TILES, 72, parts)
     for world, count in (("one", whole), ("many", parts)):
         yield Room(["audit", world, f"{world}.report", "e"], 0, 140, count)

@@ -8,6 +8,7 @@ from typing import Iterable, Iterator, NamedTuple, Union
 
 from bench import BAD_CODE, BAD_JOURNAL, BAD_WORLD, DONE, UNREADABLE, Answer, Bench
 from jobs import MOST, PACKED, STATE
+from lab.limits import MOST_ATTEMPTS, MOST_CLASSES, MOST_INSTRS, MOST_TILES
 from text_lines import HEAD, RECORD, TRY
 from text_pieces import FULL_NAMES, fill, full_report, full_world, lined, packed, records, stacking
 
@@ -80,33 +81,34 @@ def report_forms(count: int, verdict: bytes = b"yes\n") -> list[Form]:
 
 def most_attempts(bench: Bench) -> None:
     """A million attempts, and one more; written and drawn; their report once more."""
-    blocks = [TRY * 10_000] * 100
-    too_many = b"w:1000004:1: E75 too many attempts\n"
-    answered(bench, Long("1,000,000 attempts", RUN, "w", [HEAD, *blocks], DONE, records(MILLION)))
+    blocks = [TRY * 10_000] * (MOST_ATTEMPTS // 10_000)
+    too_many = b"w:%d:1: E75 too many attempts\n" % (HEAD.count(b"\n") + MOST_ATTEMPTS + 1)
+    answered(bench, Long("1,000,000 attempts", RUN, "w", [HEAD, *blocks], DONE, records(MOST_ATTEMPTS)))
     answered(bench, Long("1,000,001 attempts", RUN, "w", [HEAD, *blocks, TRY], BAD_WORLD, too_many))
     bench.make("w", [HEAD, *blocks])
     for words, out in report_forms(500_000):
-        kept = MILLION if words[0] == "rewind" else 0
-        answered(bench, Long(f"{words[0]} of 1,000,000 records", words, "j", records(MILLION), DONE, out, kept))
+        kept = MOST_ATTEMPTS if words[0] == "rewind" else 0
+        answered(bench, Long(f"{words[0]} of 1,000,000 records", words, "j", records(MOST_ATTEMPTS), DONE, out, kept))
     drawn_attempts(bench)
 
 
 def drawn_attempts(bench: Bench) -> None:
     """The same drawn, on one tile and on 64."""
     too_many = b"w:5:1: E75 too many attempts\n"
-    bench.write("w", HEAD + b"seed 1\nattempts 1000001\n")
+    bench.write("w", HEAD + b"seed 1\nattempts %d\n" % (MOST_ATTEMPTS + 1))
     bench.expect("1,000,001 attempts, drawn", bench.call(RUN), BAD_WORLD, too_many)
-    bench.write("w", HEAD + b"seed 1\nattempts 1000000\n")
+    bench.write("w", HEAD + b"seed 1\nattempts %d\n" % MOST_ATTEMPTS)
     answer = bench.call(RUN)
-    held = answer.status == DONE and answer.out.startswith(b"feast 1\natoms 0\njournal 1000000\n")
+    held = answer.status == DONE and answer.out.startswith(b"feast 1\natoms 0\njournal %d\n" % MOST_ATTEMPTS)
     bench.say(held, "1,000,000 attempts, drawn", answer.shown())
     head = b"feast 1\ntiles 8 8\nsize 64 64\nseed 1\n"
-    bench.write("w", head + b"attempts 15626\n")
-    bench.expect("64 times 15,626 attempts", bench.call(STEP), BAD_WORLD, too_many)
+    most = MOST_ATTEMPTS // MOST_TILES
+    bench.write("w", head + b"attempts %d\n" % (most + 1))
+    bench.expect(f"{MOST_TILES} times {most + 1:,} attempts", bench.call(STEP), BAD_WORLD, too_many)
     if bench.long:
-        bench.write("w", head + b"attempts 15625\norder seed 1\n")
+        bench.write("w", head + b"attempts %d\norder seed 1\n" % most)
         answer = bench.call(STEP, seconds=600)
-        bench.say(answer.status == DONE, "64 times 15,625 attempts", answer.shown())
+        bench.say(answer.status == DONE, f"{MOST_TILES} times {most:,} attempts", answer.shown())
         took = f"{answer.seconds:.1f} s, {answer.memory >> 20} MiB"
         bench.note(f"64 tiles of 64 by 64 sites, 1,000,000 attempts, stepped: {took}")
 
@@ -190,13 +192,13 @@ def long_codes(bench: Bench, total: int) -> None:
     """Code files of a length, and of as much as there can be in one."""
     bench.write("w", HEAD)
     due = b"feast 1\natoms 0\njournal 0\nabandoned 0\n"
-    every = 256 if bench.long else 16
+    every = MOST_CLASSES if bench.long else 16
     nuls = [b"\0" * MILLION] * (total // MILLION)
     for name, pieces, status, out in (
         ("a code file of NULs", nuls, BAD_CODE, b"c:1:1: E61 not a code file\n"),
         ("a code file and more", [PACKED, *nuls], BAD_CODE, b"c:1:69: E62 bad code file\n"),
         (f"{every} codes of the greatest length", packed(every, 1, 32_767), DONE, due),
-        (f"{every} codes of most functions", packed(every, 65_536, 0), DONE, due),
+        (f"{every} codes of most functions", packed(every, MOST_INSTRS, 0), DONE, due),
         ("a code whose places have most lists of operands", [stacking(32_767, b"\x30")], DONE, due),
         ("one instruction more", [stacking(32_767, b"\4\x30")], BAD_CODE, b"c:1:41: E62 bad code file\n"),
     ):

@@ -4,6 +4,7 @@ from __future__ import annotations
 from typing import Iterator, NamedTuple
 
 from jobs import STATE, ZEROS
+from lab.limits import MOST_ACROSS, MOST_CLASSES, MOST_COLUMNS, MOST_SIDE
 
 
 def fill(head: bytes, piece: bytes, total: int, last: bytes = b"") -> Iterator[bytes]:
@@ -67,9 +68,8 @@ def stacking(rounds: int, last: bytes) -> bytes:
     return b"FEASTC\1\0\0\1" + own + (1 + 2 * rounds + len(last)).to_bytes(4, "big") + instructions
 
 
-SIDE = 512
 # long names of as many elements as there can be
-FULL_NAMES = [b"N" * 240 + b"%d" % k for k in range(256)]
+FULL_NAMES = [b"N" * 240 + b"%d" % k for k in range(MOST_CLASSES)]
 
 
 def full_name(x: int, y: int) -> bytes:
@@ -79,15 +79,15 @@ def full_name(x: int, y: int) -> bytes:
 
 def full_world() -> Iterator[bytes]:
     """A world with an atom at each of its 262,144 sites."""
-    yield b"feast 1\ntiles 8 8\nsize 64 64\n"
-    for y in range(SIDE):
-        for x in range(SIDE):
+    yield b"feast 1\ntiles %d %d\nsize %d %d\n" % (MOST_ACROSS, MOST_ACROSS, MOST_SIDE, MOST_SIDE)
+    for y in range(MOST_COLUMNS):
+        for x in range(MOST_COLUMNS):
             yield b"atom %d %d %s\n" % (x, y, full_name(x, y))
 
 
 def full_report() -> Iterator[bytes]:
     """The report of that world."""
-    yield b"feast 1\natoms 262144\n"
-    for y in range(SIDE):
-        yield b"".join(b"%d %d %s %s\n" % (x, y, full_name(x, y), STATE) for x in range(SIDE))
+    yield b"feast 1\natoms %d\n" % MOST_COLUMNS**2
+    for y in range(MOST_COLUMNS):
+        yield b"".join(b"%d %d %s %s\n" % (x, y, full_name(x, y), STATE) for x in range(MOST_COLUMNS))
     yield b"journal 0\nabandoned 0\n"

@@ -2,9 +2,10 @@
 import random
 from collections.abc import Callable
 
+from lab.limits import STATE_BITS
+
 WIDTHS = {"Int": (2, 64), "Unsigned": (1, 64), "Bits": (1, 64), "Unary": (1, 40), "Bool": (1, 1)}
 CLASSES = {"Int": "Int", "Unsigned": "Unsigned", "Unary": "Unsigned", "Bits": "Bits", "Bool": "Bool"}
-MOST_BITS = 71
 
 
 class Drawer:
@@ -57,7 +58,7 @@ class Drawer:
 
     def element(self, name: str) -> str:
         """An element: the base's rank has 3 bits, the part 8."""
-        members, left = ["  Part part;"], MOST_BITS - 3 - 8
+        members, left = ["  Part part;"], STATE_BITS - 3 - 8
         names: dict[str, list[str]] = {"Unsigned": ["rank", "part.low"], "Int": ["part.high"], "Bits": [], "Bool": []}
         for at in range(self.draws.randint(2, 6)):
             if left < 2:
@@ -234,5 +235,5 @@ def world(seed: int, attempts: int) -> str:
     for y in range(down * high):
         for x in range(across * wide):
             if draws.random() < 0.4 and y // high * across + x // wide not in off:
-                lines.append(f"atom {x} {y} {draws.choice(['First', 'Second'])} {draws.getrandbits(71):018x}")
+                lines.append(f"atom {x} {y} {draws.choice(['First', 'Second'])} {draws.getrandbits(STATE_BITS):018x}")
     return "".join(f"{line}\n" for line in [*lines, f"order seed {seed * 100 + 50}"])

@@ -7,6 +7,7 @@ from test_chain import ChainCase, contents, lines_of
 
 from lab.acts import Act
 from lab.layout import Layout
+from lab.limits import MOST_ATTEMPTS
 from lab.program import Program
 from lab.world import World
 
@@ -99,7 +100,7 @@ class Acts(LabCase):
             ("1:erase:0,0,1,1", "0,0,1,1 is no probability"), ("1:erase:1.5:0,0", "1.5 is no probability from 0 to 1"),
             ("1:erase:-1:0,0", "-1 is no probability"), ("1:flip:nan:0,0", "nan is no probability"), ("1:flip::0,0", "nothing is no prob"),
             ("1:flip:1:0,0:seed=18446744073709551616", "a seed is from 0"), ("1:flip:1:0,0:seed=x", "0,0:seed=x is neither"),
-            ("1:attempts:1000001", "a tile of this world makes from 0 to 1000000 attempts"), ("1:attempts:-1", "makes from 0"),
+            (f"1:attempts:{MOST_ATTEMPTS + 1}", f"a tile of this world makes from 0 to {MOST_ATTEMPTS} attempts"), ("1:attempts:-1", "makes from 0"),
         ]:
             with self.assertRaisesRegex(Exception, rf"^{text[:60].replace('+', '[+]')}") as caught:
                 Act.of(text, self.world, self.layout)

@@ -6,6 +6,7 @@ from pathlib import Path
 
 from calls import EXAMPLES, TOP, LabCase, feast, here, program
 
+from lab.limits import ELEMENT_LIMIT
 from lab.rule_pages import codes, element_rules, ulam_rules
 
 EMPTY = "Void behave() { }"
@@ -245,8 +246,8 @@ class Words(LabCase):
         os.mkfifo(self.room / "pipe")
         self.refused("no plain file; it would have to be read twice", "check", self.room / "pipe")
         self.refused("walk.world: a world; name the element files behind it", "check", EXAMPLES / "walk.world")
-        big = self.file("big", " " * 1_048_577)
-        self.refused("E02 longer than 1048576 bytes", "check", big)
+        big = self.file("big", " " * (ELEMENT_LIMIT + 1))
+        self.refused(f"E02 longer than {ELEMENT_LIMIT} bytes", "check", big)
         self.refused("the following arguments are required: FILE", "check")
 
     def test_two_files(self) -> None:

@@ -18,6 +18,14 @@ from test_live import LiveCase
 READY = "document.readyState === 'complete' && !document.getElementById('film').hidden"
 LEG = "Number(/Leg ([0-9,]+)/.exec(document.getElementById('moment').textContent)[1].replaceAll(',', ''))"
 WORLD, ELEMENTS = EXAMPLES / "regulator-tiles.world", EXAMPLES / "regulator.ulam"
+# The first order from now on leaves the page after half a second.
+FIRST_IS_LATE = """(() => {
+  const fetched = window.fetch;
+  window.fetch = (...words) => {
+    window.fetch = fetched;
+    return new Promise((given) => setTimeout(given, 500)).then(() => fetched(...words));
+  };
+})()"""
 BLUE, ORANGE = "#0072b2", "#e69f00"
 
 
@@ -180,8 +188,8 @@ class Others(LivePage):
         self.tool("stamp")
         self.set("drawing", "x = 3, y = 1, rule = B3/S23\n3o!\n")
         self.set("drawing-keys", "o=Resource")
+        self.browser.value(FIRST_IS_LATE)
         self.over((14, 2))
-        self.browser.wait("document.getElementById('fault').textContent.includes('is no')")
         self.over((4, 2))
         self.browser.wait("document.getElementById('fault').hidden")
         self.waits(1)

@@ -6,6 +6,7 @@ from pathlib import Path
 
 from calls import EXAMPLES, TOP, LabCase, Word, around, lab, program
 
+from lab.limits import MOST_COLUMNS
 from lab.main import VERBS
 
 
@@ -74,8 +75,8 @@ class Words(LabCase):
     def test_reader_that_leaves(self) -> None:
         """A reader that wants no more is no fault of the lab, whether it left early or late."""
         for rows in (0, 64):
-            atoms = "".join(f"{x} {y} Stone {'0' * 18}\n" for y in range(rows) for x in range(512))
-            report = self.file("report", f"feast 1\natoms {rows * 512}\n{atoms}journal 0\nabandoned 0\n")
+            atoms = "".join(f"{x} {y} Stone {'0' * 18}\n" for y in range(rows) for x in range(MOST_COLUMNS))
+            report = self.file("report", f"feast 1\natoms {rows * MOST_COLUMNS}\n{atoms}journal 0\nabandoned 0\n")
             read, write = os.pipe()
             os.close(read)
             done = subprocess.run([TOP / "lab", "atoms", report, EXAMPLES / "stone.ulam"], stdout=write,

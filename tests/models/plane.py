@@ -6,6 +6,7 @@ from typing import NamedTuple
 
 from draws import drawn_attempts
 
+# The models are written apart from the rest, so they have this limit once more.
 STATE_BITS = 71
 
 

@@ -3,6 +3,7 @@ from __future__ import annotations
 
 from typing import Iterator
 
+from lab.limits import ELEMENT_LIMIT, WORLD_LIMIT
 from packing import Function, code_file, element
 from program import File
 from rows import Row, refused, written
@@ -92,13 +93,12 @@ REFUSED: list[tuple[str, str, str]] = [
     ("steppack strange coded", "strange:4:1", "E73"),
 ]
 
-# A file of so many bytes in the place of a world or of an element file, and how the call `run w e` is refused: a world
-# has at most 256 mebibytes, an element file at most one.
+# A file of so many bytes in the place of a world or of an element file, and how the call `run w e` is refused.
 LONG: list[tuple[str, int, str, str, int]] = [
-    ("w", 268_435_456, "w:1:1", "E70", 0),
-    ("w", 268_435_457, "w", "E02", 268_435_456),
-    ("e", 1_048_576, "w:5:1", "E73", 0),
-    ("e", 1_048_577, "e", "E02", 1_048_576),
+    ("w", WORLD_LIMIT, "w:1:1", "E70", 0),
+    ("w", WORLD_LIMIT + 1, "w", "E02", WORLD_LIMIT),
+    ("e", ELEMENT_LIMIT, "w:5:1", "E73", 0),
+    ("e", ELEMENT_LIMIT + 1, "e", "E02", ELEMENT_LIMIT),
 ]
 
 

@@ -4,6 +4,7 @@ from __future__ import annotations
 import dataclasses
 from typing import Iterator
 
+from lab.limits import MOST_CLASSES, MOST_LOCALS, MOST_MEMBERS, MOST_PARAMS
 from rows import Row, refused, written
 
 # Files, with `$` between the first and the second one, and the place and the code of their first fault.
@@ -87,9 +88,9 @@ class Many:
     front: str
     each: tuple[str, str]
     back: str
-    # The greatest number of them that is accepted, and the place of the fault where there is one more.
+    # The greatest number of them that is accepted, and the column of the fault where there is one more.
     most: int
-    place: str
+    column: int
     # What `check` writes of the greatest number: first, and then for each; # stands for its number.
     first: str
     then: str = ""
@@ -107,22 +108,22 @@ class Many:
 LIMITS = [
     Many(
         "element A { Void behave() { }", ("Bool m", ";"), "}",
-        64, "66:6", "element A 1 64\n", "member m# Bool # 1\n",
+        MOST_MEMBERS, 6, f"element A 1 {MOST_MEMBERS}\n", "member m# Bool # 1\n",
     ),
-    Many("element A { Void behave() { }", ("Void f", "() { }"), "}", 63, "65:6", "element A 1 0\n"),
+    Many("element A { Void behave() { }", ("Void f", "() { }"), "}", MOST_MEMBERS - 1, 6, "element A 1 0\n"),
     Many(
         "element A { typedef Int T; Void behave() { }", ("constant Int c", " = 0;"), "}",
-        63, "65:14", "element A 1 0\n",
+        MOST_MEMBERS - 1, 14, "element A 1 0\n",
     ),
-    Many("element A { Void behave() { Int n;", ("{ Int v", "; }"), "} }", 63, "65:7", "element A 1 0\n"),
+    Many("element A { Void behave() { Int n;", ("{ Int v", "; }"), "} }", MOST_LOCALS - 1, 7, "element A 1 0\n"),
     Many(
         "element A { Void behave() { } Void f(Int a, Int b, Int c, Int d, Int e, Int g, Int h, Int i) {",
-        ("Int v", ";"), "} }", 64, "66:5", "element A 1 0\n",
+        ("Int v", ";"), "} }", MOST_LOCALS, 5, "element A 1 0\n",
     ),
-    Many("element A { Void behave() { } Void f(Int p", (", Int p", ""), ") { } }", 7, "9:7", "element A 1 0\n"),
+    Many("element A { Void behave() { } Void f(Int p", (", Int p", ""), ") { } }", MOST_PARAMS - 1, 7, "element A 1 0\n"),
     Many(
         "element A { Void behave() { } }", ("quark Q", " { }"), "",
-        255, "257:7", "element A 1 0\n", "quark Q# 0\n",
+        MOST_CLASSES - 1, 7, "element A 1 0\n", "quark Q# 0\n",
     ),
 ]
 
@@ -138,4 +139,4 @@ def rows() -> Iterator[Row]:
         yield refused("check " + " ".join(files(texts)), files(texts), place, code)
     for many in LIMITS:
         yield written("check a", {"a": many.text(many.most)}, many.checked())
-        yield refused("check a", {"a": many.text(many.most + 1)}, f"a:{many.place}", "E35")
+        yield refused("check a", {"a": many.text(many.most + 1)}, f"a:{many.most + 2}:{many.column}", "E35")

@@ -7,6 +7,7 @@ from __future__ import annotations
 from typing import Iterator
 
 from events import MAIN, WEST, fails, leaves, leaves_number, leaves_state, not_valid
+from lab.limits import MOST_OPERANDS
 from packing import ATOM, NOTHING, NUMBER, Function
 from rows import Row
 
@@ -105,7 +106,7 @@ FAILING: list[tuple[str, int]] = [
 WAYS: list[tuple[int, int]] = [(0, 2), (-3, 1)]
 
 # So many operands at once, and whether that is valid.
-DEEP: list[tuple[int, bool]] = [(512, True), (513, False)]
+DEEP: list[tuple[int, bool]] = [(MOST_OPERANDS, True), (MOST_OPERANDS + 1, False)]
 
 # A function of two parameters that gives their difference, called in the place of an instruction that ends the first.
 SUB = Function("sub", 6, 2, (NUMBER, NUMBER, NUMBER), NUMBER)

@@ -3,6 +3,7 @@ from __future__ import annotations
 
 from typing import Iterator
 
+from lab.limits import LONGEST_NAME, MOST_TOKENS
 from rows import Row, refused, written
 
 # Texts with the place and the code of their first fault.
@@ -33,16 +34,19 @@ FAULTS: list[tuple[str, str, str]] = [
     ("/* @", "1:1", "E11"),
 ]
 
-# What stands behind 200,000 signs, and the first fault.
+# What stands behind as many signs as there may be tokens, and the first fault.
 BEHIND_THE_MOST: list[tuple[str, str, str]] = [
     (" // more", "1:1", "E20"),
-    (" ;", "1:200002", "E13"),
-    ("1a", "1:200001", "E13"),
-    ("0x", "1:200003", "E10"),
+    (" ;", f"1:{MOST_TOKENS + 2}", "E13"),
+    ("1a", f"1:{MOST_TOKENS + 1}", "E13"),
+    ("0x", f"1:{MOST_TOKENS + 3}", "E10"),
 ]
 
-# Names by their first letter and length. One of 255 bytes is a name, which begins no file.
-NAMES: list[tuple[str, int, str, str]] = [("a", 255, "1:1", "E20"), ("A", 256, "1:256", "E10")]
+# Names by their first letter and length. The longest is a name, which begins no file.
+NAMES: list[tuple[str, int, str, str]] = [
+    ("a", LONGEST_NAME, "1:1", "E20"),
+    ("A", LONGEST_NAME + 1, f"1:{LONGEST_NAME + 1}", "E10"),
+]
 
 # Numbers as they are written, their values, and whether they are unsigned.
 NUMBERS: list[tuple[str, int, bool]] = [("0", 0, False), ("120u", 120, True), ("0xFfu", 255, True), ("0b101", 5, False)]
@@ -70,7 +74,7 @@ def rows() -> Iterator[Row]:
     for text, place, code in FAULTS:
         yield fourth(text, place, code)
     for behind, place, code in BEHIND_THE_MOST:
-        yield fourth(";" * 200_000 + behind, place, code)
+        yield fourth(";" * MOST_TOKENS + behind, place, code)
     for letter, length, place, code in NAMES:
         yield fourth(letter * length, place, code)
     for number, value, unsigned in NUMBERS:

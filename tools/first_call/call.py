@@ -1,26 +1,20 @@
 """What `./feast WORDS` does if the program isn't built: one call at a time, a preview, the proof, the program."""
-from __future__ import annotations
-
 import fcntl
 import os
 import signal
+import time
 from pathlib import Path
-from typing import Optional
 
-from first_call import children
 from first_call.build import Build, Refused
-from first_call.crates import PROGRAM
-from first_call.preview import NoPreview, Preview, is_wanted
-from first_call.sources import is_stale
+from first_call.crates import PROGRAM, is_stale
+from first_call.machine import end
+from first_call.preview import NoPreview, Preview
 from first_call.teller import Teller, spoken
-from first_call.toolchain import NoToolchain
 
 FAILED, INTERRUPTED = 1, 130
 KEPT = "crates that are proved are kept, and the same command goes on from there"
-
-
-class Interrupted(Exception):
-    """The call was told to end."""
+# How often what goes on is looked at, in seconds.
+TICK = 0.5
 
 
 class FirstCall:
@@ -30,7 +24,7 @@ class FirstCall:
         self.top, self.words = top, words
         self.program = top / "crates" / PROGRAM / "out" / PROGRAM
         self.teller = Teller()
-        self.preview: Optional[Preview] = None
+        self.preview: Preview | None = None
         self.is_told_to_end = False
         # Signals end the call, but for those that it was started to ignore.
         for number in (signal.SIGINT, signal.SIGTERM, signal.SIGHUP):
@@ -43,11 +37,10 @@ class FirstCall:
 
     def pause(self) -> None:
         """Waits a moment; shows the preview if it has come, and ends the call if it was told to end."""
-        children.pause()
+        time.sleep(TICK)
         if self.is_told_to_end:
-            raise Interrupted
-        answer = self.preview.answer() if self.preview else None
-        if answer is not None:
+            raise KeyboardInterrupt
+        if self.preview and (answer := self.preview.answer()):
             self.preview = None
             self.teller.show(answer)
 
@@ -65,46 +58,40 @@ class FirstCall:
 
     def build(self) -> None:
         """Proves and builds the program, with a preview in the meantime."""
-        build = Build(self.top, self.program, self.teller, self.pause)
+        build = Build(self.top, self.program)
         self.teller.say(build.announcement())
         self.teller.say(f"you can interrupt this: {KEPT}")
         self.start_preview()
         try:
-            build.go()
+            while build.begin_ready():
+                self.teller.status(build.status())
+                self.pause()
+                build.look()
+            build.finish()
         finally:
             self.teller.clear()
-            build.end()
-            if self.preview:
-                self.preview.child.end()
-        gone = spoken(build.progress.status().gone)
+            end([*build.works, *([self.preview] if self.preview else [])])
+        gone = spoken(build.status().gone)
         self.teller.say(f"proved and built in {gone}; the program by itself is {self.program}")
 
     def start_preview(self) -> None:
-        """Starts a preview, if one is wanted."""
-        if is_wanted(os.environ, self.teller.is_terminal):
-            try:
-                self.preview = Preview(self.words, self.top / "crates" / PROGRAM)
-                self.teller.say("a preview of this call, run without proof, comes in a minute or two")
-            except (NoPreview, OSError) as why:
-                self.teller.say(f"no preview: {why}")
-
-    def run_program(self) -> int:
-        """Runs the program in place of this process."""
-        # Python ignores these two, and the program would inherit that.
-        for number in (signal.SIGPIPE, signal.SIGXFSZ):
-            signal.signal(number, signal.SIG_DFL)
-        os.execv(self.program, [str(self.program), *self.words])
-        return FAILED
+        """Starts a preview: not with FEAST_PREVIEW=no, nor in CI without a terminal."""
+        if os.environ.get("FEAST_PREVIEW") == "no" or os.environ.get("CI") and not self.teller.is_terminal:
+            return
+        try:
+            self.preview = Preview(self.words, self.top / "crates" / PROGRAM)
+            self.teller.say("a preview of this call, run without proof, comes in a minute or two")
+        except (NoPreview, OSError) as why:
+            self.teller.say(f"no preview: {why}")
 
 
 def is_taken(lock: int) -> bool:
     """Whether another process has the lock; if none has, this one takes it."""
     try:
         fcntl.flock(lock, fcntl.LOCK_EX | fcntl.LOCK_NB)
-    except BlockingIOError:
-        return True
-    except OSError:
-        pass  # Some file systems have no locks: the toolchain's own then have to do.
+    except OSError as why:
+        # (Some file systems have no locks: the toolchain's own then have to do.)
+        return isinstance(why, BlockingIOError)
     return False
 
 
@@ -113,13 +100,16 @@ def main(top: Path, words: list[str]) -> int:
     call = FirstCall(top, words)
     try:
         call.make_ready()
-        return call.run_program()
-    except Interrupted:
+        # Python ignores these two, and the program would inherit that.
+        for number in (signal.SIGPIPE, signal.SIGXFSZ):
+            signal.signal(number, signal.SIG_DFL)
+        os.execv(call.program, [str(call.program), *words])
+    except KeyboardInterrupt:
         call.teller.say(f"interrupted: {KEPT}")
         return INTERRUPTED
     except Refused as fault:
         call.teller.show(str(fault))
         call.teller.say("the program could not be built: the toolchain's reasons are above")
-    except (NoToolchain, OSError) as fault:
+    except OSError as fault:
         call.teller.say(str(fault))
     return FAILED

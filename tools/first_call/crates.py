@@ -1,12 +1,13 @@
-"""The crates that the program is made of, as crates.txt lists them."""
-from __future__ import annotations
-
+"""The crates that the program is made of, as crates.txt lists them, and their sources."""
+import os
 import re
+from collections.abc import Iterator, Mapping
 from dataclasses import dataclass
+from graphlib import TopologicalSorter
 from pathlib import Path
-from typing import Mapping
 
 PROGRAM = "feast"
+SUFFIXES = (".rt", ".antt")
 
 
 @dataclass(frozen=True)
@@ -19,36 +20,21 @@ class Crate:
     below: tuple[str, ...]
     named: tuple[str, ...] = ()
 
-    def near(self) -> list[str]:
-        """The repository's libraries that it names."""
-        return [name for name in self.named if name in self.below]
-
-    def outside(self) -> list[str]:
-        """The toolchain's libraries that it names."""
-        return [name for name in self.named if name not in self.below]
-
 
 def listed(top: Path) -> dict[str, list[str]]:
     """Each crate of crates.txt with the libraries that it names."""
-    lines = (line.partition("#")[0].strip() for line in (top / "crates.txt").read_text().splitlines())
-    rows = (re.match(r"(\w+)[^:]*:(.*)", line) for line in lines)
-    return {row[1]: row[2].split() for row in rows if row}
+    rows = re.findall(r"^\s*(\w+)[^:#\n]*:([^#\n]*)", (top / "crates.txt").read_text(), re.M)
+    return {name: named.split() for name, named in rows}
 
 
 def crates_of_program(top: Path) -> list[Crate]:
     """The program's crates, each after those that it stands on."""
     named = listed(top)
-    far: dict[str, list[str]] = {}
-
-    def below(name: str) -> list[str]:
-        if name not in far:
-            far[name] = []
-            found = [it for dep in named.get(name, []) if dep in named for it in [*below(dep), dep]]
-            far[name] = list(dict.fromkeys(found))
-        return far[name]
-
-    names = [*below(PROGRAM), PROGRAM]
-    return [Crate(name, top / "crates" / name, tuple(below(name)), tuple(named.get(name, []))) for name in names]
+    near = {name: [it for it in names if it in named] for name, names in named.items()}
+    below: dict[str, tuple[str, ...]] = {}
+    for name in TopologicalSorter(near).static_order():
+        below[name] = tuple(dict.fromkeys(far for it in near[name] for far in (*below[it], it)))
+    return [Crate(name, top / "crates" / name, below[name], tuple(named[name])) for name in (*below[PROGRAM], PROGRAM)]
 
 
 def chains(crates: list[Crate], seconds: Mapping[str, float]) -> dict[str, float]:
@@ -58,3 +44,18 @@ def chains(crates: list[Crate], seconds: Mapping[str, float]) -> dict[str, float
         above = (found[it.name] for it in crates if crate.name in it.below)
         found[crate.name] = seconds[crate.name] + max(above, default=0.0)
     return found
+
+
+def sources_of(folder: Path) -> Iterator[Path]:
+    """The sources below a folder, in an order that is always the same; what is built doesn't count."""
+    for at, folders, names in os.walk(folder):
+        folders[:] = sorted(it for it in folders if it != "out")
+        yield from (Path(at, name) for name in sorted(names) if name.endswith(SUFFIXES))
+
+
+def is_stale(top: Path, program: Path) -> bool:
+    """Whether there is no program, or a source is newer."""
+    if not os.access(program, os.X_OK):
+        return True
+    built = program.stat().st_mtime_ns
+    return any(path.stat().st_mtime_ns > built for path in [top / "crates.txt", *sources_of(top / "crates")])

@@ -1,21 +1,69 @@
-"""What the machine has: memory and processors, and how many crates it can prove side by side."""
+"""What the machine has: memory, processors, and processes that are started, watched and ended with all that they start."""
+from __future__ import annotations
+
 import os
 import re
+import signal
+import subprocess
+from collections import defaultdict
+from collections.abc import Iterable, Sequence
+from contextlib import suppress
 from pathlib import Path
+from typing import IO
 
+# How long a process has to end by itself, in seconds; the niceness of a session that gives way.
+PATIENCE = 8.0
+GIVING_WAY = 10
+TICKS = os.sysconf("SC_CLK_TCK")
 # How many gigabytes the proof of a crate wants.
 EACH = 3
+
+
+class Child(subprocess.Popen[bytes]):
+    """A command in a session of its own, which takes no input. Its errors go where its output goes, unless a file is given
+    for them."""
+
+    def __init__(self, words: Sequence[str], folder: Path, out: IO[bytes], err: IO[bytes] | int = subprocess.STDOUT) -> None:
+        super().__init__(words, cwd=folder, stdin=subprocess.DEVNULL, stdout=out, stderr=err, start_new_session=True)
+
+    def give_way(self) -> None:
+        """Has the session give way to others, where the system shares processors among sessions."""
+        with suppress(OSError):
+            Path(f"/proc/{self.pid}/autogroup").write_text(str(GIVING_WAY))
+
+    def tell(self, number: int) -> None:
+        """Sends a signal to the command and all that it started."""
+        with suppress(ProcessLookupError):
+            os.killpg(self.pid, number)
+
+
+def end(children: Iterable[Child]) -> None:
+    """Ends commands and all that they started, in peace if that serves."""
+    under_way = [child for child in children if child.poll() is None]
+    for child in under_way:
+        child.tell(signal.SIGTERM)
+    for child in under_way:
+        with suppress(subprocess.TimeoutExpired):
+            child.wait(PATIENCE)
+        child.tell(signal.SIGKILL)
+        child.wait()
+
+
+def spent_by_sessions() -> dict[int, float]:
+    """For each session the seconds that its processes, and those that they have waited for, had a processor."""
+    found: defaultdict[int, float] = defaultdict(float)
+    for stat in Path("/proc").glob("[0-9]*/stat"):
+        with suppress(OSError):
+            # Behind the name, which stands in brackets: state, parent, group, session; from the twelfth on, times.
+            fields = stat.read_text(errors="replace").rpartition(")")[2].split()
+            found[int(fields[3])] += sum(map(int, fields[11:15])) / TICKS
+    return found
 
 
 def free_memory() -> int:
     """How many gigabytes of memory there are to be had."""
     found = re.search(r"^MemAvailable:\s+(\d+)", Path("/proc/meminfo").read_text(), re.M)
     return int(found[1]) // 1_000_000 if found else 0
-
-
-def jobs_each(free: int, ready: int) -> int:
-    """How many of the free processors each of the crates gets that wait for no other, if each gets one at least."""
-    return max(free // max(ready, 1), 1)
 
 
 def lanes_here() -> int:

@@ -10,10 +10,8 @@ import re
 import stat
 import tempfile
 from pathlib import Path
-from typing import IO, Mapping, Optional
 
-from first_call.children import Child
-from first_call.machine import free_memory
+from first_call.machine import Child, free_memory
 
 # Names that `rt try` keeps for itself, and its status if the call takes too long or writes too much.
 TAKEN = ("program", "stdin", "stdout", "stderr")
@@ -29,14 +27,9 @@ class NoPreview(Exception):
     """Why there is no preview, as a reader is told."""
 
 
-def is_wanted(environment: Mapping[str, str], is_terminal: bool) -> bool:
-    """Whether a preview is wanted: not with FEAST_PREVIEW=no, nor in CI without a terminal."""
-    return environment.get("FEAST_PREVIEW") != "no" and (is_terminal or not environment.get("CI"))
-
-
 def command(words: list[str]) -> list[str]:
     """The words of `rt try` for a call. A file that a word names is handed over under the same name, if it can be."""
-    data: list[str] = []
+    data: dict[str, str] = {}
     handed: list[str] = []
     for word in words:
         if word and os.path.exists(word):
@@ -45,26 +38,25 @@ def command(words: list[str]) -> list[str]:
                 raise NoPreview(f"{word} is no plain file, and can be read only once")
             if os.path.isabs(name) or "=" in word or name.split("/")[0] in ("..", *TAKEN):
                 word = path
-            elif os.path.isfile(path) and f"{name}={path}" not in data:
-                data += ["--data", f"{name}={path}"]
+            elif os.path.isfile(path):
+                data[name] = path
         handed.append(word)
-    return ["rt", "try", *data, "--", *handed]
+    return ["rt", "try", *(it for name, path in data.items() for it in ("--data", f"{name}={path}")), "--", *handed]
 
 
-class Preview:
+class Preview(Child):
     """A call that runs without any proof."""
 
     def __init__(self, words: list[str], home: Path) -> None:
         if free_memory() < MEMORY:
             raise NoPreview(f"it wants {MEMORY} gigabytes of memory")
-        self.out: IO[bytes] = tempfile.TemporaryFile()
-        self.err: IO[bytes] = tempfile.TemporaryFile()
-        self.child = Child(command(words), home, self.out, self.err)
-        self.child.give_way()
+        self.out, self.err = tempfile.TemporaryFile(), tempfile.TemporaryFile()
+        super().__init__(command(words), home, self.out, self.err)
+        self.give_way()
 
-    def answer(self) -> Optional[str]:
+    def answer(self) -> str | None:
         """What is to be shown once the call has ended, None while it runs."""
-        status = self.child.status()
+        status = self.poll()
         if status is None:
             return None
         self.err.seek(0)

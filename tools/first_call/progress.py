@@ -4,18 +4,15 @@ How many seconds of one processor each crate takes from nothing stands in the ta
 What the last build on this machine measured stands in a file of the same form, and goes before it. A crate that neither
 names is reckoned by its length.
 """
-from __future__ import annotations
-
-import os
+import re
 import time
+from collections.abc import Mapping
 from dataclasses import dataclass
 from pathlib import Path
-from typing import Mapping
 
-from first_call.crates import PROGRAM, Crate
-from first_call.sources import sources_of
+from first_call.crates import PROGRAM, Crate, sources_of
 
-TABLE = Path(__file__).resolve().parent / "seconds.txt"
+TABLE = Path(__file__).resolve().with_name("seconds.txt")
 # Seconds for a line of code, and for one of a definition or a proof; the least for a crate.
 EACH_LINE = {".rt": 0.1, ".antt": 0.02}
 LEAST = 2.0
@@ -28,24 +25,19 @@ REST = 0.1
 
 
 def read(path: Path) -> dict[str, float]:
-    """A table; empty if there is none, or if it can't be read as one."""
-    try:
-        rows = [line.split() for line in path.read_text().splitlines() if line and not line.startswith("#")]
-        return {name: float(seconds) for name, seconds in rows}
-    except (OSError, ValueError):
-        return {}
+    """A table; empty if there is none."""
+    rows = re.findall(r"^(\w+) (\d+)$", path.read_text(errors="replace"), re.M) if path.is_file() else []
+    return {name: float(seconds) for name, seconds in rows}
 
 
 def write(path: Path, seconds: Mapping[str, float]) -> None:
-    """Writes a table, whole or not at all."""
-    part = path.with_name(f"{path.name}.{os.getpid()}")
-    part.write_text("".join(f"{name} {spent:.0f}\n" for name, spent in sorted(seconds.items())))
-    os.replace(part, path)
+    """Writes a table."""
+    path.write_text("".join(f"{name} {spent:.0f}\n" for name, spent in sorted(seconds.items())))
 
 
 def expected(crates: list[Crate], measured: Path) -> dict[str, float]:
     """What each crate is likely to take."""
-    table = {**read(TABLE), **read(measured)}
+    table = read(TABLE) | read(measured)
     return {it.name: max(table[it.name] if it.name in table else by_length(it), LEAST) for it in crates}
 
 
@@ -68,30 +60,14 @@ class Status:
 
 
 class Progress:
-    """The crates, lowest first, by how many processors they are proved, the seconds of one processor that each of them is
-    expected to take, which are done and which at work; and the seconds that each has taken so far."""
+    """What each crate is expected to take, how many are proved side by side, and which are done; and what each has taken
+    so far. All are seconds of one processor."""
 
-    def __init__(self, crates: list[Crate], lanes: int, expected: dict[str, float], done: set[str]) -> None:
-        self.crates, self.expected, self.done = crates, expected, done
-        self.lanes = min(lanes, SHARED)
-        self.start = time.monotonic()
+    def __init__(self, expected: dict[str, float], lanes: int, done: set[str]) -> None:
+        self.expected, self.lanes, self.done = expected, min(lanes, SHARED), done
         self.spent: dict[str, float] = {}
-        self.now: list[str] = []
+        self.start = time.monotonic()
         self.at_first = self.ahead()
-
-    def at_work(self, spent: Mapping[str, float]) -> None:
-        """Takes in which crates are at work at this moment, and what each has taken."""
-        self.spent.update(spent)
-        self.now = [crate.name for crate in self.crates if crate.name in spent]
-
-    def finish(self, name: str) -> None:
-        """Takes in that a crate is done."""
-        self.done.add(name)
-        self.now.remove(name)
-
-    def measured(self) -> dict[str, float]:
-        """The crates that were proved, with the seconds that each took."""
-        return {name: spent for name, spent in self.spent.items() if name in self.done}
 
     def left_of(self, name: str) -> float:
         """The seconds that are left of a crate."""
@@ -100,19 +76,13 @@ class Progress:
 
     def ahead(self) -> float:
         """How long what is left takes by the clock, if all goes as expected."""
-        return sum(self.left_of(crate.name) for crate in self.crates) / self.lanes
+        return sum(map(self.left_of, self.expected)) / self.lanes
 
-    def status(self) -> Status:
-        """How far the build is. What went so far says how much slower than expected the rest will go."""
+    def status(self, now: list[str]) -> Status:
+        """How far the build is, with these crates at work. What went so far says how much slower than expected the rest
+        will go."""
         gone, ahead = time.monotonic() - self.start, self.ahead()
         slowness = (SETTLED + gone) / (SETTLED + self.at_first - ahead)
-        share = max(1 - ahead * self.lanes / sum(self.expected[crate.name] for crate in self.crates), 0.0)
-        done = sum(crate.name in self.done for crate in self.crates)
-        return Status(len(self.crates), done, said_of(self.now), share, gone, slowness * ahead)
-
-
-def said_of(now: list[str]) -> str:
-    """What is at work, in words; empty if nothing is."""
-    if PROGRAM in now:
-        return "proving and building the program"
-    return f"proving {', '.join(now)}" if now else ""
+        share = max(1 - ahead * self.lanes / sum(self.expected.values()), 0.0)
+        doing = "proving and building the program" if PROGRAM in now else f"proving {', '.join(now)}" if now else ""
+        return Status(len(self.expected), len(self.done), doing, share, gone, slowness * ahead)

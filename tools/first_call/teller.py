@@ -1,9 +1,7 @@
 """Standard error: a bar that rewrites itself on a terminal, else a line whenever something changes."""
-from __future__ import annotations
-
 import os
 import sys
-from typing import Optional
+from contextlib import suppress
 
 from first_call.progress import Status
 
@@ -11,6 +9,8 @@ from first_call.progress import Status
 BAR = 10
 # With fewer seconds left than this, no number is shown.
 SOON = 20
+# Goes back to the begin of a terminal's line and empties it.
+ANEW = "\r\x1b[K"
 
 
 def spoken(seconds: float) -> str:
@@ -44,51 +44,45 @@ def as_bar(status: Status, width: int) -> str:
 
 
 class Teller:
-    """Tells on standard error."""
+    """Tells on standard error: lines, and on a terminal a bar below them."""
 
     def __init__(self) -> None:
         self.is_terminal = sys.stderr.isatty()
-        self.told: Optional[tuple[int, str]] = None
+        self.told: tuple[int, str] | None = None
         self.bar = ""
 
-    def write(self, text: str) -> None:
-        """Writes, if anybody is still there to read it."""
-        try:
-            sys.stderr.write(text)
+    def draw(self, text: str, bar: str) -> None:
+        """Writes a text in place of the bar, and a bar below it, if anybody is still there to read it."""
+        with suppress(OSError, ValueError):
+            sys.stderr.write(f"{ANEW if self.bar else ''}{text}{bar}")
             sys.stderr.flush()
-        except (OSError, ValueError):
-            pass
+        self.bar = bar
+
+    def show(self, text: str) -> None:
+        """Writes lines."""
+        self.draw(text, self.bar)
 
     def say(self, text: str) -> None:
         """Writes a line of its own."""
         self.show(f"feast: {text}\n")
 
-    def show(self, text: str) -> None:
-        """Writes lines, above the bar if there is one."""
-        bar, self.bar = self.bar, ""
-        self.write(f"\r\x1b[K{text}{bar}" if bar else text)
-        self.bar = bar
-
     def status(self, status: Status) -> None:
         """Shows how far the build has come, if that has changed."""
         if self.is_terminal:
-            bar = as_bar(status, self.width())
+            bar = as_bar(status, width())
             if bar != self.bar:
-                self.write(f"\r\x1b[K{bar}")
-                self.bar = bar
+                self.draw("", bar)
         elif (status.done, status.now) != self.told:
             self.told = (status.done, status.now)
             self.say(as_line(status))
 
-    def width(self) -> int:
-        """How wide the terminal is."""
-        try:
-            return os.get_terminal_size(sys.stderr.fileno()).columns or 80
-        except OSError:
-            return 80
-
     def clear(self) -> None:
         """Takes the bar away."""
-        if self.bar:
-            self.write("\r\x1b[K")
-            self.bar = ""
+        self.draw("", "")
+
+
+def width() -> int:
+    """How wide the terminal is."""
+    with suppress(OSError):
+        return os.get_terminal_size(sys.stderr.fileno()).columns or 80
+    return 80

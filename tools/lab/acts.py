@@ -24,9 +24,10 @@ from typing import ClassVar
 from lab.areas import Area, Site
 from lab.errors import LabError
 from lab.layout import Layout
+from lab.limits import MOST_ATTEMPTS, STATE_BITS
 from lab.seeds import MODULUS, nth
 from lab.values import state_of
-from lab.world import MOST_ATTEMPTS, STATE_BITS, World
+from lab.world import World
 
 FORM = re.compile(r"([1-9]\d{0,8}):(clear|put|erase|flip|attempts):(.+)")
 CHANCE = re.compile(r"0|1|[01]?\.\d{1,15}")

@@ -2,11 +2,12 @@
 from collections.abc import Iterable, Sequence
 from typing import NamedTuple
 
+from lab.limits import STATE_BITS
 from lab.report import Record
 from lab.stack_code import Code
 from lab.stack_event import Deed
 from lab.stack_machine import Ending, Machine
-from lab.world import STATE_BITS, World
+from lab.world import World
 
 REACH = 4
 # The sites of a window in the order of their numbers: by distance, then by column, then by row.

@@ -5,8 +5,8 @@ from dataclasses import dataclass, field
 from pathlib import Path
 
 from lab.errors import LabError
+from lab.limits import STATE_BITS
 from lab.program import Program
-from lab.world import STATE_BITS
 
 TYPE = re.compile(r"(?P<kind>\w+?)(?:\((?P<width>\d+)\))?(?:\[(?P<length>\d+)\])?")
 

@@ -8,9 +8,10 @@ from collections.abc import Iterator
 from dataclasses import dataclass, field, replace
 from enum import IntEnum
 
+from lab.limits import MOST_CALLS
 from lab.ulam_classes import WINDOW
 from lab.ulam_numbers import FALSE, TRUE
-from lab.ulam_ranges import MOST_CALLS, Known, Ranges
+from lab.ulam_ranges import Known, Ranges
 from lab.ulam_scopes import Context, Local, Scope, shown_by
 from lab.ulam_tokens import Token
 from lab.ulam_tree import (

@@ -13,6 +13,7 @@ from lab.chain_measures import carried_on
 from lab.errors import LabError
 from lab.failure_finder import Finder
 from lab.legs import Maker
+from lab.limits import MOST_COLUMNS
 from lab.live_session import Session
 from lab.live_view import View
 from lab.marks import marks
@@ -101,7 +102,7 @@ class Live:
     def stamp(self, order: dict[str, Any]) -> str:
         """Puts a drawing on the plane: its `text`, its `keys`, and the place `x`, `y` of its first symbol."""
         text, keys = order.get("text"), strings(order, "keys")
-        place = [int(number) for number in (order.get("x"), order.get("y")) if type(number) is int and 0 <= number < 512]
+        place = [int(number) for number in (order.get("x"), order.get("y")) if type(number) is int and 0 <= number < MOST_COLUMNS]
         if not isinstance(text, str) or len(place) < 2:
             raise LabError("a stamp has a text, and whole numbers x and y")
         self.session.act(stamped(text, keys, (place[0], place[1]), self.session.maker.layout))

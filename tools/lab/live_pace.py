@@ -1,7 +1,8 @@
 """How long the legs of a chain are that is watched."""
 from dataclasses import dataclass
 
-from lab.world import MOST_ATTEMPTS, World
+from lab.limits import MOST_ATTEMPTS
+from lab.world import World
 
 EVERY = 0.1  # seconds: legs are as long as this by themselves, and none begins sooner behind another
 FIRST = 20_000  # attempts of all tiles in the first leg

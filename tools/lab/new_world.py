@@ -3,24 +3,25 @@ import argparse
 
 from lab.errors import LabError
 from lab.layout import Layout
+from lab.limits import LEAST_SIDE, MOST_ACROSS, MOST_ATTEMPTS, MOST_SIDE
 from lab.seeds import MODULUS
 from lab.values import state_of
-from lab.world import MOST_ATTEMPTS, World
+from lab.world import World
 
 
 def add_frame(parser: argparse.ArgumentParser) -> None:
     """The words of the frame of a world, but for its seed."""
     parser.add_argument("--size", metavar=("W", "H"), nargs=2, type=int, required=True,
-                        help="the sites of a tile, 8 to 64 each way")
+                        help=f"the sites of a tile, {LEAST_SIDE} to {MOST_SIDE} each way")
     parser.add_argument("--tiles", metavar=("TX", "TY"), nargs=2, type=int, default=[1, 1],
-                        help="the tiles, 1 to 8 each way")
+                        help=f"the tiles, 1 to {MOST_ACROSS} each way")
     parser.add_argument("--attempts", metavar="K", type=int, help="how many attempts each tile draws")
     parser.add_argument("--order", metavar="N", type=int, help="the seed from which the turns of tiles in `step` are drawn")
 
 
 def frame(arguments: argparse.Namespace) -> World:
     """The world without its atoms."""
-    limits = {"tiles": (1, 8), "size": (8, 64)}
+    limits = {"tiles": (1, MOST_ACROSS), "size": (LEAST_SIDE, MOST_SIDE)}
     for option, (least, most) in limits.items():
         values = getattr(arguments, option)
         if not all(least <= value <= most for value in values):

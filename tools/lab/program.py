@@ -6,7 +6,7 @@ from collections.abc import Sequence
 from dataclasses import dataclass
 from pathlib import Path
 
-from first_call.sources import is_stale
+from first_call.crates import is_stale
 
 from lab.errors import LabError
 

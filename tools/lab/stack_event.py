@@ -3,8 +3,8 @@ from collections.abc import Callable, Sequence
 from typing import NamedTuple
 
 from lab.draws import GOLDEN, split_mix
+from lab.limits import STATE_BITS, MOST_TURNS
 from lab.stack_numbers import WORD
-from lab.world import STATE_BITS
 
 CAUSES = {
     1: "no turn was left",
@@ -15,7 +15,7 @@ CAUSES = {
     6: "site 0 no longer had the acting type",
     7: "an index lay outside its array",
 }
-TURNS, WAITING, SITES = 1000, 16, 41
+SITES = 41
 Step = Callable[[], int]  # does what an instruction says, and gives back the place of the next one
 
 
@@ -53,7 +53,7 @@ class Event:
         """Begins an event of the atom at the first of the sites, each the place of its cell."""
         self.sites, self.seed = sites, seed
         self.acting = self.cells[sites[0]] >> STATE_BITS
-        self.turns = TURNS
+        self.turns = MOST_TURNS
         self.before: dict[int, int] = {}  # the cells that were written, with what they were
         self.operands.clear()
         self.waiting.clear()

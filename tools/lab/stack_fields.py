@@ -1,9 +1,9 @@
 """What the instructions of the stack machine do that read and write members: of the acting atom, and of one in a slot."""
 from collections.abc import Callable
 
+from lab.limits import STATE_BITS
 from lab.stack_event import Event, Failed, Step
 from lab.stack_numbers import Field
-from lab.world import STATE_BITS
 
 
 def load_field(event: Event, after: int, first: int, width: int, kind: str) -> Step:

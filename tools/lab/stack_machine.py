@@ -5,10 +5,10 @@ It is a second machine beside the program's, made after `docs/stack-code.md`, an
 from collections.abc import Sequence
 from dataclasses import dataclass
 
+from lab.limits import STATE_BITS, MOST_TURNS
 from lab.stack_code import Code
-from lab.stack_event import TURNS, Event, Failed
+from lab.stack_event import Event, Failed
 from lab.stack_steps import step_of
-from lab.world import STATE_BITS
 
 
 @dataclass(frozen=True)
@@ -49,4 +49,4 @@ class Machine:
         except Failed as failed:
             cause = failed.args[0]
             event.fail()
-        return Ending(cause, last, count, TURNS - event.turns)
+        return Ending(cause, last, count, MOST_TURNS - event.turns)

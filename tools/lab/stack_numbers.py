@@ -4,7 +4,7 @@ An atom is one number here: its type times 2^71, and its state. So the empty ato
 """
 from collections.abc import Callable
 
-from lab.world import STATE_BITS
+from lab.limits import STATE_BITS
 
 WORD = (1 << 64) - 1
 Binary = Callable[[int, int], int]

@@ -5,11 +5,11 @@ below 0 the event is over.
 """
 from collections.abc import Callable
 
+from lab.limits import MOST_CALLS, STATE_BITS
 from lab.stack_code import Code
-from lab.stack_event import WAITING, Event, Failed, Step
+from lab.stack_event import Event, Failed, Step
 from lab.stack_fields import FIELD_STEPS
 from lab.stack_numbers import BINARY, Binary, DividedByZero, fitting, shifted_up
-from lab.world import STATE_BITS
 
 OVER = -1
 Unary = Callable[[int], int]
@@ -239,7 +239,7 @@ def call(event: Event, after: int, code: Code, number: int) -> Step:
 
     def step() -> int:
         event.take_turn()
-        if len(event.waiting) == WAITING:
+        if len(event.waiting) == MOST_CALLS:
             raise Failed(2)
         event.waiting.append((after, event.slots, event.base))
         event.note("call", number)

@@ -8,7 +8,8 @@ from fractions import Fraction
 from lab.constants import constants
 from lab.errors import LabError
 from lab.fill import filled
-from lab.world import MOST_ATTEMPTS, World
+from lab.limits import LEAST_SIDE, MOST_ACROSS, MOST_ATTEMPTS, MOST_SIDE
+from lab.world import World
 
 SETTING = re.compile(r"(?P<name>\w+(?:\.\w+)?)=(?P<values>[^\s,]+(?:,[^\s,]+)*)")
 WORD = re.compile(r"-?\w+(?:\.\d+)?")
@@ -95,7 +96,7 @@ def with_number(world: World, name: str, value: str) -> World:
         if not value.isdecimal():
             raise LabError(f"--set attempts={value}: it is no number of attempts")
         return replace(world, attempts=int(value))
-    least, most = (8, 64) if name == "size" else (1, 8)
+    least, most = (LEAST_SIDE, MOST_SIDE) if name == "size" else (1, MOST_ACROSS)
     match = PAIR.fullmatch(value)
     across, down = map(int, match.groups()) if match is not None else (0, 0)
     if not (least <= across <= most and least <= down <= most):

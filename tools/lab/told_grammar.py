@@ -1,6 +1,7 @@
 """What stands where tokens or the grammar refuse a file (E10 to E21)."""
 from collections.abc import Callable
 
+from lab.limits import MOST_DEPTH, MOST_TOKENS
 from lab.told import Fault, Told
 
 SMALL_TYPES = frozenset("int void bool boolean unsigned bits atom auto char long short float double string unary uint "
@@ -28,9 +29,9 @@ def told(fault: Fault) -> Told:
     if code == "E20":
         return Told(met(fault), form_of(fault), max(len(fault.token.text), 1))
     if code == "E21":
-        return Told("here it is more than 64 deep", "more than 64 brackets and operators inside one another",
+        return Told(f"here it is more than {MOST_DEPTH} deep", f"more than {MOST_DEPTH} brackets and operators inside one another",
                     max(len(fault.token.text), 1))
-    return Told("the 200,001st", "more than 200,000 tokens", max(len(fault.token.text), 1))
+    return Told(f"the {MOST_TOKENS + 1:,}st", f"more than {MOST_TOKENS:,} tokens", max(len(fault.token.text), 1))
 
 
 def word_length(fault: Fault) -> int:

@@ -2,6 +2,7 @@
 from collections.abc import Iterable
 from difflib import get_close_matches
 
+from lab.limits import MOST_PARAMS, STATE_BITS
 from lab.nearby import has_class
 from lab.told import Fault, Told
 from lab.told_grammar import OF_TYPES
@@ -241,7 +242,7 @@ def too_many(fault: Fault) -> Told:
     """A declaration too many."""
     function = fault.function
     if function is not None and any(fault.is_at(it.name) for it in function.parameters):
-        return Told("the 9th parameter", "more than 8 parameters", length(fault))
+        return Told(f"the {MOST_PARAMS + 1}th parameter", f"more than {MOST_PARAMS} parameters", length(fault))
     return Told("one too many", "more declarations than a class, a function or a call may have", length(fault))
 
 
@@ -250,7 +251,7 @@ def bad_type(fault: Fault) -> Told:
     kind, owner = fault.token.text, fault.class_
     use = next((it for it in uses(fault) if fault.is_at(it.name)), None)
     if use is None or owner is None:
-        return Told("a length from 1 to 71 is allowed", "an array that is too long, or of length 0", length(fault))
+        return Told(f"a length from 1 to {STATE_BITS} is allowed", "an array that is too long, or of length 0", length(fault))
     width = fault.classes.value(owner, use.width)
     data = next((it for it in owner.members if isinstance(it, Data) and it.type is use), None)
     size = length(fault)
@@ -333,4 +334,4 @@ def too_wide(fault: Fault) -> Told:
         shown = [*shown[:8], ".."]
     is_quark = fault.refused.code == "E40"
     return Told("bits: " + ", ".join(shown), "a quark of more than 32 bits" if is_quark
-                else "an element of more than 71 bits", length(fault))
+                else f"an element of more than {STATE_BITS} bits", length(fault))

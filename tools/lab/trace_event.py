@@ -6,11 +6,11 @@ from lab.declarations import Declarations
 from lab.event_maker import OFFSETS, REACH, STATE, Made, Maker
 from lab.film_source import Source
 from lab.layout import Layout
+from lab.limits import STATE_BITS
 from lab.marks import marks
 from lab.report import Record
 from lab.stack_code import Code
 from lab.stack_event import CAUSES, Deed
-from lab.world import STATE_BITS
 
 WIDE = 5  # how many letters a site has in a picture
 BETWEEN = 4

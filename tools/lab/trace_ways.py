@@ -4,10 +4,10 @@ from collections.abc import Iterator, Sequence
 from lab.errors import LabError
 from lab.event_maker import OFFSETS, REACH, Made
 from lab.layout import Layout
+from lab.limits import STATE_BITS
 from lab.report import Record
 from lab.retraced import Retraced
 from lab.trace_event import described
-from lab.world import STATE_BITS
 
 NUMBERS = {offset: number for number, offset in enumerate(OFFSETS)}
 Row = Sequence[object]

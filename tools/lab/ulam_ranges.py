@@ -3,6 +3,7 @@ from collections import defaultdict
 from collections.abc import Iterator
 from dataclasses import dataclass, field
 
+from lab.limits import MOST_CALLS
 from lab.ulam_classes import LIBRARY, RANDOM, Classes
 from lab.ulam_numbers import FALSE, TRUE, Range, cast_to, combined, joined, of_type
 from lab.ulam_scopes import Context, Scope, Step, scoped
@@ -10,9 +11,6 @@ from lab.ulam_tree import (
     Assign, Binary, Call, Cast, Class, Constant, Declare, Expr, Function, If, Item, Loop, Number, Path, Prefixed, Return,
     Statement, Truth, own_exprs, parts, statements)
 from lab.ulam_types import type_of
-
-
-MOST_CALLS = 16  # how many calls nest in an event
 
 
 class Known:

@@ -12,6 +12,7 @@ from itertools import product
 from pathlib import Path
 
 from lab.event_maker import OFFSETS, REACH, Made, Maker
+from lab.limits import MOST_ACROSS, MOST_SIDE
 from lab.program import Program
 from lab.world import World
 
@@ -55,7 +56,7 @@ class WindowCheck:
     def __init__(self, program: Program, files: Sequence[Path], room: Path, maker: Maker) -> None:
         self.program, self.files, self.room, self.maker = program, files, room, maker
         apart = [tile for tile in range(7 * 7) if tile % 7 % 2 or tile // 7 % 2]
-        self.whole = Sheet(World(8, 8, 64, 64))
+        self.whole = Sheet(World(MOST_ACROSS, MOST_ACROSS, MOST_SIDE, MOST_SIDE))
         self.apart = Sheet(World(7, 7, 4 * REACH + BOX, 4 * REACH + BOX, version=2, off=apart))
         self.own = Sheet(replace(maker.world, seed=None, attempts=None, tries=[]))
         self.texts: dict[int, str] = {}

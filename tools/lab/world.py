@@ -7,11 +7,10 @@ from typing import NoReturn
 
 from lab.errors import LabError
 from lab.files import read_byte_text
+from lab.limits import LEAST_SIDE, LONGEST_NAME, MOST_ACROSS, MOST_ATTEMPTS, MOST_SIDE, STATE_BITS
 
-NAME = r"[A-Z][A-Za-z0-9_]{0,254}"
+NAME = rf"[A-Z][A-Za-z0-9_]{{0,{LONGEST_NAME - 1}}}"
 NUMBER = r"(?:0|[1-9][0-9]{0,19})"
-STATE_BITS = 71
-MOST_ATTEMPTS = 1_000_000
 FORMS = {word: re.compile(form) for word, form in {
     "feast": "feast ([12])",
     "tiles": f"tiles ({NUMBER}) ({NUMBER})",
@@ -178,9 +177,9 @@ class Reader:
         if word == "feast":
             world.version = int(match[1])
         elif word == "tiles":
-            world.tiles_x, world.tiles_y = self.within(match[1], 1, 8), self.within(match[2], 1, 8)
+            world.tiles_x, world.tiles_y = (self.within(match[at], 1, MOST_ACROSS) for at in (1, 2))
         elif word == "size":
-            world.width, world.height = self.within(match[1], 8, 64), self.within(match[2], 8, 64)
+            world.width, world.height = (self.within(match[at], LEAST_SIDE, MOST_SIDE) for at in (1, 2))
         elif word == "off":
             world.off.append(self.within(match[1], world.off[-1] + 1 if world.off else 0, world.tiles - 1))
         elif word == "seed":

@@ -6,7 +6,7 @@ use Rattle.feast_base.specs.Outside.{File}
 use Rattle.ulam_tree.specs.Typed as t
 use Rattle.ulam_names.specs.ClassRelation.{IsResolved}
 use Rattle.element_set.specs.Sets.{AcceptsFiles, SetValue}
-use Rattle.element_set.specs.Stages.{Tree, Trees, tree_of, more_trees, no_trees, with_tree, flat_set, named_set, laid_set, typed_set, coded}
+use Rattle.element_set.specs.Stages.{Tree, Trees, tree_of, more_trees, no_trees, with_tree, flat_set, named_set, laid_set, typed_set, limit_stage}
 use Rattle.accepted_laws.specs.Accepted.{HaveTrees}
 
 -- as many heads as files
@@ -24,7 +24,7 @@ have_trees files set h =
     let flat = went _ named_set set trees.rest in
     let named = went _ laid_set set flat.rest in
     let laid = went _ (typed_set named.value) set named.rest in
-    let typed = went _ (λ (us : List t.Class). coded (record { classes = us; layout = laid.value })) set laid.rest in (
+    let typed = went _ (λ (us : List t.Class). limit_stage (record { classes = us; layout = laid.value })) set laid.rest in (
       record {
         files = trees.value.files;
         heads = trees.value.heads;

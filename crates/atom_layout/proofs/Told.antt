@@ -14,27 +14,27 @@ use Rattle.ulam_tree.specs.ResolvedViews.{resolved_class}
 use Rattle.ulam_tree.specs.Resolved.{Class, Member, field, function}
 use Rattle.atom_layout.specs.declared.fault.LayoutFault.{LayoutFault}
 use Rattle.atom_layout.specs.declared.fault.LayoutFault.TheVariants as f
-use Rattle.atom_layout.specs.Layouts.{told, times, member_bits, widths, bits_within, class_bits, total, fault_by, fault_in, first_of}
+use Rattle.atom_layout.specs.Layouts.{capped_bits, times, member_bits, widths, bits_within, class_bits, total, fault_by, fault_in, first_of}
 use Rattle.atom_layout.specs.Rows.{in_row, class_row, row_after, narrow, rows_of}
 
 pub sum-cons : (x : ℕ) (xs : List ℕ) → sum (x ∷ xs) ≡ x + sum xs
 sum-cons x xs = sum_by-cons (λ z. z) x xs
 
-pub told_twice : (a : ℕ) → told (told a) ≡ told a
+pub told_twice : (a : ℕ) → capped_bits (capped_bits a) ≡ capped_bits a
 told_twice a = omega arith
 
-pub told_sum : (a b c d : ℕ) → told a ≡ told c → told b ≡ told d → told (a + b) ≡ told (c + d)
+pub told_sum : (a b c d : ℕ) → capped_bits a ≡ capped_bits c → capped_bits b ≡ capped_bits d → capped_bits (a + b) ≡ capped_bits (c + d)
 told_sum a b c d h k = omega arith
 
-pub told_times : (a k : ℕ) → 0 < k → told (told a * k) ≡ told (a * k)
+pub told_times : (a k : ℕ) → 0 < k → capped_bits (capped_bits a * k) ≡ capped_bits (a * k)
 told_times a k h = go (cases_lt a (2 ^ 64))
   where
-    go : (a < 2 ^ 64) ⊎ (2 ^ 64 ≤ a) → told (told a * k) ≡ told (a * k)
-    go (inl few) = let e : told a ≡ a = omega arith in ap (λ z. told (z * k)) e
+    go : (a < 2 ^ 64) ⊎ (2 ^ 64 ≤ a) → capped_bits (capped_bits a * k) ≡ capped_bits (a * k)
+    go (inl few) = let e : capped_bits a ≡ a = omega arith in ap (λ z. capped_bits (z * k)) e
     go (inr more) =
-        let e : told a ≡ 18446744073709551615 = omega arith in
+        let e : capped_bits a ≡ 18446744073709551615 = omega arith in
         let up : a ≤ a * k = le-mul_of_pos_right a h in
-        ap (λ z. told (z * k)) e ∙ omega arith
+        ap (λ z. capped_bits (z * k)) e ∙ omega arith
 
 times_some : (len : ℕ) → 0 < times len
 times_some zero = omega arith
@@ -45,28 +45,28 @@ times_is zero h = absurd (omega arith)
 times_is (suc n) h = refl
 
 -- Rows in which the bits of classes are told give the same bits told.
-module _ (row quark : ℕ → ℕ) (same : (k : ℕ) → row k ≡ told (quark k)) where
-  told_member : (ty : Ty) (len : ℕ) → told (member_bits row ty len) ≡ told (member_bits quark ty len)
+module _ (row quark : ℕ → ℕ) (same : (k : ℕ) → row k ≡ capped_bits (quark k)) where
+  told_member : (ty : Ty) (len : ℕ) → capped_bits (member_bits row ty len) ≡ capped_bits (member_bits quark ty len)
   told_member (y.Num t) len = refl
   told_member y.Atom len = refl
   told_member y.Empty len = refl
   told_member y.Nothing len = refl
   told_member y.Window len = refl
   told_member y.Random len = refl
-  told_member (y.Class k) len = ap (λ z. told (z * times len)) (same k) ∙ told_times (quark k) (times len) (times_some len)
+  told_member (y.Class k) len = ap (λ z. capped_bits (z * times len)) (same k) ∙ told_times (quark k) (times len) (times_some len)
 
-  pub told_widths : (ms : List Member) → told (sum (widths row ms)) ≡ told (sum (widths quark ms))
+  pub told_widths : (ms : List Member) → capped_bits (sum (widths row ms)) ≡ capped_bits (sum (widths quark ms))
   told_widths [] = refl
   told_widths (field n w len ∷ ms) =
-      ap told (sum-cons (member_bits row n.ty len) (widths row ms))
+      ap capped_bits (sum-cons (member_bits row n.ty len) (widths row ms))
       ∙ told_sum (member_bits row n.ty len) (sum (widths row ms)) (member_bits quark n.ty len) (sum (widths quark ms)) (told_member n.ty len) (told_widths ms)
-      ∙ ap told (sym (sum-cons (member_bits quark n.ty len) (widths quark ms)))
+      ∙ ap capped_bits (sym (sum-cons (member_bits quark n.ty len) (widths quark ms)))
   told_widths (function n w ps b ∷ ms) = told_widths ms
 
   pub narrow_widths : (ms : List Member) → map narrow (widths row ms) ≡ map narrow (widths quark ms)
   narrow_widths [] = refl
   narrow_widths (field n w len ∷ ms) =
-      let e : told (member_bits row n.ty len) ≡ told (member_bits quark n.ty len) = told_member n.ty len in
+      let e : capped_bits (member_bits row n.ty len) ≡ capped_bits (member_bits quark n.ty len) = told_member n.ty len in
       let one : narrow (member_bits row n.ty len) ≡ narrow (member_bits quark n.ty len) = omega arith in
       (λ i. one i ∷ narrow_widths ms i)
   narrow_widths (function n w ps b ∷ ms) = narrow_widths ms
@@ -85,7 +85,7 @@ mapped h (c ∷ cs) zero = refl
 mapped h (c ∷ cs) (suc k) = mapped h cs k
 
 -- the rows have what the classes take within as many steps
-pub row_is : (m : ℕ) (cs : List Class) (k : ℕ) → in_row (row_after m cs) k ≡ told (bits_within m cs k)
+pub row_is : (m : ℕ) (cs : List Class) (k : ℕ) → in_row (row_after m cs) k ≡ capped_bits (bits_within m cs k)
 unfolding row_after bits_within
 row_is zero cs k = mapped (λ c. zero) cs k ∙ none (slice_get cs k)
   where
@@ -94,28 +94,28 @@ row_is zero cs k = mapped (λ c. zero) cs k ∙ none (slice_get cs k)
     none (Some c) = refl
 row_is (suc m) cs k = mapped (class_row (row_after m cs)) cs k ∙ by (row_is m cs) (slice_get cs k)
   where
-    by : ((j : ℕ) → in_row (row_after m cs) j ≡ told (bits_within m cs j)) → (x : Option Class) → option_map_or (class_row (row_after m cs)) x 0 ≡ told (option_map_or (λ (c : Class). sum (widths (bits_within m cs) c.members)) x 0)
+    by : ((j : ℕ) → in_row (row_after m cs) j ≡ capped_bits (bits_within m cs j)) → (x : Option Class) → option_map_or (class_row (row_after m cs)) x 0 ≡ capped_bits (option_map_or (λ (c : Class). sum (widths (bits_within m cs) c.members)) x 0)
     by h None = refl
     by h (Some c) = told_widths (in_row (row_after m cs)) (bits_within m cs) h c.members
 
-pub total_told : (cs : List Class) (c : Class) → class_row (row_after (length cs) cs) c ≡ told (total cs c)
+pub total_told : (cs : List Class) (c : Class) → class_row (row_after (length cs) cs) c ≡ capped_bits (total cs c)
 total_told cs c = told_widths (in_row (row_after (length cs) cs)) (class_bits cs) (row_is (length cs) cs) c.members
 
-wider : (m n : ℕ) → m < 100 → nat_lt m (told n) ≡ nat_lt m n
+wider : (m n : ℕ) → m < 100 → nat_lt m (capped_bits n) ≡ nat_lt m n
 wider m n h = go (cases_lt m n)
   where
-    go : (m < n) ⊎ (n ≤ m) → nat_lt m (told n) ≡ nat_lt m n
-    go (inl lt) = lt-ltb m (told n) (omega arith) ∙ sym (lt-ltb m n lt)
-    go (inr le) = le-ltb m (told n) (omega arith) ∙ sym (le-ltb m n le)
+    go : (m < n) ⊎ (n ≤ m) → nat_lt m (capped_bits n) ≡ nat_lt m n
+    go (inl lt) = lt-ltb m (capped_bits n) (omega arith) ∙ sym (lt-ltb m n lt)
+    go (inr le) = le-ltb m (capped_bits n) (omega arith) ∙ sym (le-ltb m n le)
 
 -- the fault of a class by the number that is told
-pub fault_told : (n : ℕ) (c : Class) → fault_by (told n) c ≡ fault_by n c
+pub fault_told : (n : ℕ) (c : Class) → fault_by (capped_bits n) c ≡ fault_by n c
 fault_told n c = rw (wider 32 n (omega arith), wider 71 n (omega arith), told_twice n) refl
 
 pub narrow_by : (n : ℕ) (c : Class) → fault_by n c ≡ None → n ≤ 71
 narrow_by n c h = go (cases_lt 71 n)
   where
-    wide : (q : Bool) (p : Place) → 71 < n → (if q then (if nat_lt 32 n then Some (f.QuarkTooWide p (told n)) else None) else (if nat_lt 71 n then Some (f.ElementTooWide p (told n)) else None)) ≡ None → ⊥
+    wide : (q : Bool) (p : Place) → 71 < n → (if q then (if nat_lt 32 n then Some (f.QuarkTooWide p (capped_bits n)) else None) else (if nat_lt 71 n then Some (f.ElementTooWide p (capped_bits n)) else None)) ≡ None → ⊥
     wide true p lt h = let e : nat_lt 32 n ≡ true = lt-ltb 32 n (omega arith) in cc (rw e at h)
     wide false p lt h = let e : nat_lt 71 n ≡ true = lt-ltb 71 n lt in cc (rw e at h)
 

@@ -6,6 +6,7 @@ use Rattle.ulam_tree.specs.declared.resolved.Ty.TheVariants as y
 use Rattle.ulam_tree.specs.Resolved.{Class, Member, field, function}
 use Rattle.atom_layout.specs.declared.fault.LayoutFault.{LayoutFault}
 use Rattle.atom_layout.specs.declared.fault.LayoutFault.TheVariants as f
+use Rattle.bit_field.specs.declared.TheConstants.{STATE_BITS}
 
 -- the bits of a type, where `quark` has the bits of each class
 abbrev pub type_bits : (ℕ → ℕ) → Ty → ℕ
@@ -58,15 +59,15 @@ abbrev pub first_bit : List (List ℕ) → ℕ → ℕ → ℕ
 first_bit l k i = sum (take i (class_at l k))
 
 -- the number of bits that a fault tells
-abbrev pub told : ℕ → ℕ
-told n = min n (2 ^ 64 - 1)
+abbrev pub capped_bits : ℕ → ℕ
+capped_bits n = min n (2 ^ 64 - 1)
 
 -- the fault of a class of n bits, if these are too many
 abbrev pub fault_by : ℕ → Class → Option LayoutFault
 fault_by n c =
     if c.quark
-    then (if nat_lt 32 n then Some (f.QuarkTooWide c.word.place (told n)) else None)
-    else (if nat_lt 71 n then Some (f.ElementTooWide c.word.place (told n)) else None)
+    then (if nat_lt 32 n then Some (f.QuarkTooWide c.word.place (capped_bits n)) else None)
+    else (if nat_lt STATE_BITS n then Some (f.ElementTooWide c.word.place (capped_bits n)) else None)
 
 abbrev pub fault_in : List Class → Class → Option LayoutFault
 fault_in cs c = fault_by (total cs c) c

@@ -1,13 +1,14 @@
 //! The bits of classes, computed in rounds over all of them.
 ghost use Rattle.std.specs.Prelude.{◌≡◌, ◌≢◌, map, length, IfOk, IfErr, None, Some};
 ghost use Rattle.ulam_tree.specs.ResolvedViews.{resolved_class, resolved_program};
-ghost use Rattle.atom_layout.specs.Layouts.{member_bits, widths, told, layout_of, first_wide};
+ghost use Rattle.atom_layout.specs.Layouts.{member_bits, widths, capped_bits, layout_of, first_wide};
 ghost use Rattle.atom_layout.specs.declared.fault.LayoutFault.TheVariants.{NoMemory};
 ghost use Rattle.atom_layout.specs.Rows.{in_row, class_row, row_after, narrow};
 ghost use Rattle.atom_layout.specs.Layouts as spec;
 
 use crate::fault::LayoutFault;
 use crate::table::Layout;
+use bit_field::STATE_BITS;
 use std::alloc::Global;
 use ulam_tree::resolved::{Class, Member, Program, Ty};
 
@@ -27,7 +28,7 @@ fn type_bits(row: &[u64], ty: Ty) -> u64
 
 /// The bits of a data member.
 fn field_bits(row: &[u64], ty: Ty, length: u32) -> u64
-    ensures { result ≡ told (member_bits (in_row row.now) ty length) }
+    ensures { result ≡ capped_bits (member_bits (in_row row.now) ty length) }
 {
     let bits = type_bits(row, ty);
     if length == 0 {
@@ -96,13 +97,13 @@ fn too_wide(row: &[u64], class: &Class) -> Option<LayoutFault>
         if bits > 32 {
             return Some(LayoutFault::QuarkTooWide(place, bits));
         }
-    } else if bits > 71 {
+    } else if bits > u64::from(STATE_BITS) {
         return Some(LayoutFault::ElementTooWide(place, bits));
     }
     None
 }
 
-/// The bits of the data members of a class, each 71 at most.
+/// The bits of the data members of a class, each at most as many as a state has.
 fn class_widths(alloc: Global, row: &[u64], class: &Class) -> Result<Vec<u32>, LayoutFault>
     ensures row { IfOk result (λ r. r.items ≡ map narrow (widths (in_row row.now) (resolved_class class.now).members)) }
     ensures memory { IfErr result (λ e. e ≡ NoMemory) }
@@ -110,7 +111,7 @@ fn class_widths(alloc: Global, row: &[u64], class: &Class) -> Result<Vec<u32>, L
     let mut bits = Vec::new(alloc);
     for member in &class.members {
         if let Member::Field { of, length, .. } = member {
-            let width = field_bits(row, of.ty, *length).min(71);
+            let width = field_bits(row, of.ty, *length).min(u64::from(STATE_BITS));
             bits.push(width as u32)?;
         }
     }

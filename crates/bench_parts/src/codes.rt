@@ -114,7 +114,7 @@ fn calls(alloc: Global) -> Result<Option<Code>, NoMemory> {
 }
 
 /// The code to run. None if it is not valid.
-pub fn made(alloc: Global, which: Which) -> Result<Option<Code>, NoMemory> {
+pub fn code_of(alloc: Global, which: Which) -> Result<Option<Code>, NoMemory> {
     match which {
         Which::End => alone(alloc, &[ReturnVoid]),
         Which::Row => row(alloc),

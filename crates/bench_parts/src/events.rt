@@ -24,7 +24,7 @@ const EVENTS: u32 = 1_000_000;
 const PART: usize = 20_000;
 
 /// A grid in which one site in `every` has an atom.
-fn filled(alloc: Global, every: u32) -> Result<Grid, NoMemory>
+fn grid_with_atoms(alloc: Global, every: u32) -> Result<Grid, NoMemory>
     requires { 1 ≤ every }
 {
     let mut grid = Grid::new(alloc, SIDE, SIDE)?;
@@ -38,7 +38,7 @@ fn filled(alloc: Global, every: u32) -> Result<Grid, NoMemory>
 }
 
 /// The attempts. Their centres lie in a square of `side` columns and rows.
-fn drawn(alloc: Global, side: u32) -> Result<Vec<Attempt>, NoMemory>
+fn draw_attempts(alloc: Global, side: u32) -> Result<Vec<Attempt>, NoMemory>
     requires some { 1 ≤ side }
     requires most { side ≤ 64 }
 {
@@ -110,10 +110,10 @@ fn measure(rt: &HostRuntime, every: u32, side: u32, timed: bool) -> io::Result<(
     requires most { side ≤ 64 }
 {
     let room = io::ErrorKind::OutOfMemory;
-    let Ok(attempts) = drawn(rt.alloc(), side) else {
+    let Ok(attempts) = draw_attempts(rt.alloc(), side) else {
         return Err(room.into());
     };
-    let Ok(mut grid) = filled(rt.alloc(), every) else {
+    let Ok(mut grid) = grid_with_atoms(rt.alloc(), every) else {
         return Err(room.into());
     };
     make(&mut grid, attempts.as_slice(), side);

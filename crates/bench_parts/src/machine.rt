@@ -1,6 +1,6 @@
 //! A bench of the machine: many events of some codes, each on a fresh window.
 
-use crate::codes::{Which, made};
+use crate::codes::{Which, code_of};
 use bit_field::Atom;
 use event_machine::{CountLedger, Machine, NoLedger, Steps};
 use stack_code::Code;
@@ -65,8 +65,8 @@ fn picoseconds(clock: &impl Clock, machine: &mut Machine, code: &Code) -> io::Re
 }
 
 /// The code to run, or an error if memory ran out or the code is not valid.
-fn loaded(alloc: Global, which: Which) -> io::Result<Code> {
-    match made(alloc, which) {
+fn code_or_error(alloc: Global, which: Which) -> io::Result<Code> {
+    match code_of(alloc, which) {
         Ok(Some(code)) => Ok(code),
         Ok(None) => Err(io::ErrorKind::InvalidData.into()),
         Err(_) => Err(io::ErrorKind::OutOfMemory.into()),
@@ -109,7 +109,7 @@ pub fn run(rt: &HostRuntime, word: Option<&str>) -> io::Result<()> {
         return Err(io::ErrorKind::OutOfMemory.into());
     };
     for (name, which) in CODES {
-        let code = loaded(rt.alloc(), which)?;
+        let code = code_or_error(rt.alloc(), which)?;
         run_code(rt, &mut machine, name, &code, word)?;
     }
     Ok(())

@@ -6,12 +6,13 @@
 
 ghost use Rattle.std.specs.Prelude.{◌≡◌, ◌+◌, ◌*◌, ◌^◌, ◌<◌, ◌≤◌};
 ghost use Rattle.bit_field.specs.Atom.{AtomValue, IsAtom, field, bits_of, SameOutside, LeavesGap};
-ghost use Rattle.bit_field.specs.Words.{AreWordsOf, atom_of, replaced, with_field};
+ghost use Rattle.bit_field.specs.Words.{AreWordsOf, atom_of, with_bits, with_field};
+ghost use Rattle.bit_field.specs.declared.TheConstants.{STATE_BITS};
 
 use std::marker::Model;
 
 /// How many bits a state has.
-const STATE_BITS: u32 = 71;
+pub const STATE_BITS: u32 = 71;
 
 /// An atom: a type number and a state. It takes 16 bytes.
 #[derive(Clone, Copy, Debug, PartialEq, Eq)]
@@ -42,12 +43,12 @@ impl Model for Atom {
 impl Atom {
     /// The atom of a type and a state. The state is below 2^71.
     pub fn new(kind: u16, state: u128) -> Atom
-        requires { state < 2 ^ 71 }
+        requires { state < 2 ^ STATE_BITS }
         ensures { result ≡ record { kind = kind; state = state } }
     {
         Atom {
             low: (state % (1u128 << 64)) as u64,
-            high: u32::from(kind) * 65536 + (state >> 64) as u32,
+            high: u32::from(kind) * (1 << 16) + (state >> 64) as u32,
         }
     }
 
@@ -55,15 +56,15 @@ impl Atom {
     pub fn kind(&self) -> u16
         ensures { result ≡ self.now.kind }
     {
-        (self.high / 65536) as u16
+        (self.high / (1 << 16)) as u16
     }
 
     /// The state, below 2^71.
     pub fn state(&self) -> u128
         ensures value { result ≡ self.now.state }
-        ensures bound { result < 2 ^ 71 }
+        ensures bound { result < 2 ^ STATE_BITS }
     {
-        u128::from(self.high % 65536) * (1u128 << 64) + u128::from(self.low)
+        u128::from(self.high % (1 << 16)) * (1u128 << 64) + u128::from(self.low)
     }
 
     /// The field of `width` bits from bit `first` of the state on. It has 1 to 64 bits and ends
@@ -71,7 +72,7 @@ impl Atom {
     pub fn get(&self, first: u32, width: u32) -> u64
         requires some { 1 ≤ width }
         requires fits { width ≤ 64 }
-        requires within { first + width ≤ 71 }
+        requires within { first + width ≤ STATE_BITS }
         ensures value { result ≡ field self.now first width }
         ensures bound { result < 2 ^ width }
     {
@@ -84,7 +85,7 @@ impl Atom {
     pub fn set(&mut self, first: u32, width: u32, value: u64)
         requires some { 1 ≤ width }
         requires fits { width ≤ 64 }
-        requires within { first + width ≤ 71 }
+        requires within { first + width ≤ STATE_BITS }
         requires small { value < 2 ^ width }
         ensures same { field self.new first width ≡ value }
         ensures others { SameOutside self.old self.new first width }
@@ -118,11 +119,11 @@ impl Atom {
 
 /// The number with the `width` bits above its low `shift` ones replaced.
 fn replace_bits(state: u128, shift: u32, width: u32, value: u64) -> u128
-    requires bound { state < 2 ^ 71 }
-    requires within { shift + width ≤ 71 }
+    requires bound { state < 2 ^ STATE_BITS }
+    requires within { shift + width ≤ STATE_BITS }
     requires small { value < 2 ^ width }
-    ensures value { result ≡ replaced state shift width value }
-    ensures below { result < 2 ^ 71 }
+    ensures value { result ≡ with_bits state shift width value }
+    ensures below { result < 2 ^ STATE_BITS }
 {
     let high = state >> shift >> width;
     let low = state % (1u128 << shift);

@@ -5,7 +5,7 @@ use Rattle.std.specs.Int.RustNames.{unsigned_abs}
 use Rattle.std.proofs.lemmas.Bool.Decides.{nat_tests}
 use Rattle.list_laws.specs.Options.{or_zero}
 use Rattle.list_laws.proofs.Tests.{both, together}
-use Rattle.window_sites.specs.Sites.{sites, offset_of, shifted}
+use Rattle.window_sites.specs.Sites.{sites, offset_of, shift}
 use Rattle.window_sites.specs.Inner.{from_low}
 use Rattle.window_sites.proofs.Offsets.{offset-near}
 use Rattle.tile_map.specs.Plane.{Site, MapValue, IsMap, site, is_on, is_live}
@@ -24,7 +24,7 @@ pub record IsSiteAt (m : MapValue) (c : Site) (n : ℕ) (s : Site) : Type 0 wher
   pub column : s.x + 4 ≡ c.x + from_low (offset_of n).0
   pub row : s.y + 4 ≡ c.y + from_low (offset_of n).1
 
-moved_by : (x u : ℕ) (d : ℤ) → unsigned_abs d ≤ 4 → shifted x d ≡ Some u → u + 4 ≡ x + from_low d
+moved_by : (x u : ℕ) (d : ℤ) → unsigned_abs d ≤ 4 → shift x d ≡ Some u → u + 4 ≡ x + from_low d
 moved_by x u (pos d) near h = let p : x + d ≡ u = ap or_zero h in omega (arith, p)
 moved_by x u (negsuc d) near h = go (nat_lt d x) refl h
   where
@@ -34,12 +34,12 @@ moved_by x u (negsuc d) near h = go (nat_lt d x) refl h
 
 -- the sites of a whole window
 pub whole_site : (m : MapValue) (c : Site) (n : ℕ) → n < 41 → is_shown m c n ≡ true → (s : Site) × IsSiteAt m c n s
-whole_site m c n lt shown = go (shifted c.x (offset_of n).0) (shifted c.y (offset_of n).1) refl refl shown
+whole_site m c n lt shown = go (shift c.x (offset_of n).0) (shift c.y (offset_of n).1) refl refl shown
   where
     near : (unsigned_abs (offset_of n).0 ≤ 4) × (unsigned_abs (offset_of n).1 ≤ 4)
     near = let o = offset-near n (omega (arith, lt)) in (omega (arith, o), omega (arith, o))
 
-    at : (u v : ℕ) (b : Bool) → is_live m (site u v) ≡ b → shifted c.x (offset_of n).0 ≡ Some u → shifted c.y (offset_of n).1 ≡ Some v → is_some (if b then Some (site u v) else None) ≡ true → (s : Site) × IsSiteAt m c n s
+    at : (u v : ℕ) (b : Bool) → is_live m (site u v) ≡ b → shift c.x (offset_of n).0 ≡ Some u → shift c.y (offset_of n).1 ≡ Some v → is_some (if b then Some (site u v) else None) ≡ true → (s : Site) × IsSiteAt m c n s
     at u v true live x y h = (
       site u v,
       record {
@@ -50,7 +50,7 @@ whole_site m c n lt shown = go (shifted c.x (offset_of n).0) (shifted c.y (offse
     )
     at u v false live x y h = absurd (true≢false (sym h))
 
-    go : (a b : Option ℕ) → shifted c.x (offset_of n).0 ≡ a → shifted c.y (offset_of n).1 ≡ b → is_some (live_site m a b) ≡ true → (s : Site) × IsSiteAt m c n s
+    go : (a b : Option ℕ) → shift c.x (offset_of n).0 ≡ a → shift c.y (offset_of n).1 ≡ b → is_some (live_site m a b) ≡ true → (s : Site) × IsSiteAt m c n s
     go None b x y h = absurd (true≢false (sym h))
     go (Some u) None x y h = absurd (true≢false (sym h))
     go (Some u) (Some v) x y h = at u v (is_live m (site u v)) refl x y h

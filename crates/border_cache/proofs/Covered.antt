@@ -6,13 +6,13 @@ use Rattle.std.proofs.lemmas.Bool.Decides.{nat_tests}
 use Rattle.std.proofs.lemmas.List.Quantifiers.{position-Some}
 use Rattle.std.proofs.lemmas.Option.{slice_get-get_or, slice_get_within}
 use Rattle.list_laws.specs.Options.{or_zero}
-use Rattle.window_sites.specs.Sites.{offset_of, shifted}
+use Rattle.window_sites.specs.Sites.{offset_of, shift}
 use Rattle.tile_map.specs.Plane.{Site, MapValue, site, is_live, in_window}
 use Rattle.tile_map.specs.Edges.{pairs_of, low_end, live_site, window_site, shared_of, register_of}
 use Rattle.tile_map.specs.Laws.{IsPlane}
 use Rattle.tile_map.specs.declared.span.Area.{Area}
 use Rattle.tile_map.specs.Spans.{place_within}
-use Rattle.tile_map.specs.Tables.{sites_in, number_of}
+use Rattle.tile_map.specs.Tables.{sites_in, site_number}
 use Rattle.tile_map.proofs.Areas.{area_number}
 use Rattle.tile_map.proofs.Registers.{number_place}
 use Rattle.tile_map.proofs.Spans.{held_parts}
@@ -49,7 +49,7 @@ in_covered m p c e k lt w =
     (n.0, omega (arith, n.1), ap (edge_place_some m e) n.2 ∙ shared_number m p e k w.0 lt w.1)
 
 -- a site that an edge shares is live, so that its place needs no other test
-pub shared_place : (m : MapValue) → IsPlane m → (c : Site) (e n u v r : ℕ) → shifted c.x (offset_of n).0 ≡ Some u → shifted c.y (offset_of n).1 ≡ Some v → register_of m e (site u v) ≡ Some r → Some ((r - 1) / 2) ≡ place_in m c e n
+pub shared_place : (m : MapValue) → IsPlane m → (c : Site) (e n u v r : ℕ) → shift c.x (offset_of n).0 ≡ Some u → shift c.y (offset_of n).1 ≡ Some v → register_of m e (site u v) ≡ Some r → Some ((r - 1) / 2) ≡ place_in m c e n
 shared_place m p c e n u v r x y h =
     let s = site u v in
     let shared = p.registers.shared e r s h in
@@ -62,13 +62,13 @@ shared_place m p c e n u v r x y h =
 
 -- where the sites that an edge shares are an area, a place follows from the coordinates
 pub whole_place : (m : MapValue) → IsPlane m → (a : Area) (c : Site) (e n : ℕ) → shared_of m e ≡ sites_in a → place_at a c n ≡ place_in m c e n
-whole_place m p a c e n same = go (shifted c.x (offset_of n).0) (shifted c.y (offset_of n).1)
+whole_place m p a c e n same = go (shift c.x (offset_of n).0) (shift c.y (offset_of n).1)
   where
     within : ℕ → ℕ → Option ℕ
     within u v = place_within a.columns.first a.columns.end a.rows.first a.rows.end u v
 
     number : (u v : ℕ) → edge_place m e (site u v) ≡ within u v
-    number u v = ap (λ ss. number_of ss (site u v)) same ∙ area_number a u v
+    number u v = ap (λ ss. site_number ss (site u v)) same ∙ area_number a u v
 
     off : (u v : ℕ) → is_live m (site u v) ≡ false → (o : Option ℕ) → within u v ≡ o → o ≡ None
     off u v dead None is = refl

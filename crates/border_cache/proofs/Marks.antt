@@ -14,7 +14,7 @@ use Rattle.edge_lock.specs.declared.history.Access.TheVariants.{Read, Write}
 use Rattle.edge_lock.specs.History.{found_value}
 use Rattle.edge_lock.specs.EndLists.{writes_nothing}
 use Rattle.border_cache.specs.Accesses.{last_write, is_read, reads_nothing}
-use Rattle.border_cache.specs.News.{Border, Covers, AreMasks, word_of, border}
+use Rattle.border_cache.specs.News.{WindowBorder, Covers, AreMasks, word_of, border}
 use Rattle.border_cache.specs.Published.{IsWithMask, IsWordMarked, IsWordPut, AreBitsPut}
 
 pub last_write-append : (xs ys : List Access) (r : ℕ) (o : Option ℕ) → last_write (xs ++ ys) r o ≡ last_write ys r (last_write xs r o)
@@ -157,7 +157,7 @@ zero_or_one : (n : ℕ) → n < 2 → n ≢ 1 → n ≡ 0
 zero_or_one n lt ne = omega (arith, lt, ne)
 
 -- the news words below word j, marked, and no other read or written
-pub record MarksBelow (b : Border) (bit : Bool) (j : ℕ) (xs : List Access) : Type 0 where
+pub record MarksBelow (b : WindowBorder) (bit : Bool) (j : ℕ) (xs : List Access) : Type 0 where
   pub words : (k : ℕ) → Covers b.places b.count k → k / 64 < j → IsWordMarked b bit xs (k / 64)
   pub only_read : (r : ℕ) → is_read xs r ≡ true → (k : ℕ) × Covers b.places b.count k × (k / 64 < j) × (r ≡ word_of b.sites b.end k)
   pub only_written : (r v : ℕ) → last_write xs r None ≡ Some v → (k : ℕ) × Covers b.places b.count k × (k / 64 < j) × (r ≡ word_of b.sites b.end k)
@@ -173,7 +173,7 @@ bits_begin sites end bit masks places n a = record {
   only_written = λ r v g. absurd (none-some v g);
 }
 
-module _ (b : Border) (bit : Bool) (masks : List ℕ) (j : ℕ) (xs : List Access) (is : AreMasks b.places b.count masks) (m : MarksBelow b bit j xs) where
+module _ (b : WindowBorder) (bit : Bool) (masks : List ℕ) (j : ℕ) (xs : List Access) (is : AreMasks b.places b.count masks) (m : MarksBelow b bit j xs) where
   abbrev IsIn : ℕ → Type 0
   IsIn k = Covers b.places b.count k
 

@@ -15,7 +15,7 @@ use Rattle.edge_lock.specs.declared.history.Access.{Access}
 use Rattle.edge_lock.specs.declared.history.Access.TheVariants.{Read}
 use Rattle.edge_lock.specs.History.{found_value}
 use Rattle.edge_lock.specs.EndLists.{writes_nothing}
-use Rattle.border_cache.specs.News.{Border, Covers, bit_in, AreMasks, Finds, AreNewsRead, IsWordRead, word_of, has_bit, is_news, border}
+use Rattle.border_cache.specs.News.{WindowBorder, Covers, bit_in, AreMasks, Finds, AreNewsRead, IsWordRead, word_of, has_bit, is_news, border}
 use Rattle.border_cache.proofs.Found.{found_new, silent_both}
 
 pub covers_more : (places : ℕ → Option ℕ) (n k : ℕ) → Covers places n k → Covers places (n + 1) k
@@ -28,7 +28,7 @@ pub news_same : (sites end : ℕ) (xs ys : List Access) (k v : ℕ) → found_va
 news_same sites end xs ys k v is = ap (λ o. has_bit o k) (found_stays xs ys (word_of sites end k) v is ∙ sym is)
 
 -- the news words below word j, read, and nothing else
-pub record NewsBelow (b : Border) (j : ℕ) (news : List ℕ) (xs : List Access) : Type 0 where
+pub record NewsBelow (b : WindowBorder) (j : ℕ) (news : List ℕ) (xs : List Access) : Type 0 where
   pub silent : writes_nothing xs ≡ true
   pub words : (k : ℕ) → Covers b.places b.count k → k / 64 < j → Finds xs (word_of b.sites b.end k)
   pub bits : (k : ℕ) → Covers b.places b.count k → k / 64 < j → is_news b.sites b.end xs k ≡ (bit_in news k == 1)
@@ -52,7 +52,7 @@ same_word sites end i j h = omega (arith, h)
 bit_of_both : (w m i : ℕ) → bit_at m i ≡ 1 → bit_at (bit_and w m) i ≡ bit_at w i
 bit_of_both w m i h = let low = bit_at-lt w i in omega (arith, bit_at_and w m i, h, low)
 
-module _ (b : Border) (masks : List ℕ) (j : ℕ) (old : List ℕ) (value : ℕ) (xs : List Access) (is : AreMasks b.places b.count masks) (inside : j < length old) (m : NewsBelow b j old xs) where
+module _ (b : WindowBorder) (masks : List ℕ) (j : ℕ) (old : List ℕ) (value : ℕ) (xs : List Access) (is : AreMasks b.places b.count masks) (inside : j < length old) (m : NewsBelow b j old xs) where
   abbrev IsIn : ℕ → Type 0
   IsIn k = Covers b.places b.count k
 

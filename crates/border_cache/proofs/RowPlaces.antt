@@ -6,7 +6,7 @@ use Rattle.std.proofs.lemmas.Nat.Bits.{bit_at-zero}
 use Rattle.std.proofs.lemmas.Option.{none-some, slice_get_within}
 use Rattle.list_laws.specs.Options.{or_zero}
 use Rattle.list_laws.proofs.Numbers.{less_or_same}
-use Rattle.window_sites.specs.Sites.{distance, offset_of, shifted}
+use Rattle.window_sites.specs.Sites.{distance, offset_of, shift}
 use Rattle.window_sites.proofs.Offsets.{offset-near, offset-found}
 use Rattle.tile_map.specs.declared.span.Area.{Area}
 use Rattle.tile_map.proofs.Numbers.{within_facts, within_test}
@@ -83,7 +83,7 @@ rows_more a c j old new r s = record {
 -- the places of a window are those that are near
 module _ (a : Area) (c : Site) where
   pub place_near : (n k : ℕ) → n < 41 → place_at a c n ≡ Some k → (u : ℕ) × (v : ℕ) × IsNear a c k u v
-  place_near n k lt h = go (shifted c.x (offset_of n).0) refl (shifted c.y (offset_of n).1) refl h
+  place_near n k lt h = go (shift c.x (offset_of n).0) refl (shift c.y (offset_of n).1) refl h
     where
       at : (u v : ℕ) → apart c.x u + apart c.y v ≤ 4 → (b : Bool) → is_within a.columns.first a.columns.end a.rows.first a.rows.end u v ≡ b
           → (if b then Some ((v - a.rows.first) * (a.columns.end - a.columns.first) + (u - a.columns.first)) else None) ≡ Some k → (u : ℕ) × (v : ℕ) × IsNear a c k u v
@@ -92,7 +92,7 @@ module _ (a : Area) (c : Site) where
           (u, v, record { west = p.0; east = p.1; north = p.2; south = p.3; place = sym (ap or_zero e); close = close })
       at u v close false is e = absurd (none-some k e)
 
-      go : (o : Option ℕ) → shifted c.x (offset_of n).0 ≡ o → (q : Option ℕ) → shifted c.y (offset_of n).1 ≡ q → place_among a o q ≡ Some k → (u : ℕ) × (v : ℕ) × IsNear a c k u v
+      go : (o : Option ℕ) → shift c.x (offset_of n).0 ≡ o → (q : Option ℕ) → shift c.y (offset_of n).1 ≡ q → place_among a o q ≡ Some k → (u : ℕ) × (v : ℕ) × IsNear a c k u v
       go None p q r e = absurd (none-some k e)
       go (Some u) p None r e = absurd (none-some k e)
       go (Some u) p (Some v) r e =
@@ -108,7 +108,7 @@ module _ (a : Area) (c : Site) where
       let inside = within_test a.columns.first a.columns.end a.rows.first a.rows.end u v n.west n.east n.north n.south in (
         f.0,
         omega (arith, f.1),
-        ap (λ (p : ℤ × ℤ). place_among a (shifted c.x p.0) (shifted c.y p.1)) f.2
+        ap (λ (p : ℤ × ℤ). place_among a (shift c.x p.0) (shift c.y p.1)) f.2
             ∙ ((λ i. place_among a (shifted-offset_to c.x u i) (shifted-offset_to c.y v i))
             ∙ (ap (λ b. if b then Some ((v - a.rows.first) * (a.columns.end - a.columns.first) + (u - a.columns.first)) else None) inside ∙ ap Some (sym n.place))),
       )

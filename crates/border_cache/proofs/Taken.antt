@@ -17,7 +17,7 @@ use Rattle.tile_map.specs.Laws.{IsPlane}
 use Rattle.tile_map.proofs.Registers.{number_place}
 use Rattle.border_cache.specs.Accesses.{Adds}
 use Rattle.border_cache.specs.Cells.{CellValue, cell_of, newer}
-use Rattle.border_cache.specs.News.{Border, Covers, FindsCell, IsAsked, IsNewsRead, IsOfCell, IsRefresh, NewsIn, bit_in, cell_in, found_cell, is_news, read_cell, word_of, IsSiteRead}
+use Rattle.border_cache.specs.News.{WindowBorder, Covers, FindsCell, IsAsked, IsNewsRead, IsOfCell, IsRefresh, NewsIn, bit_in, cell_in, found_cell, is_news, read_cell, word_of, IsSiteRead}
 use Rattle.border_cache.specs.Windows.{border_at, edge_place, edge_place_some, place_in}
 use Rattle.border_cache.specs.Copies.{CacheValue, HoldsWindow, Refreshes, Stores, cell_for, copy_at, held_cell, window_cells}
 use Rattle.border_cache.specs.Shared.{IsInWindowOf, Renews, TakesAt}
@@ -185,7 +185,7 @@ takes_news e news p q both a b c xs ys s t apart to from =
 -- all that a refresh does on an edge: the news words are read, then the cells that are news
 module _ (c : Site) (e : ℕ) (news : List ℕ) (old new : CacheValue) (xs ys : List Access) (plane : IsPlane old.map) (holds : HoldsWindow old.map old.tile c)
     (r : IsNewsRead (border_at old.map old.tile c e) news xs) (t : TakesAt e (NewsIn news (IsInWindowOf old.map c e)) old new ys) where
-  abbrev b : Border
+  abbrev b : WindowBorder
   b = border_at old.map old.tile c e
 
   abbrev all : List Access

@@ -4,7 +4,7 @@ use Rattle.std.specs.Prelude.{slice_index_or, slice_set, is_some, Some, None, po
 use Rattle.std.proofs.lemmas.List.{get_or-set_same, get_or-set_other}
 use Rattle.list_laws.proofs.Numbers.{less_or_same}
 use Rattle.bit_field.specs.Atom.{AtomValue, empty_atom}
-use Rattle.window_sites.specs.Sites.{sites, offset_of, shifted}
+use Rattle.window_sites.specs.Sites.{sites, offset_of, shift}
 use Rattle.window_sites.specs.Window.{IsWindow}
 use Rattle.tile_map.specs.Plane.{Site, MapValue, is_live}
 use Rattle.tile_map.specs.Edges.{live_site, window_site}
@@ -16,7 +16,7 @@ unfolding sites
 at_centre = refl
 
 pub centre_site : (m : MapValue) (c : Site) → is_live m c ≡ true → window_site m c 0 ≡ Some c
-centre_site m c live = ap (λ o. live_site m (shifted c.x o.0) (shifted c.y o.1)) at_centre
+centre_site m c live = ap (λ o. live_site m (shift c.x o.0) (shift c.y o.1)) at_centre
     ∙ (let x : c.x + 0 ≡ c.x = omega arith in let y : c.y + 0 ≡ c.y = omega arith in (λ z. live_site m (Some (x z)) (Some (y z))))
     ∙ ap (λ b. if b then Some c else None) live
 

@@ -7,7 +7,7 @@ use Rattle.std.proofs.lemmas.Nat.{le-div}
 use Rattle.std.proofs.Math.Nat.{div-mul-le_self, add-div_left}
 use Rattle.list_laws.proofs.Numbers.{less_or_same}
 use Rattle.list_laws.proofs.Tests.{both, together}
-use Rattle.window_sites.specs.Sites.{offset_of, shifted}
+use Rattle.window_sites.specs.Sites.{offset_of, shift}
 use Rattle.window_sites.proofs.Offsets.{offset-near}
 use Rattle.tile_map.specs.Plane.{Site, MapValue, IsMap, site, is_on, is_live, owner_of}
 use Rattle.tile_map.specs.Edges.{live_site}
@@ -66,7 +66,7 @@ module _ (m : MapValue) (valid : IsMap m) (x y : ℕ) (c : HasCorners m x y) whe
 -- a coordinate that is at least 4, with an offset of at most 4
 record IsNear (x : ℕ) (d : ℤ) : Type 0 where
   at : ℕ
-  is : shifted x d ≡ Some at
+  is : shift x d ≡ Some at
   low : x ≤ at + 4
   high : at ≤ x + 4
 

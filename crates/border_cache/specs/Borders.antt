@@ -11,6 +11,7 @@ use Rattle.border_cache.specs.declared.border.Centre.{Centre}
 use Rattle.border_cache.specs.declared.border.Border.{Border}
 use Rattle.border_cache.specs.Windows.{sites_on}
 use Rattle.border_cache.specs.Copies.{CacheValue, HoldsWindow}
+use Rattle.tile_map.specs.declared.limits.TheConstants.{MOST_SHARED}
 
 -- the site of a centre
 abbrev pub site_of : Centre → Site
@@ -40,7 +41,7 @@ pub record IsAreaOf (m : MapValue) (a : Area) (b : Border) : Type 0 where
 
 -- the edge has an open hold of this end and the registers of so many shared sites, of which two tiles have at most 576
 pub record IsOpen (value : EndValue) (b : Border) : Type 0 where
-  pub few : b.sites ≤ 576
+  pub few : b.sites ≤ MOST_SHARED
   pub two : b.end < 2
   pub registers : value.registers b.edge ≡ registers_of b.sites
   pub held : IsHeld (value.lists b.edge)

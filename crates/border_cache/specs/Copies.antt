@@ -15,6 +15,7 @@ use Rattle.border_cache.specs.Cells.{CellValue, cell_value, newer, newest}
 use Rattle.border_cache.specs.Accesses.{Adds}
 use Rattle.border_cache.specs.News.{IsRefresh, found_on, no_cell}
 use Rattle.border_cache.specs.Windows.{has, centre_of, end_at, sites_on, border_at, AddsAll, PublishesAll, seen_on, is_shown}
+use Rattle.tile_map.specs.declared.limits.TheConstants.{MOST_REACH}
 
 -- a copy: the plane and the tile that it was made for, and a cell for each site of the rectangle that the tile reaches, row by row
 pub record CacheValue : Type 0 where
@@ -68,8 +69,8 @@ pub record IsCopy (v : CacheValue) (left top width height : ℕ) : Type 0 where
   pub top_is : top ≡ top_of v.map v.tile
   pub width_is : width ≡ columns_of v.map v.tile
   pub height_is : height ≡ rows_of v.map v.tile
-  pub narrow : columns_of v.map v.tile ≤ 72
-  pub short : rows_of v.map v.tile ≤ 72
+  pub narrow : columns_of v.map v.tile ≤ MOST_REACH
+  pub short : rows_of v.map v.tile ≤ MOST_REACH
   pub count : length v.cells ≡ columns_of v.map v.tile * rows_of v.map v.tile
 
 -- a copy of a grid's sites, each with stamp 0

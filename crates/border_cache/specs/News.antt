@@ -11,13 +11,13 @@ use Rattle.bit_field.specs.Atom.{empty_atom}
 
 -- One end of an edge, as a window meets it: how many sites the edge shares, which end it is, the place that each site of
 -- the window has among the shared sites, if it is one of them, and how many sites of the window are looked at.
-pub record Border : Type 0 where
+pub record WindowBorder : Type 0 where
   pub sites : ℕ
   pub end : ℕ
   pub places : ℕ → Option ℕ
   pub count : ℕ
 
-abbrev pub border : ℕ → ℕ → (ℕ → Option ℕ) → ℕ → Border
+abbrev pub border : ℕ → ℕ → (ℕ → Option ℕ) → ℕ → WindowBorder
 border sites end places count = record { sites = sites; end = end; places = places; count = count }
 
 -- the places of a window's sites, as a list
@@ -82,7 +82,7 @@ found_cell sites end accesses None = None
 found_cell sites end accesses (Some k) = found_cell_at sites end accesses k
 
 -- the cell that was found at site n of the window that meets the border
-abbrev pub found_on : Border → List Access → ℕ → Option CellValue
+abbrev pub found_on : WindowBorder → List Access → ℕ → Option CellValue
 found_on b accesses n = found_cell b.sites b.end accesses (b.places n)
 
 -- a value was found in the register
@@ -95,23 +95,23 @@ FindsCell accesses k = (low : ℕ) × (high : ℕ) × (found_value accesses (1 +
 
 -- a refresh may read the register: it is the news word of a covered place, or one of the two registers of a covered place
 -- that was found to be news
-abbrev pub IsAsked : Border → List Access → ℕ → Type 0
+abbrev pub IsAsked : WindowBorder → List Access → ℕ → Type 0
 IsAsked b accesses register =
     (k : ℕ) × Covers b.places b.count k × ((register ≡ word_of b.sites b.end k) ⊎ ((is_news b.sites b.end accesses k ≡ true) × IsOfCell k register))
 
 -- the reads of a refresh: the end's news words of the covered places, and exactly the cells that are news
-pub record IsRefresh (b : Border) (accesses : List Access) : Type 0 where
+pub record IsRefresh (b : WindowBorder) (accesses : List Access) : Type 0 where
   pub silent : writes_nothing accesses ≡ true
   pub words : (k : ℕ) → Covers b.places b.count k → Finds accesses (word_of b.sites b.end k)
   pub cells : (k : ℕ) → Covers b.places b.count k → is_news b.sites b.end accesses k ≡ true → FindsCell accesses k
   pub only : (register value : ℕ) → found_value accesses register ≡ Some value → IsAsked b accesses register
 
 -- the register is the end's news word of a covered place
-abbrev pub IsCoveredWord : Border → ℕ → Type 0
+abbrev pub IsCoveredWord : WindowBorder → ℕ → Type 0
 IsCoveredWord b register = (k : ℕ) × Covers b.places b.count k × (register ≡ word_of b.sites b.end k)
 
 -- the reads of the end's news words of the covered places: those of the places that are news have their bits in `news`
-pub record IsNewsRead (b : Border) (news : List ℕ) (accesses : List Access) : Type 0 where
+pub record IsNewsRead (b : WindowBorder) (news : List ℕ) (accesses : List Access) : Type 0 where
   pub silent : writes_nothing accesses ≡ true
   pub words : (k : ℕ) → Covers b.places b.count k → Finds accesses (word_of b.sites b.end k)
   pub bits : (k : ℕ) → Covers b.places b.count k → is_news b.sites b.end accesses k ≡ (bit_in news k == 1)

@@ -8,10 +8,10 @@ use Rattle.edge_lock.specs.declared.history.Access.TheVariants.{Read, Write}
 use Rattle.edge_lock.specs.History.{found_value}
 use Rattle.border_cache.specs.Accesses.{last_write, is_read, reads_nothing}
 use Rattle.border_cache.specs.Cells.{CellValue, cell_of}
-use Rattle.border_cache.specs.News.{Border, border, Covers, AreMasks, word_of, IsCoveredWord, IsOfCell}
+use Rattle.border_cache.specs.News.{WindowBorder, border, Covers, AreMasks, word_of, IsCoveredWord, IsOfCell}
 
 -- the same edge, from its other end
-abbrev pub across : Border → Border
+abbrev pub across : WindowBorder → WindowBorder
 across b = border b.sites (1 - b.end) b.places b.count
 
 -- a word with the bits of a mask all changed to one
@@ -21,7 +21,7 @@ pub record IsWithMask (old mask : ℕ) (bit : Bool) (new : ℕ) : Type 0 where
 
 -- The news word j of an end: it was first read as one word and written last as another, in which the bits of the covered
 -- places are all the same, and the other bits are as they were.
-pub record IsWordMarked (b : Border) (bit : Bool) (accesses : List Access) (j : ℕ) : Type 0 where
+pub record IsWordMarked (b : WindowBorder) (bit : Bool) (accesses : List Access) (j : ℕ) : Type 0 where
   pub first : ℕ
   pub last : ℕ
   pub found : found_value accesses (news_register b.sites b.end j) ≡ Some first
@@ -30,7 +30,7 @@ pub record IsWordMarked (b : Border) (bit : Bool) (accesses : List Access) (j : 
   pub kept : (i : ℕ) → i < 64 → (Covers b.places b.count (64 * j + i) → ⊥) → bit_at last i ≡ bit_at first i
 
 -- the news words of an end after the bits of the covered places were set, or cleared
-pub record IsMarked (b : Border) (bit : Bool) (accesses : List Access) : Type 0 where
+pub record IsMarked (b : WindowBorder) (bit : Bool) (accesses : List Access) : Type 0 where
   pub words : (k : ℕ) → Covers b.places b.count k → IsWordMarked b bit accesses (k / 64)
   pub only_read : (register : ℕ) → is_read accesses register ≡ true → IsCoveredWord b register
   pub only_written : (register value : ℕ) → last_write accesses register None ≡ Some value → IsCoveredWord b register
@@ -64,16 +64,16 @@ abbrev pub IsCellPut : CellValue → ℕ → List Access → Type 0
 IsCellPut cell k accesses = (low : ℕ) × (high : ℕ) × (accesses ≡ Write (1 + 2 * k) low ∷ Write (2 + 2 * k) high ∷ []) × (cell_of low high ≡ cell)
 
 -- the register is the news word of a covered place, of either end
-abbrev pub IsEitherWord : Border → ℕ → Type 0
+abbrev pub IsEitherWord : WindowBorder → ℕ → Type 0
 IsEitherWord b register = (k : ℕ) × Covers b.places b.count k × ((register ≡ word_of b.sites b.end k) ⊎ (register ≡ word_of b.sites (1 - b.end) k))
 
 -- the register has a word of the cell of a covered place, or is the news word of one, of either end
-abbrev pub IsPublished : Border → ℕ → Type 0
+abbrev pub IsPublished : WindowBorder → ℕ → Type 0
 IsPublished b register =
     (k : ℕ) × Covers b.places b.count k × ((register ≡ 1 + 2 * k) ⊎ ((register ≡ 2 + 2 * k) ⊎ ((register ≡ word_of b.sites b.end k) ⊎ (register ≡ word_of b.sites (1 - b.end) k))))
 
 -- all that a publishing does on an edge
-pub record IsPublish (b : Border) (cells : ℕ → CellValue) (accesses : List Access) : Type 0 where
+pub record IsPublish (b : WindowBorder) (cells : ℕ → CellValue) (accesses : List Access) : Type 0 where
   pub cells_put : (j k : ℕ) → j < b.count → b.places j ≡ Some k → LeavesCell accesses k (cells j)
   pub mine : (k : ℕ) → Covers b.places b.count k → IsWordMarked b false accesses (k / 64)
   pub theirs : (k : ℕ) → Covers b.places b.count k → IsWordMarked (across b) true accesses (k / 64)

@@ -8,7 +8,8 @@ use Rattle.edge_lock.specs.History.{found_value}
 use Rattle.edge_lock.specs.EndLists.{writes_nothing}
 use Rattle.border_cache.specs.declared.row_runs.Run.{Run}
 use Rattle.border_cache.specs.Cells.{CellValue, newer}
-use Rattle.border_cache.specs.News.{Covers, FindsCell, IsOfCell, read_cell}
+use Rattle.border_cache.specs.declared.border.News.{News}
+use Rattle.border_cache.specs.News.{Covers, FindsCell, IsOfCell, NewsIn, read_cell}
 use Rattle.border_cache.specs.Windows.{IsNear, edge_place, place_in}
 use Rattle.border_cache.specs.Copies.{CacheValue, cell_for, held_cell, Puts}
 
@@ -50,3 +51,7 @@ pub record TakesAt (e : ℕ) (at : ℕ → Type 0) (old new : CacheValue) (acces
   pub map : new.map ≡ old.map
   pub tile : new.tile ≡ old.tile
   pub cells : (s : Site) → is_held old.map old.tile s ≡ true → held_cell new s ≡ newer (held_cell old s) (read_cell accesses (edge_place old.map e s))
+
+-- the same, for those of the places that are news
+abbrev pub TakesNews : News → (ℕ → Type 0) → CacheValue → CacheValue → List Access → Type 0
+TakesNews news at old new = TakesAt news.border.edge (NewsIn news.words at) old new

@@ -5,7 +5,7 @@ use Rattle.border_cache.specs.Published.{IsPublish}
 use Rattle.edge_lock.specs.EndLists.{EndLists, known_value, IsHeld}
 use Rattle.edge_lock.specs.Edges.{registers_of}
 use Rattle.window_sites.specs.Window.{WindowValue, IsWindow, atom_at, live_at}
-use Rattle.window_sites.specs.Sites.{offset_of, shifted}
+use Rattle.window_sites.specs.Sites.{offset_of, shift}
 use Rattle.tile_map.specs.declared.span.Area.{Area}
 use Rattle.border_cache.specs.declared.row_runs.Run.{Run}
 use Rattle.tile_map.specs.Spans.{place_within}
@@ -13,7 +13,7 @@ use Rattle.tile_map.specs.Plane.{Site, MapValue, site, is_live, apart}
 use Rattle.tile_map.specs.Edges.{shared_of, low_end, pairs_of, window_site}
 use Rattle.border_cache.specs.Cells.{CellValue}
 use Rattle.border_cache.specs.Accesses.{IsHonest, after_all}
-use Rattle.border_cache.specs.News.{bit_in, Border, border, found_on}
+use Rattle.border_cache.specs.News.{bit_in, WindowBorder, border, found_on}
 
 -- whether e is one of the edges
 abbrev pub has : ℕ → List ℕ → Bool
@@ -40,7 +40,7 @@ place_among a (Some u) (Some v) = place_within a.columns.first a.columns.end a.r
 
 -- the place of site n of the window at c in an area
 abbrev pub place_at : Area → Site → ℕ → Option ℕ
-place_at a c n = place_among a (shifted c.x (offset_of n).0) (shifted c.y (offset_of n).1)
+place_at a c n = place_among a (shift c.x (offset_of n).0) (shift c.y (offset_of n).1)
 
 -- place k of an area is that of (u, v), which is at most 4 from c
 pub record IsNear (a : Area) (c : Site) (k u v : ℕ) : Type 0 where
@@ -98,7 +98,7 @@ and_cell None cells = cells
 and_cell (Some cell) cells = cell ∷ cells
 
 -- tile t's end of edge e, as the window at c meets it
-abbrev pub border_at : MapValue → ℕ → Site → ℕ → Border
+abbrev pub border_at : MapValue → ℕ → Site → ℕ → WindowBorder
 border_at m t c e = border (sites_on m e) (end_at m t e) (place_in m c e) 41
 
 -- the cells that were seen at site n of the window, edge by edge
@@ -107,16 +107,16 @@ seen_on m t c more n [] = []
 seen_on m t c more n (e ∷ es) = and_cell (found_on (border_at m t c e) (more e) n) (seen_on m t c more n es)
 
 -- a site as the centre of a window: the plane, the tile whose site it is, and the site
-pub record Centre : Type 0 where
+pub record TileCentre : Type 0 where
   pub map : MapValue
   pub tile : ℕ
   pub site : Site
 
-abbrev pub centre_of : MapValue → ℕ → Site → Centre
+abbrev pub centre_of : MapValue → ℕ → Site → TileCentre
 centre_of map tile site = record { map = map; tile = tile; site = site }
 
 -- a publishing of the cells of the window at c on these edges
-pub record PublishesAll (c : Centre) (edges : List ℕ) (cells : ℕ → CellValue) (lists lists' : ℕ → EndLists) : Type 0 where
+pub record PublishesAll (c : TileCentre) (edges : List ℕ) (cells : ℕ → CellValue) (lists lists' : ℕ → EndLists) : Type 0 where
   pub more : ℕ → List Access
   pub adds : AddsAll lists lists' edges more
   pub writes : (e : ℕ) → has e edges ≡ true → IsPublish (border_at c.map c.tile c.site e) cells (more e)

@@ -13,6 +13,8 @@ ghost use Rattle.border_cache.specs.Windows.{has, has_corners, IsView, IsWhole};
 ghost use Rattle.border_cache.specs.Shared.{Renews};
 ghost use Rattle.plane_grid.specs.PlaneGrids.{IsGridOf};
 ghost use Rattle.border_cache.specs.Copies.{IsFirstCopy, patch, AreAtomsIn, IsCentre, IsEndOf, Puts, PutsFor, at, Refreshed, Published, Marked, Stamped, IsCorner, place_held, held_cell, window_cells};
+ghost use Rattle.tile_map.specs.declared.limits.TheConstants.{MOST_REACH};
+ghost use Rattle.window_sites.specs.declared.window.TheConstants.{MOST_COLUMNS};
 
 use crate::border::Centre;
 use crate::cell::Cell;
@@ -321,10 +323,10 @@ fn first_atoms(
     width: u32,
     height: u32,
 ) -> Result<Vec<Atom>, NoMemory>
-    requires narrow { width ≤ 72 }
-    requires short { height ≤ 72 }
-    requires left { left ≤ 512 }
-    requires top { top ≤ 512 }
+    requires narrow { width ≤ MOST_REACH }
+    requires short { height ≤ MOST_REACH }
+    requires left { left ≤ MOST_COLUMNS }
+    requires top { top ≤ MOST_COLUMNS }
     requires columns { left + width ≤ start.now.width }
     requires rows { top + height ≤ start.now.height }
     ensures { IfOk result (λ v. AreAtomsIn start.now (patch left top width height) v.items) }

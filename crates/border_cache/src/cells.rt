@@ -5,6 +5,7 @@ ghost use Rattle.window_sites.specs.Window.{atom_at};
 ghost use Rattle.border_cache.specs.Cells.{cell_value, paired_cells, cell_atoms};
 ghost use Rattle.border_cache.specs.News.{no_cell};
 ghost use Rattle.border_cache.specs.Rows.{GivesWhole, stamped_at};
+ghost use Rattle.window_sites.specs.declared.window.TheConstants.{MOST_COLUMNS};
 
 use crate::cell::Cell;
 use crate::rows::stamp_rows;
@@ -60,7 +61,7 @@ impl Cells {
     /// Reads the window of 41 live sites whose nine rows and nine columns start at place `low`. The
     /// rectangle has `width` columns.
     pub(crate) fn read_window(&self, low: usize, width: usize, window: &mut Window)
-        requires small { width ≤ 512 }
+        requires small { width ≤ MOST_COLUMNS }
         requires whole { low + 8 * width + 8 < length self.now }
         ensures { window.new ≡ inner_window (cell_atoms self.now) low width }
     {
@@ -69,7 +70,7 @@ impl Cells {
 
     /// Gives each site of such a window its atom of an event's window and a stamp.
     pub(crate) fn mark(&mut self, low: usize, width: usize, window: &Window, stamp: u32)
-        requires small { width ≤ 512 }
+        requires small { width ≤ MOST_COLUMNS }
         requires wide { 9 ≤ width }
         requires whole { low + 8 * width + 8 < length self.old }
         ensures { GivesWhole low width (λ n. cell_value stamp (atom_at window.now n)) self.old self.new }
@@ -80,7 +81,7 @@ impl Cells {
 
     /// Gives each site of such a window a stamp. Each keeps its atom.
     pub(crate) fn stamp(&mut self, low: usize, width: usize, stamp: u32)
-        requires small { width ≤ 512 }
+        requires small { width ≤ MOST_COLUMNS }
         requires whole { low + 8 * width + 8 < length self.old }
         ensures { GivesWhole low width (stamped_at self.old low width stamp) self.old self.new }
     {

@@ -6,6 +6,8 @@ ghost use Rattle.border_cache.specs.Borders.{site_of};
 ghost use Rattle.border_cache.specs.News.{nth_place, IsPlace, AreMasks, SetsPlace, SetsRun};
 ghost use Rattle.border_cache.specs.Windows.{place_at, SetsRow};
 ghost use Rattle.border_cache.specs.Published.{IsWithMask};
+ghost use Rattle.tile_map.specs.declared.limits.TheConstants.{MOST_SHARED};
+ghost use Rattle.window_sites.specs.declared.window.TheConstants.{MOST_COLUMNS};
 
 use crate::border::Centre;
 use crate::row_runs::run_of;
@@ -14,7 +16,7 @@ use tile_map::Area;
 /// Sets the bit of a place.
 fn set_place(masks: &mut [u64], place: Option<u32>)
     requires count { length masks.old ≡ 9 }
-    requires place { IsPlace 576 place }
+    requires place { IsPlace MOST_SHARED place }
     ensures { SetsPlace place masks.old masks.new }
 {
     if let Some(place) = place {
@@ -25,7 +27,7 @@ fn set_place(masks: &mut [u64], place: Option<u32>)
 /// The bits of all these places. Two tiles share at most 576 sites, so an end has at most nine news
 /// words.
 pub(crate) fn masks(places: &[Option<u32>]) -> [u64; 9]
-    requires places { (n : ℕ) → n < length places.now → IsPlace 576 (nth_place places.now n) }
+    requires places { (n : ℕ) → n < length places.now → IsPlace MOST_SHARED (nth_place places.now n) }
     ensures masks { AreMasks (nth_place places.now) (length places.now) result }
     ensures count { length result ≡ 9 }
 {
@@ -50,7 +52,7 @@ pub(crate) fn set_run(masks: &mut [u64], start: u32, end: u32)
     requires count { length masks.old ≡ 9 }
     requires some { start < end }
     requires short { end ≤ start + 9 }
-    requires few { end ≤ 576 }
+    requires few { end ≤ MOST_SHARED }
     ensures { SetsRun start end masks.old masks.new }
 {
     let bits = ones(end - start);
@@ -68,9 +70,9 @@ pub(crate) fn set_run(masks: &mut [u64], start: u32, end: u32)
 fn set_row(masks: &mut [u64], area: Area, centre: Centre, j: u32)
     requires count { length masks.old ≡ 9 }
     requires small { IsSmall area }
-    requires few { length (sites_in area) ≤ 576 }
-    requires x { centre.x < 512 }
-    requires y { centre.y < 512 }
+    requires few { length (sites_in area) ≤ MOST_SHARED }
+    requires x { centre.x < MOST_COLUMNS }
+    requires y { centre.y < MOST_COLUMNS }
     requires j { j < 9 }
     ensures { SetsRow area (site_of centre) j masks.old masks.new }
 {
@@ -82,9 +84,9 @@ fn set_row(masks: &mut [u64], area: Area, centre: Centre, j: u32)
 /// The bits of the sites of the window at a site, by their places in an area.
 pub(crate) fn masks_at(area: Area, centre: Centre) -> [u64; 9]
     requires small { IsSmall area }
-    requires few { length (sites_in area) ≤ 576 }
-    requires x { centre.x < 512 }
-    requires y { centre.y < 512 }
+    requires few { length (sites_in area) ≤ MOST_SHARED }
+    requires x { centre.x < MOST_COLUMNS }
+    requires y { centre.y < MOST_COLUMNS }
     ensures masks { AreMasks (place_at area (site_of centre)) 41 result }
     ensures count { length result ≡ 9 }
 {

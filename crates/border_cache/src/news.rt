@@ -6,15 +6,16 @@ ghost use Rattle.border_cache.specs.Accesses.{AddsSome};
 ghost use Rattle.border_cache.specs.Borders.{IsOpen};
 ghost use Rattle.border_cache.specs.News.{bit_in, AreNewsRead, IsSiteRead, IsWordRead};
 ghost use Rattle.border_cache.specs.Published.{AreBitsPut, IsCellPut, IsWordPut};
+ghost use Rattle.tile_map.specs.declared.limits.TheConstants.{MOST_SHARED};
 
-use crate::border::Border;
+use crate::border::{Border, News};
 use crate::cell::Cell;
 use crate::masks::with_mask;
 use edge_lock::Board;
 
 /// The register of a news word of an end.
 fn news_word(border: Border, word: u32) -> u32
-    requires few { border.sites ≤ 576 }
+    requires few { border.sites ≤ MOST_SHARED }
     requires end { border.end < 2 }
     requires word { word < news_words border.sites }
     ensures value { result ≡ news_register border.sites border.end word }
@@ -40,43 +41,40 @@ fn read_word<D: Board>(board: &mut D, border: Border, word: u32, mask: u64) -> u
 }
 
 /// Reads which of the places of these masks are news for the end.
-pub(crate) fn read_news<D: Board>(board: &mut D, border: Border, masks: &[u64]) -> [u64; 9]
+pub(crate) fn read_news<D: Board>(board: &mut D, border: Border, masks: &[u64]) -> News
     requires count { length masks.now ≡ 9 }
     requires hold { IsOpen (D.end board.old) border }
-    ensures read { AddsSome border.edge (AreNewsRead border.sites border.end masks.now result) (D.end board.old) (D.end board.new) }
-    ensures long { length result ≡ 9 }
+    ensures read { AddsSome border.edge (AreNewsRead border.sites border.end masks.now result.words) (D.end board.old) (D.end board.new) }
+    ensures border { result.border ≡ border }
+    ensures long { length result.words ≡ 9 }
     ensures same { SameEnd (D.end board.old) (D.end board.new) }
     ensures moved { D.moved board.old board.new }
 {
-    let mut news = [0; 9];
-    let words = (border.sites + 63) / 64;
-    for word in 0..words {
+    let mut words = [0; 9];
+    let count = (border.sites + 63) / 64;
+    for word in 0..count {
         let i = word as usize;
-        news[i] = read_word(board, border, word, masks[i]);
+        words[i] = read_word(board, border, word, masks[i]);
     }
-    news
+    News { border, words }
 }
 
-/// Reads the cell of a place, if its bit is set.
-pub(crate) fn read_site<D: Board>(
-    board: &mut D,
-    border: Border,
-    place: u32,
-    news: &[u64],
-) -> Option<Cell>
-    requires place { place < border.sites }
-    requires count { length news.now ≡ 9 }
-    requires hold { IsOpen (D.end board.old) border }
-    ensures read { AddsSome border.edge (IsSiteRead place (bit_in news.now place) result) (D.end board.old) (D.end board.new) }
+/// Reads the cell of a place, if it is news.
+pub(crate) fn read_site<D: Board>(board: &mut D, news: &News, place: u32) -> Option<Cell>
+    requires place { place < news.now.border.sites }
+    requires count { length news.now.words ≡ 9 }
+    requires hold { IsOpen (D.end board.old) news.now.border }
+    ensures read { AddsSome news.now.border.edge (IsSiteRead place (bit_in news.now.words place) result) (D.end board.old) (D.end board.new) }
     ensures same { SameEnd (D.end board.old) (D.end board.new) }
     ensures moved { D.moved board.old board.new }
 {
-    let word = news[(place / 64) as usize];
+    let word = news.words[(place / 64) as usize];
     if (word >> (place % 64)) & 1 == 0 {
         return None;
     }
-    let low = board.read(border.edge, 1 + 2 * place);
-    let high = board.read(border.edge, 2 + 2 * place);
+    let edge = news.border.edge;
+    let low = board.read(edge, 1 + 2 * place);
+    let high = board.read(edge, 2 + 2 * place);
     Some(Cell::from_words(low, high))
 }
 

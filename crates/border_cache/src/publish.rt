@@ -7,7 +7,7 @@ ghost use Rattle.border_cache.specs.Accesses.{AddsSome};
 ghost use Rattle.border_cache.specs.Borders.{IsAreaOf, IsBorderOf, IsCentreOf, IsOpen, site_of};
 ghost use Rattle.border_cache.specs.News.{AreMasks};
 ghost use Rattle.border_cache.specs.Published.{IsPublish, PutsAt};
-ghost use Rattle.border_cache.specs.Windows.{border_at, place_in, IsEdgeFor, SetsRow};
+ghost use Rattle.border_cache.specs.Windows.{border_at, place_in, IsEdgeFor, IsRowRun};
 ghost use Rattle.border_cache.specs.Copies.{Published, window_cells};
 ghost use Rattle.border_cache.specs.Shared.{IsInRow, IsInRun, IsInWindowOf, IsPlaceOf, IsSharedRun, shared_cell};
 
@@ -35,31 +35,28 @@ fn put_run<D: Board>(cache: &Cache, run: Run, border: Border, board: &mut D)
     }
 }
 
-/// Writes the cells of row `j` of a window to an edge whose shared sites are an area, and sets the
-/// bits of their places.
+/// Writes the cells of row `j` of a window to an edge whose shared sites are an area, and gives the run
+/// of their places.
 fn put_row<D: Board>(
     cache: &Cache,
     area: Area,
     centre: Centre,
     j: u32,
     border: Border,
-    masks: &mut [u64],
     board: &mut D,
-)
+) -> Option<Run>
     requires centre { IsCentreOf cache.now.map cache.now centre }
     requires area { IsAreaOf cache.now.map area border }
     requires j { j < 9 }
-    requires count { length masks.old ≡ 9 }
     requires hold { IsOpen (D.end board.old) border }
-    ensures marks { SetsRow area (site_of centre) j masks.old masks.new }
+    ensures run { IsRowRun area (site_of centre) j result }
     ensures put { AddsSome border.edge (PutsAt (IsInRow area (site_of centre) j) (shared_cell cache.now border.edge)) (D.end board.old) (D.end board.new) }
     ensures same { SameEnd (D.end board.old) (D.end board.new) }
     ensures moved { D.moved board.old board.new }
 {
-    if let Some(run) = run_of(area, centre, j) {
-        put_run(cache, run, border, board);
-        set_run(masks, run.start, run.start + (run.east - run.west));
-    }
+    let run = run_of(area, centre, j)?;
+    put_run(cache, run, border, board);
+    Some(run)
 }
 
 /// Writes the cells of a window to an edge whose shared sites are an area, row by row, and gives the
@@ -82,7 +79,9 @@ fn put_rows<D: Board>(
 {
     let mut masks = [0; 9];
     for j in 0..9u32 {
-        put_row(cache, area, centre, j, border, &mut masks, board);
+        if let Some(run) = put_row(cache, area, centre, j, border, board) {
+            set_run(&mut masks, run.start, run.start + (run.east - run.west));
+        }
     }
     masks
 }

@@ -9,10 +9,9 @@ ghost use Rattle.border_cache.specs.Accesses.{AddsSome};
 ghost use Rattle.border_cache.specs.Borders.{IsAreaOf, IsBorderOf, IsCentreOf, IsOpen, site_of};
 ghost use Rattle.border_cache.specs.Windows.{edge_place, IsEdgeFor};
 ghost use Rattle.border_cache.specs.Copies.{Refreshed, Refreshes, at};
-ghost use Rattle.border_cache.specs.News.{NewsIn};
-ghost use Rattle.border_cache.specs.Shared.{IsInRow, IsInRun, IsInWindowOf, IsPlaceOf, IsSharedRun, TakesAt};
+ghost use Rattle.border_cache.specs.Shared.{IsInRow, IsInRun, IsInWindowOf, IsPlaceOf, IsSharedRun, TakesNews};
 
-use crate::border::{Border, Centre};
+use crate::border::{Border, Centre, News};
 use crate::cache::Cache;
 use crate::masks::are_clear;
 use crate::news::{read_news, read_site};
@@ -27,38 +26,37 @@ fn refresh_place<D: Board>(
     x: u32,
     y: u32,
     place: u32,
-    border: Border,
-    news: &[u64],
+    news: &News,
     board: &mut D,
 )
     requires owned { IsTrue (is_held cache.old.map cache.old.tile (site x y)) }
-    requires shared { edge_place cache.old.map border.edge (site x y) ≡ Some place }
-    requires place { place < border.sites }
-    requires count { length news.now ≡ 9 }
-    requires hold { IsOpen (D.end board.old) border }
-    ensures read { AddsSome border.edge (TakesAt border.edge (NewsIn news.now (λ k. k ≡ place)) cache.old cache.new) (D.end board.old) (D.end board.new) }
+    requires shared { edge_place cache.old.map news.now.border.edge (site x y) ≡ Some place }
+    requires place { place < news.now.border.sites }
+    requires count { length news.now.words ≡ 9 }
+    requires hold { IsOpen (D.end board.old) news.now.border }
+    ensures read { AddsSome news.now.border.edge (TakesNews news.now (λ k. k ≡ place) cache.old cache.new) (D.end board.old) (D.end board.new) }
     ensures same { SameEnd (D.end board.old) (D.end board.new) }
     ensures moved { D.moved board.old board.new }
 {
-    if let Some(found) = read_site(board, border, place, news) {
+    if let Some(found) = read_site(board, news, place) {
         cache.renew(x, y, found);
     }
 }
 
 /// Brings the cells of a run up to date with the news.
-fn refresh_run<D: Board>(cache: &mut Cache, run: Run, border: Border, news: &[u64], board: &mut D)
+fn refresh_run<D: Board>(cache: &mut Cache, run: Run, news: &News, board: &mut D)
     requires valid { IsMap cache.old.map }
-    requires run { IsSharedRun cache.old border.edge run }
-    requires border { IsBorderOf cache.old.map border }
-    requires count { length news.now ≡ 9 }
-    requires hold { IsOpen (D.end board.old) border }
-    ensures read { AddsSome border.edge (TakesAt border.edge (NewsIn news.now (IsInRun run run.east)) cache.old cache.new) (D.end board.old) (D.end board.new) }
+    requires run { IsSharedRun cache.old news.now.border.edge run }
+    requires border { IsBorderOf cache.old.map news.now.border }
+    requires count { length news.now.words ≡ 9 }
+    requires hold { IsOpen (D.end board.old) news.now.border }
+    ensures read { AddsSome news.now.border.edge (TakesNews news.now (IsInRun run run.east) cache.old cache.new) (D.end board.old) (D.end board.new) }
     ensures same { SameEnd (D.end board.old) (D.end board.new) }
     ensures moved { D.moved board.old board.new }
 {
     for x in run.west..run.east {
         let place = run.start + (x - run.west);
-        refresh_place(cache, x, run.row, place, border, news, board);
+        refresh_place(cache, x, run.row, place, news, board);
     }
 }
 
@@ -69,43 +67,35 @@ fn refresh_row<D: Board>(
     area: Area,
     centre: Centre,
     j: u32,
-    border: Border,
-    news: &[u64],
+    news: &News,
     board: &mut D,
 )
     requires centre { IsCentreOf cache.old.map cache.old centre }
-    requires area { IsAreaOf cache.old.map area border }
+    requires area { IsAreaOf cache.old.map area news.now.border }
     requires j { j < 9 }
-    requires count { length news.now ≡ 9 }
-    requires hold { IsOpen (D.end board.old) border }
-    ensures read { AddsSome border.edge (TakesAt border.edge (NewsIn news.now (IsInRow area (site_of centre) j)) cache.old cache.new) (D.end board.old) (D.end board.new) }
+    requires count { length news.now.words ≡ 9 }
+    requires hold { IsOpen (D.end board.old) news.now.border }
+    ensures read { AddsSome news.now.border.edge (TakesNews news.now (IsInRow area (site_of centre) j) cache.old cache.new) (D.end board.old) (D.end board.new) }
     ensures same { SameEnd (D.end board.old) (D.end board.new) }
     ensures moved { D.moved board.old board.new }
 {
     if let Some(run) = run_of(area, centre, j) {
-        refresh_run(cache, run, border, news, board);
+        refresh_run(cache, run, news, board);
     }
 }
 
 /// Brings the cells of a window up to date with the news on an edge whose shared sites are an area.
-fn refresh_rows<D: Board>(
-    cache: &mut Cache,
-    area: Area,
-    centre: Centre,
-    border: Border,
-    news: &[u64],
-    board: &mut D,
-)
+fn refresh_rows<D: Board>(cache: &mut Cache, area: Area, centre: Centre, news: &News, board: &mut D)
     requires centre { IsCentreOf cache.old.map cache.old centre }
-    requires area { IsAreaOf cache.old.map area border }
-    requires count { length news.now ≡ 9 }
-    requires hold { IsOpen (D.end board.old) border }
-    ensures read { AddsSome border.edge (TakesAt border.edge (NewsIn news.now (IsInWindowOf cache.old.map (site_of centre) border.edge)) cache.old cache.new) (D.end board.old) (D.end board.new) }
+    requires area { IsAreaOf cache.old.map area news.now.border }
+    requires count { length news.now.words ≡ 9 }
+    requires hold { IsOpen (D.end board.old) news.now.border }
+    ensures read { AddsSome news.now.border.edge (TakesNews news.now (IsInWindowOf cache.old.map (site_of centre) news.now.border.edge) cache.old cache.new) (D.end board.old) (D.end board.new) }
     ensures same { SameEnd (D.end board.old) (D.end board.new) }
     ensures moved { D.moved board.old board.new }
 {
     for j in 0..9u32 {
-        refresh_row(cache, area, centre, j, border, news, board);
+        refresh_row(cache, area, centre, j, news, board);
     }
 }
 
@@ -115,70 +105,55 @@ fn refresh_site<D: Board>(
     map: &Map,
     centre: Centre,
     n: u8,
-    border: Border,
-    news: &[u64],
+    news: &News,
     board: &mut D,
 )
     requires centre { IsCentreOf map.now cache.old centre }
     requires n { n ≤ 40 }
-    requires border { IsBorderOf map.now border }
-    requires count { length news.now ≡ 9 }
-    requires hold { IsOpen (D.end board.old) border }
-    ensures read { AddsSome border.edge (TakesAt border.edge (NewsIn news.now (IsPlaceOf cache.old.map (site_of centre) border.edge n)) cache.old cache.new) (D.end board.old) (D.end board.new) }
+    requires border { IsBorderOf map.now news.now.border }
+    requires count { length news.now.words ≡ 9 }
+    requires hold { IsOpen (D.end board.old) news.now.border }
+    ensures read { AddsSome news.now.border.edge (TakesNews news.now (IsPlaceOf cache.old.map (site_of centre) news.now.border.edge n) cache.old cache.new) (D.end board.old) (D.end board.new) }
     ensures same { SameEnd (D.end board.old) (D.end board.new) }
     ensures moved { D.moved board.old board.new }
 {
-    if let Some(place) = place_in(map, border.edge, centre, n) {
+    if let Some(place) = place_in(map, news.border.edge, centre, n) {
         if let Some((u, v)) = site_at(map, centre, n) {
-            refresh_place(cache, u, v, place, border, news, board);
+            refresh_place(cache, u, v, place, news, board);
         }
     }
 }
 
 /// Brings the cells of a window up to date with the news, each at the place that is looked up for
 /// its site.
-fn refresh_sites<D: Board>(
-    cache: &mut Cache,
-    map: &Map,
-    centre: Centre,
-    border: Border,
-    news: &[u64],
-    board: &mut D,
-)
+fn refresh_sites<D: Board>(cache: &mut Cache, map: &Map, centre: Centre, news: &News, board: &mut D)
     requires centre { IsCentreOf map.now cache.old centre }
-    requires border { IsBorderOf map.now border }
-    requires count { length news.now ≡ 9 }
-    requires hold { IsOpen (D.end board.old) border }
-    ensures read { AddsSome border.edge (TakesAt border.edge (NewsIn news.now (IsInWindowOf cache.old.map (site_of centre) border.edge)) cache.old cache.new) (D.end board.old) (D.end board.new) }
+    requires border { IsBorderOf map.now news.now.border }
+    requires count { length news.now.words ≡ 9 }
+    requires hold { IsOpen (D.end board.old) news.now.border }
+    ensures read { AddsSome news.now.border.edge (TakesNews news.now (IsInWindowOf cache.old.map (site_of centre) news.now.border.edge) cache.old cache.new) (D.end board.old) (D.end board.new) }
     ensures same { SameEnd (D.end board.old) (D.end board.new) }
     ensures moved { D.moved board.old board.new }
 {
     for n in 0..41u8 {
-        refresh_site(cache, map, centre, n, border, news, board);
+        refresh_site(cache, map, centre, n, news, board);
     }
 }
 
 /// Brings the cells of a window up to date with the news.
-fn take_news<D: Board>(
-    cache: &mut Cache,
-    map: &Map,
-    centre: Centre,
-    border: Border,
-    news: &[u64],
-    board: &mut D,
-)
+fn take_news<D: Board>(cache: &mut Cache, map: &Map, centre: Centre, news: &News, board: &mut D)
     requires centre { IsCentreOf map.now cache.old centre }
-    requires border { IsBorderOf map.now border }
-    requires count { length news.now ≡ 9 }
-    requires hold { IsOpen (D.end board.old) border }
-    ensures read { AddsSome border.edge (TakesAt border.edge (NewsIn news.now (IsInWindowOf cache.old.map (site_of centre) border.edge)) cache.old cache.new) (D.end board.old) (D.end board.new) }
+    requires border { IsBorderOf map.now news.now.border }
+    requires count { length news.now.words ≡ 9 }
+    requires hold { IsOpen (D.end board.old) news.now.border }
+    ensures read { AddsSome news.now.border.edge (TakesNews news.now (IsInWindowOf cache.old.map (site_of centre) news.now.border.edge) cache.old cache.new) (D.end board.old) (D.end board.new) }
     ensures same { SameEnd (D.end board.old) (D.end board.new) }
     ensures moved { D.moved board.old board.new }
 {
     map.laws();
-    match map.whole_area(border.edge) {
-        Some(area) => refresh_rows(cache, area, centre, border, news, board),
-        None => refresh_sites(cache, map, centre, border, news, board),
+    match map.whole_area(news.border.edge) {
+        Some(area) => refresh_rows(cache, area, centre, news, board),
+        None => refresh_sites(cache, map, centre, news, board),
     }
 }
 
@@ -197,10 +172,10 @@ fn refresh_on<D: Board>(cache: &mut Cache, map: &Map, centre: Centre, edge: u32,
     let border = Border { edge, sites, end };
     let masks = masks_of(map, edge, centre);
     let news = read_news(board, border, &masks);
-    if are_clear(&news) {
+    if are_clear(&news.words) {
         return;
     }
-    take_news(cache, map, centre, border, &news, board);
+    take_news(cache, map, centre, &news, board);
 }
 
 /// Brings the cells of a window up to date with the news on the needed edges.

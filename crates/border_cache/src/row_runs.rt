@@ -3,6 +3,7 @@ ghost use Rattle.std.specs.Prelude.{◌<◌};
 ghost use Rattle.tile_map.specs.Tables.{IsSmall};
 ghost use Rattle.border_cache.specs.Borders.{site_of};
 ghost use Rattle.border_cache.specs.Windows.{IsRowRun};
+ghost use Rattle.window_sites.specs.declared.window.TheConstants.{MOST_COLUMNS};
 
 use crate::border::Centre;
 use tile_map::Area;
@@ -26,8 +27,8 @@ pub(crate) struct Run {
 #[inline]
 pub(crate) fn run_of(area: Area, centre: Centre, j: u32) -> Option<Run>
     requires small { IsSmall area }
-    requires x { centre.x < 512 }
-    requires y { centre.y < 512 }
+    requires x { centre.x < MOST_COLUMNS }
+    requires y { centre.y < MOST_COLUMNS }
     requires j { j < 9 }
     ensures { IsRowRun area (site_of centre) j result }
 {

@@ -5,6 +5,7 @@
 //! own, so that its run has a fixed length.
 ghost use Rattle.std.specs.Prelude.{◌≡◌, ◌+◌, ◌*◌, ◌<◌, ◌≤◌, length};
 ghost use Rattle.border_cache.specs.Rows.{AreStamped, StampsRun};
+ghost use Rattle.window_sites.specs.declared.window.TheConstants.{MOST_COLUMNS};
 
 /// Gives `count` places from `first` on a stamp.
 #[inline]
@@ -19,7 +20,7 @@ fn stamp_run(stamps: &mut [u32], first: usize, count: usize, stamp: u32)
 /// Gives the 41 sites of a window a stamp.
 #[inline]
 pub(crate) fn stamp_rows(stamps: &mut [u32], low: usize, width: usize, stamp: u32)
-    requires small { width ≤ 512 }
+    requires small { width ≤ MOST_COLUMNS }
     requires whole { low + 8 * width + 8 < length stamps.old }
     ensures stamped { AreStamped low width stamp stamps.old stamps.new }
     ensures size { length stamps.new ≡ length stamps.old }

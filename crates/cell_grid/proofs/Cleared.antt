@@ -9,7 +9,7 @@ use Rattle.std.proofs.lemmas.Bool.Decides.{nat_tests}
 use Rattle.bit_field.specs.Atom.{empty_atom}
 use Rattle.cell_grid.specs.Grid.{GridValue, IsGrid}
 use Rattle.cell_grid.specs.Calm.{AreCalm, HasDeadNear}
-use Rattle.cell_grid.specs.Shut.{Rectangle, is_inside, cleared, widened, shut, IsEmptyIn}
+use Rattle.cell_grid.specs.Shut.{Rectangle, is_inside, marks_outside, widen, shut, IsEmptyIn}
 
 abbrev kept : List Bool → ℕ → Rectangle → ℕ → Bool
 kept marks width r i = get_or marks i false && not (is_inside r (i % width) (i / width))
@@ -20,16 +20,16 @@ pub record IsClearing (old : List Bool) (width : ℕ) (r : Rectangle) (n : ℕ) 
   pub done : (k : ℕ) → k < n → get_or marks k false ≡ kept old width r k
   pub rest : (k : ℕ) → n ≤ k → get_or marks k false ≡ get_or old k false
 
-pub IsClearing-done : (old : List Bool) (width : ℕ) (r : Rectangle) (n : ℕ) (marks : List Bool) → n ≡ length old → IsClearing old width r n marks → marks ≡ cleared old width r
-unfolding cleared
+pub IsClearing-done : (old : List Bool) (width : ℕ) (r : Rectangle) (n : ℕ) (marks : List Bool) → n ≡ length old → IsClearing old width r n marks → marks ≡ marks_outside old width r
+unfolding marks_outside
 IsClearing-done old width r n marks e h = fill_by_all (kept old width r) marks (length old) false h.size (rw e at h.done)
 
-pub length-cleared : (marks : List Bool) (width : ℕ) (r : Rectangle) → length (cleared marks width r) ≡ length marks
-unfolding cleared
+pub length-cleared : (marks : List Bool) (width : ℕ) (r : Rectangle) → length (marks_outside marks width r) ≡ length marks
+unfolding marks_outside
 length-cleared marks width r = length-map-range_with_len {X = Bool} (kept marks width r) 0 (length marks)
 
-get-cleared : (marks : List Bool) (width : ℕ) (r : Rectangle) (i : ℕ) → i < length marks → get_or (cleared marks width r) i false ≡ kept marks width r i
-unfolding cleared
+get-cleared : (marks : List Bool) (width : ℕ) (r : Rectangle) (i : ℕ) → i < length marks → get_or (marks_outside marks width r) i false ≡ kept marks width r i
+unfolding marks_outside
 get-cleared marks width r i lt = get_or-map-range_with_len (kept marks width r) 0 (length marks) i i false lt (omega arith)
 
 -- a mark that is gone was gone, or lies in the rectangle
@@ -70,7 +70,7 @@ outside_all : (r : Rectangle) (u v : ℕ) → (nat_lt r.left r.right && nat_lt r
 outside_all r u v none = grind (arith, nat_tests, none)
 
 -- what is near no site of the rectangle
-near-inside : (r : Rectangle) (x y u v : ℕ) → u ≤ x + 4 → x ≤ u + 4 → v ≤ y + 4 → y ≤ v + 4 → is_inside (widened r) x y ≡ false → is_inside r u v ≡ false
+near-inside : (r : Rectangle) (x y u v : ℕ) → u ≤ x + 4 → x ≤ u + 4 → v ≤ y + 4 → y ≤ v + 4 → is_inside (widen r) x y ≡ false → is_inside r u v ≡ false
 near-inside r x y u v b c d e far = go (nat_lt r.left r.right && nat_lt r.top r.bottom) refl far
   where
     go : (k : Bool) → (nat_lt r.left r.right && nat_lt r.top r.bottom) ≡ k → is_inside (if k then record { left = r.left - 4; top = r.top - 4; right = r.right + 4; bottom = r.bottom + 4 } else r) x y ≡ false → is_inside r u v ≡ false
@@ -99,7 +99,7 @@ record Reached (r : Rectangle) (x y : ℕ) : Type 0 where
   pub columns : (u ≤ x + 4) × (x ≤ u + 4)
   pub rows : (v ≤ y + 4) × (y ≤ v + 4)
 
-reached : (r : Rectangle) (x y : ℕ) → is_inside (widened r) x y ≡ true → Reached r x y
+reached : (r : Rectangle) (x y : ℕ) → is_inside (widen r) x y ≡ true → Reached r x y
 reached r x y near = go (nat_lt r.left r.right && nat_lt r.top r.bottom) refl near
   where
     go : (k : Bool) → (nat_lt r.left r.right && nat_lt r.top r.bottom) ≡ k → is_inside (if k then record { left = r.left - 4; top = r.top - 4; right = r.right + 4; bottom = r.bottom + 4 } else r) x y ≡ true → Reached r x y
@@ -125,20 +125,20 @@ true_goes true false h = absurd (cc h)
 true_goes false b h = refl
 
 pub AreCalm-shut : (width height : ℕ) (live calm : List Bool) (r : Rectangle) → length live ≡ width * height → r.right ≤ width → r.bottom ≤ height → AreCalm width height live calm →
-    AreCalm width height (cleared live width r) (cleared calm width (widened r))
+    AreCalm width height (marks_outside live width r) (marks_outside calm width (widen r))
 AreCalm-shut width height live calm r whole right bottom h = record {
-  size = length-cleared calm width (widened r) ∙ h.size ∙ sym (length-cleared live width r);
+  size = length-cleared calm width (widen r) ∙ h.size ∙ sym (length-cleared live width r);
   near = λ x y u v x_in y_in u_in v_in b c d e mark.
       let i = place x y x_in y_in in
       let j = place u v u_in v_in in
-      let m = stays _ _ (sym (get-cleared calm width (widened r) (y * width + x) (omega (arith, i, h.size))) ∙ mark) in
-      let far : is_inside (widened r) x y ≡ false = rw (mod-mul-add y width x x_in, div-mul-add y width x x_in) at m.1 in
+      let m = stays _ _ (sym (get-cleared calm width (widen r) (y * width + x) (omega (arith, i, h.size))) ∙ mark) in
+      let far : is_inside (widen r) x y ≡ false = rw (mod-mul-add y width x x_in, div-mul-add y width x x_in) at m.1 in
       let l = h.near x y u v x_in y_in u_in v_in b c d e m.0 in
       let out = near-inside r x y u v b c d e far in
       get-cleared live width r (v * width + u) j ∙ rw (l, mod-mul-add v width u u_in, div-mul-add v width u u_in, out) refl;
   unmarked = λ x y x_in y_in mark.
       let i = place x y x_in y_in in
-      elim (gone _ _ (sym (get-cleared calm width (widened r) (y * width + x) (omega (arith, i, h.size))) ∙ mark)) [
+      elim (gone _ _ (sym (get-cleared calm width (widen r) (y * width + x) (omega (arith, i, h.size))) ∙ mark)) [
         | inl was ↦ old x y (h.unmarked x y x_in y_in was)
         | inr inside ↦ new x y (reached r x y (rw (mod-mul-add y width x x_in, div-mul-add y width x x_in) at inside))
       ];
@@ -147,7 +147,7 @@ AreCalm-shut width height live calm r whole right bottom h = record {
     place : (u v : ℕ) → u < width → v < height → v * width + u < length live
     place u v u_in v_in = let q = mul-add-lt v width u height v_in u_in in omega (arith, q, whole)
 
-    old : (x y : ℕ) → HasDeadNear width height live x y → HasDeadNear width height (cleared live width r) x y
+    old : (x y : ℕ) → HasDeadNear width height live x y → HasDeadNear width height (marks_outside live width r) x y
     old x y d = record {
       u = d.u;
       v = d.v;
@@ -158,7 +158,7 @@ AreCalm-shut width height live calm r whole right bottom h = record {
       dead = get-cleared live width r (d.v * width + d.u) (place d.u d.v d.column d.row) ∙ and_left _ _ d.dead;
     }
 
-    new : (x y : ℕ) → Reached r x y → HasDeadNear width height (cleared live width r) x y
+    new : (x y : ℕ) → Reached r x y → HasDeadNear width height (marks_outside live width r) x y
     new x y d =
         let column : d.u < width = omega (arith, d.right, right) in
         let row : d.v < height = omega (arith, d.bottom, bottom) in

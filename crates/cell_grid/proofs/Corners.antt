@@ -10,16 +10,16 @@ use Rattle.std.proofs.lemmas.Bool.Decides.{eqb_tells}
 use Rattle.std.proofs.lemmas.List.{get_or-set_other, get_or-set_same, get_or-replicate, length-replicate}
 use Rattle.std.proofs.lemmas.List.FromFn.{fill_by_all, get_or-map-range_with_len, length-map-range_with_len}
 use Rattle.bit_field.specs.Atom.{AtomValue, empty_atom}
-use Rattle.window_sites.specs.Sites.{offset_of, shifted}
+use Rattle.window_sites.specs.Sites.{offset_of, shift}
 use Rattle.window_sites.specs.Window.{WindowValue, atom_at}
 use Rattle.window_sites.proofs.Offsets.{offset-near}
-use Rattle.cell_grid.specs.Grid.{GridValue, IsGrid, place_of, seen, window_of, sites_at, atom_left, put_window}
+use Rattle.cell_grid.specs.Grid.{GridValue, IsGrid, place_of, atom_at_place, window_of, sites_at, atom_left, put_window}
 use Rattle.cell_grid.proofs.Windows.{IsGrid-put}
 use Rattle.cell_grid.specs.Calm.{AreCalm, IsCalm, IsCorner}
 use Rattle.window_sites.specs.Inner.{inner_place, inner_atoms, inner_window, from_low, site_numbers}
 use Rattle.cell_grid.specs.Inner.{with_inner, with_sites, with_sites_put}
 
-shift-near : (x w : ℕ) (d : ℤ) → unsigned_abs d ≤ 4 → 4 ≤ x → x + 4 < w → (shifted x d ≡ Some (x - 4 + from_low d)) × (x - 4 + from_low d < w) × (x - 4 + from_low d ≤ x + 4) × (x ≤ x - 4 + from_low d + 4)
+shift-near : (x w : ℕ) (d : ℤ) → unsigned_abs d ≤ 4 → 4 ≤ x → x + 4 < w → (shift x d ≡ Some (x - 4 + from_low d)) × (x - 4 + from_low d < w) × (x - 4 + from_low d ≤ x + 4) × (x ≤ x - 4 + from_low d + 4)
 shift-near x w (pos d) h a b = (ap Some (omega (arith, a)), omega (arith, h, a, b), omega (arith, h, a), omega (arith, h, a))
 shift-near x w (negsuc d) h a b = (rw (lt-ltb d x (omega (arith, h, a))) (ap Some (omega (arith, h, a))), omega (arith, h, a, b), omega (arith, h, a), omega (arith, h, a))
 
@@ -57,8 +57,8 @@ not-calm g calm x y k x_in y_in mark is =
 pub window_of-inner : (g : GridValue) (x y low : ℕ) → IsCorner g x y low → inner_window g.atoms low g.width ≡ window_of g x y
 unfolding window_of inner_atoms
 window_of-inner g x y low h =
-    let a = fill_by_all (λ n. seen g (place_of g x y n)) (inner_atoms g.atoms low g.width) 41 empty_atom (length-map-range_with_len {X = AtomValue} (λ n. get_or g.atoms (inner_place low g.width n) empty_atom) 0 41)
-    (λ k lt. get_or-map-range_with_len (λ n. get_or g.atoms (inner_place low g.width n) empty_atom) 0 41 k k empty_atom lt (omega arith) ∙ sym (ap (seen g) (h.place k (omega (arith, lt))))) in
+    let a = fill_by_all (λ n. atom_at_place g (place_of g x y n)) (inner_atoms g.atoms low g.width) 41 empty_atom (length-map-range_with_len {X = AtomValue} (λ n. get_or g.atoms (inner_place low g.width n) empty_atom) 0 41)
+    (λ k lt. get_or-map-range_with_len (λ n. get_or g.atoms (inner_place low g.width n) empty_atom) 0 41 k k empty_atom lt (omega arith) ∙ sym (ap (atom_at_place g) (h.place k (omega (arith, lt))))) in
     let b = fill_by_all (λ n. is_some (place_of g x y n)) (replicate 41 true) 41 false (length-replicate 41 true)
     (λ k lt. get_or-replicate 41 k true false lt ∙ sym (ap is_some (h.place k (omega (arith, lt))))) in
     rw (a, b) refl

@@ -6,11 +6,11 @@ use Rattle.std.specs.Int.RustNames.{unsigned_abs}
 use Rattle.std.proofs.Math.Nat.{mod-eq_of_lt, add-mod_right}
 use Rattle.std.proofs.lemmas.Bool.{cases_lt, lt-ltb, le-ltb}
 use Rattle.cell_grid.specs.Grid.{below}
-use Rattle.window_sites.specs.Sites.{shifted}
+use Rattle.window_sites.specs.Sites.{shift}
 
 -- what goes around the end of the numbers lies above any end
 pub shift_around : (x end : ℕ) (d : ℤ) → x < 2 ^ 31 → end ≤ 2 ^ 31 → unsigned_abs d ≤ 4 →
-    below end (Some ((x + cast_unsigned w32 d) % 2 ^ 32)) ≡ below end (shifted x d)
+    below end (Some ((x + cast_unsigned w32 d) % 2 ^ 32)) ≡ below end (shift x d)
 shift_around x end (pos d) a b c =
     let same : (x + d) % 2 ^ 32 ≡ x + d = mod-eq_of_lt (omega (arith, a, c)) in
     ap (λ u. below end (Some u)) same

@@ -11,11 +11,11 @@ use Rattle.std.specs.List.{range_with_len}
 use Rattle.bit_field.specs.Atom.{AtomValue, empty_atom}
 use Rattle.window_sites.specs.Sites.{sites}
 use Rattle.window_sites.specs.Window.{WindowValue, IsWindow, atom_at}
-use Rattle.cell_grid.specs.Grid.{GridValue, ArePlanesAlike, IsGrid, IsLive, live_place, place_of, seen, window_of, sites_at, is_place, atom_left, put_window}
+use Rattle.cell_grid.specs.Grid.{GridValue, ArePlanesAlike, IsGrid, IsLive, live_place, place_of, atom_at_place, window_of, sites_at, is_place, atom_left, put_window}
 use Rattle.window_sites.specs.Inner.{site_numbers}
 use Rattle.cell_grid.specs.Steps.{IsLivePlace, AreLivePlaces, ArePlacesOf, with_atom}
 
-seen-hidden : (g : GridValue) (p : Option ℕ) → is_some p ≡ false → seen g p ≡ empty_atom
+seen-hidden : (g : GridValue) (p : Option ℕ) → is_some p ≡ false → atom_at_place g p ≡ empty_atom
 seen-hidden g None h = refl
 seen-hidden g (Some i) h = cc
 
@@ -55,11 +55,11 @@ AreLivePlaces-found g x y places h = λ n lt. subst (IsLivePlace g) (sym (h.plac
 pub record IsRead (g : GridValue) (places : List (Option ℕ)) (n : ℕ) (atoms : List AtomValue) (live : List Bool) : Type 0 where
   pub all_atoms : length atoms ≡ 41
   pub all_live : length live ≡ 41
-  pub atom : (k : ℕ) → k < n → get_or atoms k empty_atom ≡ seen g (get_or places k None)
+  pub atom : (k : ℕ) → k < n → get_or atoms k empty_atom ≡ atom_at_place g (get_or places k None)
   pub mark : (k : ℕ) → k < n → get_or live k false ≡ is_some (get_or places k None)
 
 pub IsRead-more : (g : GridValue) (places : List (Option ℕ)) (n : ℕ) (atoms : List AtomValue) (live : List Bool) (a : AtomValue) (b : Bool) → n < 41 →
-    a ≡ seen g (get_or places n None) → b ≡ is_some (get_or places n None) →
+    a ≡ atom_at_place g (get_or places n None) → b ≡ is_some (get_or places n None) →
     IsRead g places n atoms live → IsRead g places (n + 1) (set atoms n a) (set live n b)
 IsRead-more g places n atoms live a b small e f h =
     let p : n < length atoms = omega (arith, h.all_atoms) in
@@ -67,7 +67,7 @@ IsRead-more g places n atoms live a b small e f h =
     record {
       all_atoms = length-set atoms n a ∙ h.all_atoms;
       all_live = length-set live n b ∙ h.all_live;
-      atom = rw e (fill_by_more (λ k. seen g (get_or places k None)) atoms n empty_atom p h.atom);
+      atom = rw e (fill_by_more (λ k. atom_at_place g (get_or places k None)) atoms n empty_atom p h.atom);
       mark = rw f (fill_by_more (λ k. is_some (get_or places k None)) live n false q h.mark);
     }
 
@@ -75,7 +75,7 @@ pub window_of-read : (g : GridValue) (x y : ℕ) (places : List (Option ℕ)) (a
     record { atoms = atoms; live = live } ≡ window_of g x y
 unfolding window_of
 window_of-read g x y places atoms live p h =
-    let a = fill_by_all (λ n. seen g (place_of g x y n)) atoms 41 empty_atom h.all_atoms (λ k lt. h.atom k lt ∙ ap (seen g) (p k lt)) in
+    let a = fill_by_all (λ n. atom_at_place g (place_of g x y n)) atoms 41 empty_atom h.all_atoms (λ k lt. h.atom k lt ∙ ap (atom_at_place g) (p k lt)) in
     let b = fill_by_all (λ n. is_some (place_of g x y n)) live 41 false h.all_live (λ k lt. h.mark k lt ∙ ap is_some (p k lt)) in
     rw (a, b) refl
 
@@ -214,14 +214,14 @@ IsGrid-put g x y w h = record {
 }
 
 -- the atom of a site of the window
-pub seen-at : (g : GridValue) (x y n : ℕ) → n < 41 → atom_at (window_of g x y) n ≡ seen g (place_of g x y n)
+pub seen-at : (g : GridValue) (x y n : ℕ) → n < 41 → atom_at (window_of g x y) n ≡ atom_at_place g (place_of g x y n)
 unfolding window_of
-seen-at g x y n lt = get_or-map-range_with_len (λ n. seen g (place_of g x y n)) 0 41 n n empty_atom lt (omega arith)
+seen-at g x y n lt = get_or-map-range_with_len (λ n. atom_at_place g (place_of g x y n)) 0 41 n n empty_atom lt (omega arith)
 
 pub centre-atom : (g : GridValue) (x y : ℕ) → IsLive g x y → atom_at (window_of g x y) 0 ≡ get_or g.atoms (y * g.width + x) empty_atom
-centre-atom g x y h = seen-at g x y 0 (omega arith) ∙ ap (seen g) (centre-place g x y h)
+centre-atom g x y h = seen-at g x y 0 (omega arith) ∙ ap (atom_at_place g) (centre-place g x y h)
 
-seen-here : (g : GridValue) (p : Option ℕ) (i : ℕ) → is_place p i ≡ true → seen g p ≡ get_or g.atoms i empty_atom
+seen-here : (g : GridValue) (p : Option ℕ) (i : ℕ) → is_place p i ≡ true → atom_at_place g p ≡ get_or g.atoms i empty_atom
 seen-here g None i h = cc
 seen-here g (Some j) i h = elim (eqb_tells j i) [
   | inl same ↦ rw same.1 refl

@@ -3,8 +3,9 @@ use Rattle.std.specs.Prelude.{ℕ, ◌≡◌, ◌+◌, ◌*◌, ◌≤◌, ◌<�
 use Rattle.std.specs.List.{range_with_len}
 use Rattle.bit_field.specs.Atom.{AtomValue, empty_atom}
 use Rattle.window_sites.specs.Inner.{site_numbers}
-use Rattle.window_sites.specs.Sites.{offset_of, shifted}
+use Rattle.window_sites.specs.Sites.{offset_of, shift}
 use Rattle.window_sites.specs.Window.{WindowValue, atom_at}
+use Rattle.window_sites.specs.declared.window.TheConstants.{MOST_COLUMNS}
 
 -- a grid: its size, its atoms row by row, and which sites are live
 pub record GridValue : Type 0 where
@@ -20,9 +21,9 @@ HidesDead atoms live = (i : ℕ) → i < length live → slice_index_or live i f
 -- a grid that can be stored
 pub record IsGrid (g : GridValue) : Type 0 where
   pub wide : 8 ≤ g.width
-  pub not_wider : g.width ≤ 512
+  pub not_wider : g.width ≤ MOST_COLUMNS
   pub high : 8 ≤ g.height
-  pub not_higher : g.height ≤ 512
+  pub not_higher : g.height ≤ MOST_COLUMNS
   pub whole : length g.atoms ≡ g.width * g.height
   pub marked : length g.live ≡ g.width * g.height
   pub hidden : HidesDead g.atoms g.live
@@ -71,17 +72,17 @@ live_place live (Some i) = if slice_index_or live i false then Some i else None
 
 -- the place of site n of the window at (x, y), if that site is in the plane and live
 abbrev pub place_of : GridValue → ℕ → ℕ → ℕ → Option ℕ
-place_of g x y n = live_place g.live (place_by g.width (below g.width (shifted x (offset_of n).0)) (below g.height (shifted y (offset_of n).1)))
+place_of g x y n = live_place g.live (place_by g.width (below g.width (shift x (offset_of n).0)) (below g.height (shift y (offset_of n).1)))
 
 -- the atom that a window shows of a place, or empty if there is no place
-abbrev pub seen : GridValue → Option ℕ → AtomValue
-seen g None = empty_atom
-seen g (Some i) = slice_index_or g.atoms i empty_atom
+abbrev pub atom_at_place : GridValue → Option ℕ → AtomValue
+atom_at_place g None = empty_atom
+atom_at_place g (Some i) = slice_index_or g.atoms i empty_atom
 
 -- the window at (x, y): it shows the atom of each site that is in the plane and live, with a live mark; the other sites are empty and have none
 unfoldable pub window_of : GridValue → ℕ → ℕ → WindowValue
 window_of g x y = record {
-  atoms = map (λ n. seen g (place_of g x y n)) site_numbers;
+  atoms = map (λ n. atom_at_place g (place_of g x y n)) site_numbers;
   live = map (λ n. is_some (place_of g x y n)) site_numbers;
 }
 

@@ -14,17 +14,17 @@ abbrev pub is_inside : Rectangle → ℕ → ℕ → Bool
 is_inside r u v = (nat_le r.left u && nat_lt u r.right) && (nat_le r.top v && nat_lt v r.bottom)
 
 -- a rectangle with 4 more columns and rows on each side; one with no site stays as it is
-abbrev pub widened : Rectangle → Rectangle
-widened r = if (nat_lt r.left r.right && nat_lt r.top r.bottom) then record { left = r.left - 4; top = r.top - 4; right = r.right + 4; bottom = r.bottom + 4 } else r
+abbrev pub widen : Rectangle → Rectangle
+widen r = if (nat_lt r.left r.right && nat_lt r.top r.bottom) then record { left = r.left - 4; top = r.top - 4; right = r.right + 4; bottom = r.bottom + 4 } else r
 
 -- all sites of the plane in a rectangle are empty
 abbrev pub IsEmptyIn : GridValue → Rectangle → Type 0
 IsEmptyIn g r = (u v : ℕ) → u < g.width → v < g.height → is_inside r u v ≡ true → site_atom g u v ≡ empty_atom
 
 -- the marks of a plane's sites after those in a rectangle are cleared
-unfoldable pub cleared : List Bool → ℕ → Rectangle → List Bool
-cleared marks width r = map (λ i. slice_index_or marks i false && not (is_inside r (i % width) (i / width))) (range_with_len 0 (length marks))
+unfoldable pub marks_outside : List Bool → ℕ → Rectangle → List Bool
+marks_outside marks width r = map (λ i. slice_index_or marks i false && not (is_inside r (i % width) (i / width))) (range_with_len 0 (length marks))
 
 -- the grid after the sites of a rectangle are made not live
 abbrev pub shut : GridValue → Rectangle → GridValue
-shut g r = record g { live = cleared g.live g.width r }
+shut g r = record g { live = marks_outside g.live g.width r }

@@ -1,12 +1,13 @@
 //! A flat grid of atoms: its sites, windows and events.
 ghost use Rattle.std.specs.Prelude.{◌≡◌, false, All, ◌+◌, ◌*◌, ◌≤◌, ◌<◌, ◌^◌, ℕ, IfOk, IfSome, IsSome, MatchOption, None, length, slice_index_or};
 ghost use Rattle.std.specs.Int.RustNames.{unsigned_abs};
-ghost use Rattle.window_sites.specs.Sites.{shifted};
+ghost use Rattle.window_sites.specs.Sites.{shift};
 ghost use Rattle.cell_grid.specs.Calm.{IsCalm, IsCorner};
-ghost use Rattle.cell_grid.specs.Grid.{GridValue, IsLive, ArePlanesAlike, empty_grid, site_atom, with_site, place_of, seen, window_of, put_window, event, below};
+ghost use Rattle.cell_grid.specs.Grid.{GridValue, IsLive, ArePlanesAlike, empty_grid, site_atom, with_site, place_of, atom_at_place, window_of, put_window, event, below};
 ghost use Rattle.cell_grid.specs.Records.{replay};
 ghost use Rattle.cell_grid.specs.Shut.{IsEmptyIn, rectangle, shut};
 ghost use Rattle.cell_grid.specs.Steps.{IsLivePlace, AreLivePlaces, ArePlacesOf, with_atom};
+ghost use Rattle.window_sites.specs.declared.window.TheConstants.{MOST_COLUMNS};
 
 use crate::behave::Behave;
 use crate::inner::put_inner;
@@ -47,7 +48,7 @@ fn shift_below(x: u32, by: i32, end: u32) -> Option<u32>
     requires small { x < 2 ^ 31 }
     requires near { unsigned_abs by ≤ 4 }
     requires low { end ≤ 2 ^ 31 }
-    ensures value { result ≡ below end (shifted x by) }
+    ensures value { result ≡ below end (shift x by) }
     ensures inside { IfSome result (λ u. u < end) }
 {
     let to = x.wrapping_add_signed(by);
@@ -58,8 +59,8 @@ impl Grid {
     /// A grid whose sites are all live and empty. It has 8 to 512 columns and 8 to 512 rows.
     /// `NoMemory` if memory runs out.
     pub fn new(alloc: Global, width: u32, height: u32) -> Result<Grid, NoMemory>
-        requires wide { (8 ≤ width) × (width ≤ 512) }
-        requires high { (8 ≤ height) × (height ≤ 512) }
+        requires wide { (8 ≤ width) × (width ≤ MOST_COLUMNS) }
+        requires high { (8 ≤ height) × (height ≤ MOST_COLUMNS) }
         ensures { IfOk result (λ g. g ≡ empty_grid width height) }
     {
         let count = (width * height) as usize;
@@ -146,7 +147,7 @@ impl Grid {
             bottom: y + h,
         };
         clear(self.live.as_mut_slice(), width, inside);
-        clear(self.calm.as_mut_slice(), width, inside.widened());
+        clear(self.calm.as_mut_slice(), width, inside.widen());
     }
 
     /// The index of site `n` of the window at `(x, y)`, if that site is in the plane and live.
@@ -198,9 +199,9 @@ impl Grid {
     }
 
     /// The atom that a window shows at a site with this index.
-    fn seen(&self, place: Option<usize>) -> Atom
+    fn atom_at_place(&self, place: Option<usize>) -> Atom
         requires { IsLivePlace self.now place }
-        ensures { result ≡ seen self.now place }
+        ensures { result ≡ atom_at_place self.now place }
     {
         match place {
             Some(i) => self.atoms[i],
@@ -218,7 +219,7 @@ impl Grid {
         let mut live = [false; 41];
         for n in 0..41 {
             let place = places[n];
-            atoms[n] = self.seen(place);
+            atoms[n] = self.atom_at_place(place);
             live[n] = place.is_some();
         }
         Window::new(atoms, live)

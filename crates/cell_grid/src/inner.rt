@@ -6,13 +6,14 @@
 
 ghost use Rattle.std.specs.Prelude.{◌≡◌, ◌+◌, ◌*◌, ◌≤◌, ◌<◌, length};
 ghost use Rattle.cell_grid.specs.Inner.{with_inner, with_sites_put};
+ghost use Rattle.window_sites.specs.declared.window.TheConstants.{MOST_COLUMNS};
 
 use bit_field::Atom;
 
 /// Writes sites 33 to 40, the eastern half of the sites at distance 4.
 #[inline]
 fn put_sites_33_to_40(atoms: &mut [Atom], low: usize, width: usize, from: &[Atom; 41])
-    requires small { width ≤ 512 }
+    requires small { width ≤ MOST_COLUMNS }
     requires whole { low + 8 * width + 8 < length atoms.old }
     ensures { atoms.new ≡ with_sites_put atoms.old low width from.now 33 8 }
 {
@@ -29,7 +30,7 @@ fn put_sites_33_to_40(atoms: &mut [Atom], low: usize, width: usize, from: &[Atom
 /// Writes sites 25 to 32, the western half of the sites at distance 4.
 #[inline]
 fn put_sites_25_to_32(atoms: &mut [Atom], low: usize, width: usize, from: &[Atom; 41])
-    requires small { width ≤ 512 }
+    requires small { width ≤ MOST_COLUMNS }
     requires whole { low + 8 * width + 8 < length atoms.old }
     ensures { atoms.new ≡ with_sites_put atoms.old low width from.now 25 8 }
 {
@@ -46,7 +47,7 @@ fn put_sites_25_to_32(atoms: &mut [Atom], low: usize, width: usize, from: &[Atom
 /// Writes sites 19 to 24, the eastern half of the sites at distance 3.
 #[inline]
 fn put_sites_19_to_24(atoms: &mut [Atom], low: usize, width: usize, from: &[Atom; 41])
-    requires small { width ≤ 512 }
+    requires small { width ≤ MOST_COLUMNS }
     requires whole { low + 8 * width + 8 < length atoms.old }
     ensures { atoms.new ≡ with_sites_put atoms.old low width from.now 19 6 }
 {
@@ -61,7 +62,7 @@ fn put_sites_19_to_24(atoms: &mut [Atom], low: usize, width: usize, from: &[Atom
 /// Writes sites 13 to 18, the western half of the sites at distance 3.
 #[inline]
 fn put_sites_13_to_18(atoms: &mut [Atom], low: usize, width: usize, from: &[Atom; 41])
-    requires small { width ≤ 512 }
+    requires small { width ≤ MOST_COLUMNS }
     requires whole { low + 8 * width + 8 < length atoms.old }
     ensures { atoms.new ≡ with_sites_put atoms.old low width from.now 13 6 }
 {
@@ -76,7 +77,7 @@ fn put_sites_13_to_18(atoms: &mut [Atom], low: usize, width: usize, from: &[Atom
 /// Writes sites 5 to 12, the sites at distance 2.
 #[inline]
 fn put_sites_5_to_12(atoms: &mut [Atom], low: usize, width: usize, from: &[Atom; 41])
-    requires small { width ≤ 512 }
+    requires small { width ≤ MOST_COLUMNS }
     requires whole { low + 8 * width + 8 < length atoms.old }
     ensures { atoms.new ≡ with_sites_put atoms.old low width from.now 5 8 }
 {
@@ -93,7 +94,7 @@ fn put_sites_5_to_12(atoms: &mut [Atom], low: usize, width: usize, from: &[Atom;
 /// Writes sites 0 to 4, the centre and the sites at distance 1.
 #[inline]
 fn put_sites_0_to_4(atoms: &mut [Atom], low: usize, width: usize, from: &[Atom; 41])
-    requires small { width ≤ 512 }
+    requires small { width ≤ MOST_COLUMNS }
     requires whole { low + 8 * width + 8 < length atoms.old }
     ensures { atoms.new ≡ with_sites_put atoms.old low width from.now 0 5 }
 {
@@ -109,7 +110,7 @@ fn put_sites_0_to_4(atoms: &mut [Atom], low: usize, width: usize, from: &[Atom; 
 /// columns start at index `low`.
 #[inline]
 pub fn put_inner(atoms: &mut [Atom], low: usize, width: usize, from: &[Atom; 41])
-    requires small { width ≤ 512 }
+    requires small { width ≤ MOST_COLUMNS }
     requires whole { low + 8 * width + 8 < length atoms.old }
     ensures { atoms.new ≡ with_inner atoms.old low width from.now }
 {

@@ -1,6 +1,7 @@
 //! The marks of a plane: one for each site, in row order.
 ghost use Rattle.std.specs.Prelude.{◌≡◌, ◌≤◌, ◌*◌, length};
-ghost use Rattle.cell_grid.specs.Shut.{cleared, is_inside, widened};
+ghost use Rattle.cell_grid.specs.Shut.{marks_outside, is_inside, widen};
+ghost use Rattle.window_sites.specs.declared.window.TheConstants.{MOST_COLUMNS};
 
 /// A rectangle of columns from `left` to below `right` and rows from `top` to below `bottom`.
 /// Contracts of `Grid::shut` speak of it.
@@ -19,10 +20,10 @@ pub struct Rectangle {
 impl Rectangle {
     /// The rectangle with 4 more columns and rows on each side, as far as there are some. One with
     /// no site stays as it is.
-    pub(crate) fn widened(self) -> Rectangle
-        requires right { self.right ≤ 512 }
-        requires bottom { self.bottom ≤ 512 }
-        ensures { result ≡ widened self }
+    pub(crate) fn widen(self) -> Rectangle
+        requires right { self.right ≤ MOST_COLUMNS }
+        requires bottom { self.bottom ≤ MOST_COLUMNS }
+        ensures { result ≡ widen self }
     {
         if self.left >= self.right || self.top >= self.bottom {
             return self;
@@ -46,8 +47,8 @@ impl Rectangle {
 /// Clears the marks inside a rectangle of a plane with `width` columns.
 pub(crate) fn clear(marks: &mut [bool], width: u32, area: Rectangle)
     requires some { 1 ≤ width }
-    requires short { length marks.old ≤ 512 * 512 }
-    ensures { marks.new ≡ cleared marks.old width area }
+    requires short { length marks.old ≤ MOST_COLUMNS * MOST_COLUMNS }
+    ensures { marks.new ≡ marks_outside marks.old width area }
 {
     for i in 0..marks.len() {
         let place = i as u32;

@@ -7,7 +7,7 @@ use Rattle.sat_math.specs.declared.Kind.{Kind}
 use Rattle.sat_math.specs.declared.Kind.TheVariants as kind
 use Rattle.stack_code.specs.Valid.{number_fits}
 use Rattle.code_file.specs.Instrs.{IsByte, IsField, IsPlace, array_bytes, field_bytes, kind_code}
-use Rattle.code_file.specs.Numbers.{be, signed}
+use Rattle.code_file.specs.Numbers.{be, bytes_of_signed}
 use Rattle.code_file.specs.Reading.{◌>>=◌, any_byte, array_at, byte_at, field_at, fit_at, is_sign, kind_at, kind_of, number_at, part_array_at, part_at, place_at, signed_at, signed_rest, type_at, width_at}
 use Rattle.code_file.specs.declared.field.Field.{Field}
 use Rattle.code_file.proofs.Gathers.{both_laws, made_laws}
@@ -107,7 +107,7 @@ low_bytes (negsuc n) = be 8 (2 ^ 64 - 1 - n)
 abbrev Fits : ℤ → Type 0
 Fits v = number_fits v ≡ true
 
-sign_split : (v : ℤ) → signed v ≡ sign_of v ∷ low_bytes v
+sign_split : (v : ℤ) → bytes_of_signed v ≡ sign_of v ∷ low_bytes v
 sign_split (pos n) = refl
 sign_split (negsuc n) = refl
 
@@ -155,10 +155,10 @@ rest_laws b h = elim (sign_cases b h.1) [
   | inr e ↦ subst (λ k. Laws (signed_rest k) low_bytes (Signed k)) (sym e) below_laws
 ]
 
-pub signed_laws : Laws signed_at signed Fits
+pub signed_laws : Laws signed_at bytes_of_signed Fits
 unfolding signed_at
 signed_laws =
-    bind_laws ℕ ℤ (byte_at is_sign) signed_rest (λ b. b ∷ []) (λ b. (b < 256) × (is_sign b ≡ true)) (λ b. low_bytes) Signed signed Fits
+    bind_laws ℕ ℤ (byte_at is_sign) signed_rest (λ b. b ∷ []) (λ b. (b < 256) × (is_sign b ≡ true)) (λ b. low_bytes) Signed bytes_of_signed Fits
     (record {
       join = λ b v f1 f2. (f2.1, sign_split v ∙ ap (λ k. k ∷ low_bytes v) f2.0);
       split = λ v f. (sign_of v, sign_is v, (refl, f));
@@ -177,7 +177,7 @@ bytes_after [] b p q i = q i
 bytes_after (x ∷ a) b p q zero = p 0
 bytes_after (x ∷ a) b p q (suc i) = bytes_after a b (λ j. p (suc j)) q i
 
-pub signed_bytes : (v : ℤ) → IsBytes (signed v)
+pub signed_bytes : (v : ℤ) → IsBytes (bytes_of_signed v)
 signed_bytes (pos n) zero = omega arith
 signed_bytes (pos n) (suc i) = be_bytes 8 n i
 signed_bytes (negsuc n) zero = omega arith

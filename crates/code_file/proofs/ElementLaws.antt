@@ -10,7 +10,7 @@ use Rattle.stack_code.specs.declared.instr.Operand.{Operand}
 use Rattle.stack_code.specs.declared.instr.Operand.TheVariants.{Number, Atom}
 use Rattle.code_file.specs.Form.{AreElements, CodesValue, ElementValue, IsElement, IsFunction, answer_code, element_bytes, function_bytes, operand_code, slot_bytes}
 use Rattle.code_file.specs.Instrs.{IsInstr, instr_bytes}
-use Rattle.code_file.specs.Numbers.{be, counted, name_bytes}
+use Rattle.code_file.specs.Numbers.{be, with_length, name_bytes}
 use Rattle.code_file.specs.Reading.{◌>>=◌, answer_at, answer_of, element_at, elements_at, elements_from, function_at, functions_at, instr_at, instrs_at, name_at, number_at, operand_of, slot_at, slots_at}
 use Rattle.code_file.specs.Words.{is_name}
 use Rattle.code_file.specs.declared.names.NameForm.TheVariants.{OfElement, OfFunction}
@@ -66,9 +66,9 @@ all_slots (x ∷ xs) = (tt, all_slots xs)
 abbrev FewSlots : List Operand → Type 0
 FewSlots xs = length xs ≤ 72
 
-slots_laws : Laws slots_at (counted 1 slot_bytes) FewSlots
+slots_laws : Laws slots_at (with_length 1 slot_bytes) FewSlots
 unfolding slots_at
-slots_laws = same_laws slots_at (counted 1 slot_bytes) (counted 1 slot_bytes) (λ xs. ((0 ≤ length xs) × (length xs ≤ 72)) × AllByRecursion AnySlot xs) FewSlots
+slots_laws = same_laws slots_at (with_length 1 slot_bytes) (with_length 1 slot_bytes) (λ xs. ((0 ≤ length xs) × (length xs ≤ 72)) × AllByRecursion AnySlot xs) FewSlots
     (counted_laws 1 0 72 slot_at slot_bytes AnySlot (number_whole 1 0 72 (omega arith) (omega arith)) slot_laws)
     (λ xs f. f.0.1) (λ xs f. ((omega arith, f), all_slots xs)) (λ xs f. refl)
 
@@ -77,7 +77,7 @@ UpTo most n = (0 ≤ n) × (n ≤ most)
 
 -- the parts of a function behind some that are known
 abbrev answer_tail : FunctionValue → List ℕ
-answer_tail c = of_answer c.answer ++ counted 1 slot_bytes c.slots
+answer_tail c = of_answer c.answer ++ with_length 1 slot_bytes c.slots
 
 abbrev params_tail : FunctionValue → List ℕ
 params_tail c = be 1 c.params ++ answer_tail c
@@ -127,15 +127,15 @@ record Base (n : List ℕ) (c : FunctionValue) : Type 0 where
 abbrev made_of : List ℕ → ℕ → ℕ → ℕ → Answer → List Operand → FunctionValue
 made_of n b f p a s = record { name = n; base = b; first = f; params = p; slots = s; answer = a }
 
-slots_part : (n : List ℕ) (b f p : ℕ) (a : Answer) → Laws (λ bytes. slots_at bytes >>= λ s. Ok (made_of n b f p a s.0, s.1)) (λ c. counted 1 slot_bytes c.slots) (Slots n b f p a)
-slots_part n b f p a = made_laws slots_at (made_of n b f p a) (counted 1 slot_bytes) FewSlots (λ (c : FunctionValue). counted 1 slot_bytes c.slots) (Slots n b f p a) slots_laws
+slots_part : (n : List ℕ) (b f p : ℕ) (a : Answer) → Laws (λ bytes. slots_at bytes >>= λ s. Ok (made_of n b f p a s.0, s.1)) (λ c. with_length 1 slot_bytes c.slots) (Slots n b f p a)
+slots_part n b f p a = made_laws slots_at (made_of n b f p a) (with_length 1 slot_bytes) FewSlots (λ (c : FunctionValue). with_length 1 slot_bytes c.slots) (Slots n b f p a) slots_laws
     (λ s h. (record { name = refl; base = refl; first = refl; params = refl; answer = refl; slots = h }, refl))
     (λ c h. (c.slots, h.slots, λ i. made_of (h.name i) (h.base i) (h.first i) (h.params i) (h.answer i) c.slots))
 
 answer_part : (n : List ℕ) (b f p : ℕ) → Laws (λ bytes. answer_at bytes >>= λ a. slots_at a.1 >>= λ s. Ok (made_of n b f p a.0 s.0, s.1)) answer_tail (Answered n b f p)
-answer_part n b f p = bind_laws Answer FunctionValue answer_at (λ a bytes. slots_at bytes >>= λ s. Ok (made_of n b f p a s.0, s.1)) of_answer AnyAnswer (λ a c. counted 1 slot_bytes c.slots) (Slots n b f p) answer_tail (Answered n b f p)
+answer_part n b f p = bind_laws Answer FunctionValue answer_at (λ a bytes. slots_at bytes >>= λ s. Ok (made_of n b f p a s.0, s.1)) of_answer AnyAnswer (λ a c. with_length 1 slot_bytes c.slots) (Slots n b f p) answer_tail (Answered n b f p)
     (record {
-      join = λ a c f1 h. (record { name = h.name; base = h.base; first = h.first; params = h.params; slots = h.slots }, ap (λ x. of_answer x ++ counted 1 slot_bytes c.slots) h.answer);
+      join = λ a c f1 h. (record { name = h.name; base = h.base; first = h.first; params = h.params; slots = h.slots }, ap (λ x. of_answer x ++ with_length 1 slot_bytes c.slots) h.answer);
       split = λ c h. (c.answer, tt, record { name = h.name; base = h.base; first = h.first; params = h.params; answer = refl; slots = h.slots });
     }) answer_laws (λ a h. slots_part n b f p a)
 
@@ -173,11 +173,11 @@ function_laws = bind_laws (List ℕ) FunctionValue (name_at OfFunction) (λ n by
 abbrev Many : {A : Type 0} → (A → Type 0) → List A → Type 0
 Many F xs = ((1 ≤ length xs) × (length xs ≤ 65536)) × AllByRecursion F xs
 
-functions_laws : Laws functions_at (counted 4 function_bytes) (Many IsFunction)
+functions_laws : Laws functions_at (with_length 4 function_bytes) (Many IsFunction)
 unfolding functions_at
 functions_laws = counted_laws 4 1 65536 function_at function_bytes IsFunction (number_whole 4 1 65536 (omega arith) (omega arith)) function_laws
 
-instrs_laws : (most : ℕ) → most ≤ 65535 → Laws (instrs_at most) (counted 4 instr_bytes) (Many (IsInstr most))
+instrs_laws : (most : ℕ) → most ≤ 65535 → Laws (instrs_at most) (with_length 4 instr_bytes) (Many (IsInstr most))
 unfolding instrs_at
 instrs_laws most low = counted_laws 4 1 65536 (instr_at most) instr_bytes (IsInstr most) (number_whole 4 1 65536 (omega arith) (omega arith)) (instr_laws most low)
 
@@ -185,7 +185,7 @@ abbrev element_of : List ℕ → ℕ → List FunctionValue → List Instr → E
 element_of n k fs is = record { name = n; code = record { kind = k; functions = fs; instrs = is } }
 
 abbrev functions_tail : ElementValue → List ℕ
-functions_tail e = counted 4 function_bytes e.code.functions ++ counted 4 instr_bytes e.code.instrs
+functions_tail e = with_length 4 function_bytes e.code.functions ++ with_length 4 instr_bytes e.code.instrs
 
 record HasInstrs (most kind : ℕ) (n : List ℕ) (fs : List FunctionValue) (e : ElementValue) : Type 0 where
   pub name : e.name ≡ n
@@ -207,12 +207,12 @@ element_laws most kind low =
       join = λ n e f1 h. (record { name = ap is_type_name h.name ∙ f1; kind_is = h.kind_is; some_functions = h.functions.0.0; few_functions = h.functions.0.1; functions = h.functions.1; some_instrs = h.instrs.0.0; few_instrs = h.instrs.0.1; instrs = h.instrs.1 }, ap (λ x. name_bytes x ++ functions_tail e) h.name);
       split = λ e h. (e.name, h.name, record { name = refl; kind_is = h.kind_is; functions = ((h.some_functions, h.few_functions), h.functions); instrs = ((h.some_instrs, h.few_instrs), h.instrs) });
     }) (name_laws OfElement) (λ n h.
-    bind_laws (List FunctionValue) ElementValue functions_at (λ fs bytes. instrs_at most bytes >>= λ is. Ok (element_of n kind fs is.0, is.1)) (counted 4 function_bytes) (Many IsFunction) (λ fs e. counted 4 instr_bytes e.code.instrs) (HasInstrs most kind n) functions_tail (HasFunctions most kind n)
+    bind_laws (List FunctionValue) ElementValue functions_at (λ fs bytes. instrs_at most bytes >>= λ is. Ok (element_of n kind fs is.0, is.1)) (with_length 4 function_bytes) (Many IsFunction) (λ fs e. with_length 4 instr_bytes e.code.instrs) (HasInstrs most kind n) functions_tail (HasFunctions most kind n)
     (record {
-      join = λ fs e f1 h. (record { name = h.name; kind_is = h.kind_is; functions = subst (Many IsFunction) (sym h.functions) f1; instrs = h.instrs }, ap (λ x. counted 4 function_bytes x ++ counted 4 instr_bytes e.code.instrs) h.functions);
+      join = λ fs e f1 h. (record { name = h.name; kind_is = h.kind_is; functions = subst (Many IsFunction) (sym h.functions) f1; instrs = h.instrs }, ap (λ x. with_length 4 function_bytes x ++ with_length 4 instr_bytes e.code.instrs) h.functions);
       split = λ e h. (e.code.functions, h.functions, record { name = h.name; kind_is = h.kind_is; functions = refl; instrs = h.instrs });
     }) functions_laws (λ fs h.
-    made_laws (instrs_at most) (element_of n kind fs) (counted 4 instr_bytes) (Many (IsInstr most)) (λ (e : ElementValue). counted 4 instr_bytes e.code.instrs) (HasInstrs most kind n fs) (instrs_laws most low)
+    made_laws (instrs_at most) (element_of n kind fs) (with_length 4 instr_bytes) (Many (IsInstr most)) (λ (e : ElementValue). with_length 4 instr_bytes e.code.instrs) (HasInstrs most kind n fs) (instrs_laws most low)
     (λ is g. (record { name = refl; kind_is = refl; functions = refl; instrs = g }, refl))
     (λ e g. (e.code.instrs, g.instrs, λ i. element_of (g.name i) (g.kind_is i) (g.functions i) e.code.instrs))))
 
@@ -242,10 +242,10 @@ turns_laws n few = same_laws (elements_from n n []) (flat_map element_bytes) (fl
     (gather_laws ElementValue (λ done left. element_at n (length done + 1)) element_bytes (InTurn n) (λ done left. Unit {0}) (λ done k can. element_laws n (length done + 1) (omega (arith, few))) (λ done k e can f. tt) n tt)
     (to_turn n n []) (of_turn n n []) (λ es f. refl)
 
-pub elements_laws : Laws elements_at (counted 2 element_bytes) AreSaid
+pub elements_laws : Laws elements_at (with_length 2 element_bytes) AreSaid
 unfolding elements_at
 elements_laws =
-    bind_laws ℕ CodesValue (number_at 2 0 256) (λ n. elements_from n n []) (be 2) (UpTo 256) (λ n. flat_map element_bytes) (λ n es. (length es ≡ n) × AreElements n 1 es) (counted 2 element_bytes) AreSaid
+    bind_laws ℕ CodesValue (number_at 2 0 256) (λ n. elements_from n n []) (be 2) (UpTo 256) (λ n. flat_map element_bytes) (λ n es. (length es ≡ n) × AreElements n 1 es) (with_length 2 element_bytes) AreSaid
     (record {
       join = λ n es f1 h. ((omega (arith, f1.1, h.0), subst (λ k. AreElements k 1 es) (sym h.0) h.1), ap (λ k. be 2 k ++ flat_map element_bytes es) h.0);
       split = λ es h. (length es, (omega arith, h.0), (refl, h.1));

@@ -2,10 +2,10 @@
 use Rattle.std.proofs.Common.{◌≡◌, ◌≢◌, ℕ, zero, suc, ◌+◌, ◌-◌, ◌<◌, ◌≤◌, List, [], ◌∷◌, ◌++◌, length, take, drop, Result, Ok, Err, refl, sym, ap, subst, ◌∙◌, append_assoc, length-append, length-drop, take-append-drop, arith, inl, inr}
 use Rattle.std.proofs.lemmas.List.{append-nil, append_cancel_left, take-append-le, take_at}
 use Rattle.code_file.specs.Form.{Begins, CodesValue, IsFile, IsFirstBad, IsSayable, element_bytes, magic}
-use Rattle.code_file.specs.Judging.{Answers, IsJudged, IsWithin, Reads, Tells, fault_of, judged}
+use Rattle.code_file.specs.Judging.{Answers, IsJudged, IsWithin, Reads, Tells, fault_of, right_elements}
 use Rattle.code_file.specs.declared.halt.Halt.{Halt}
 use Rattle.code_file.specs.declared.halt.Halt.TheVariants as halt
-use Rattle.code_file.specs.Numbers.{counted}
+use Rattle.code_file.specs.Numbers.{with_length}
 use Rattle.code_file.specs.Reading.{◌>>=◌, Fails, alone, body_at, elements_at}
 use Rattle.code_file.specs.declared.fault.CodeFault.{CodeFault}
 use Rattle.code_file.specs.declared.fault.CodeFault.TheVariants.{BadMagic, BadForm, NotValid, SameName, NoMemory}
@@ -14,7 +14,7 @@ use Rattle.code_file.proofs.Judges.{never_form, never_magic}
 use Rattle.code_file.proofs.Laws.{IsBytes, IsWrong, Stops, bind_err, bind_ok, ok_parts}
 
 abbrev body_bytes : CodesValue → List ℕ
-body_bytes es = counted 2 element_bytes es
+body_bytes es = with_length 2 element_bytes es
 
 abbrev parts_of : CodesValue → List ℕ → CodesValue × List ℕ
 parts_of es rest = (es, rest)
@@ -132,7 +132,7 @@ first_bad bytes left column m bs e col =
 
 -- one reading has the bytes
 judged_one : (bytes : List ℕ) (r s : Result CodesValue CodeFault) → IsJudged bytes r → IsJudged bytes s → r ≡ s
-judged_one bytes r s a b = sym a.judged_is ∙ ap (judged []) (one_file bytes a.says b.says a.is_file b.is_file) ∙ b.judged_is
+judged_one bytes r s a b = sym a.judged_is ∙ ap (right_elements []) (one_file bytes a.says b.says a.is_file b.is_file) ∙ b.judged_is
 
 no_magic : {A : Type 0} (bytes : List ℕ) (r : Result CodesValue CodeFault) → (take 8 bytes ≡ magic → ⊥) → IsJudged bytes r → A
 no_magic bytes r h a = absurd (h (file_magic bytes a.says a.is_file))
@@ -195,7 +195,7 @@ answers_of bytes (Err (SameName c)) t r h = reads_one bytes r (Err (SameName c))
 answers_of bytes (Err NoMemory) t r h = tt
 
 -- a file that has the form is judged
-pub judged_tells : (bytes : List ℕ) (es : CodesValue) → IsFile bytes es → (judged [] es ≢ fault BadMagic) → ((column : ℕ) → judged [] es ≢ fault (BadForm column)) → (result : Result CodesValue CodeFault) → Answers (judged [] es) result → Tells bytes result
+pub judged_tells : (bytes : List ℕ) (es : CodesValue) → IsFile bytes es → (right_elements [] es ≢ fault BadMagic) → ((column : ℕ) → right_elements [] es ≢ fault (BadForm column)) → (result : Result CodesValue CodeFault) → Answers (right_elements [] es) result → Tells bytes result
 judged_tells bytes es f a b (Ok xs) h = record { says = es; is_file = f; judged_is = h }
 judged_tells bytes es f a b (Err BadMagic) h = absurd (a h)
 judged_tells bytes es f a b (Err (BadForm c)) h = absurd (b c h)
@@ -216,5 +216,5 @@ pub bad_tells : (bytes : List ℕ) (h : Halt) → IsBytes bytes → take 8 bytes
 bad_tells bytes halt.NoMemory bs m f = tt
 bad_tells bytes (halt.Bad left) bs m f = (m, first_bad bytes left (length bytes - left + 1) m (bytes_behind 8 bytes bs) f refl)
 
-pub good_tells : (bytes : List ℕ) (es : CodesValue) (result : Result CodesValue CodeFault) → IsBytes bytes → take 8 bytes ≡ magic → body_at (drop 8 bytes) ≡ Ok es → Answers (judged [] es) result → Tells bytes result
+pub good_tells : (bytes : List ℕ) (es : CodesValue) (result : Result CodesValue CodeFault) → IsBytes bytes → take 8 bytes ≡ magic → body_at (drop 8 bytes) ≡ Ok es → Answers (right_elements [] es) result → Tells bytes result
 good_tells bytes es result bs m e h = judged_tells bytes es (file_is bytes es m (bytes_behind 8 bytes bs) e) (never_magic es []) (λ column. never_form column es []) result h

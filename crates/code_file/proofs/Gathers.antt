@@ -2,12 +2,12 @@
 use Rattle.std.proofs.Common.{◌≡◌, ℕ, zero, suc, ◌≤◌, List, [], ◌∷◌, ◌++◌, length, drop, Ok, refl, sym, ap, subst, ◌∙◌, append_assoc, arith}
 use Rattle.std.specs.List.{AllByRecursion, flat_map}
 use Rattle.std.proofs.lemmas.List.{append-nil, drop_at, drop_all}
-use Rattle.code_file.specs.Numbers.{be, counted}
-use Rattle.code_file.specs.Reading.{Reader, ◌>>=◌, both, counted_at, gather, made, number_at, times}
+use Rattle.code_file.specs.Numbers.{be, with_length}
+use Rattle.code_file.specs.Reading.{Reader, ◌>>=◌, both, counted_at, gather, map_reader, number_at, times}
 use Rattle.code_file.proofs.Laws.{Laws, bind_laws, pure_laws, same_laws}
 
 pub made_laws : {A B : Type 0} (r : Reader A) (f : A → B) (sp1 : A → List ℕ) (F1 : A → Type 0) (sp : B → List ℕ) (F : B → Type 0) → Laws r sp1 F1
-    → ((a : A) → F1 a → F (f a) × (sp (f a) ≡ sp1 a)) → ((b : B) → F b → (a : A) × F1 a × (b ≡ f a)) → Laws (made r f) sp F
+    → ((a : A) → F1 a → F (f a) × (sp (f a) ≡ sp1 a)) → ((b : B) → F b → (a : A) × F1 a × (b ≡ f a)) → Laws (map_reader r f) sp F
 made_laws {A = A} {B = B} r f sp1 F1 sp F l to from =
     bind_laws A B r (λ a bytes. Ok (f a, bytes)) sp1 F1 (λ a c. []) (λ a c. c ≡ f a) sp F
     (record {
@@ -95,9 +95,9 @@ times_laws {A = A} r sp F n l =
 
 -- a list behind its length
 pub counted_laws : {A : Type 0} (w least greatest : ℕ) (r : Reader A) (sp : A → List ℕ) (F : A → Type 0) → Laws (number_at w least greatest) (be w) (λ n. (least ≤ n) × (n ≤ greatest)) → Laws r sp F
-    → Laws (counted_at w least greatest r) (counted w sp) (λ xs. ((least ≤ length xs) × (length xs ≤ greatest)) × AllByRecursion F xs)
+    → Laws (counted_at w least greatest r) (with_length w sp) (λ xs. ((least ≤ length xs) × (length xs ≤ greatest)) × AllByRecursion F xs)
 counted_laws {A = A} w least greatest r sp F number l =
-    bind_laws ℕ (List A) (number_at w least greatest) (λ n. times r n) (be w) (λ n. (least ≤ n) × (n ≤ greatest)) (λ n. flat_map sp) (λ n xs. (length xs ≡ n) × AllByRecursion F xs) (counted w sp) (λ xs. ((least ≤ length xs) × (length xs ≤ greatest)) × AllByRecursion F xs)
+    bind_laws ℕ (List A) (number_at w least greatest) (λ n. times r n) (be w) (λ n. (least ≤ n) × (n ≤ greatest)) (λ n. flat_map sp) (λ n xs. (length xs ≡ n) × AllByRecursion F xs) (with_length w sp) (λ xs. ((least ≤ length xs) × (length xs ≤ greatest)) × AllByRecursion F xs)
     (record {
       join = λ n xs f1 f2. ((subst (λ k. (least ≤ k) × (k ≤ greatest)) (sym f2.0) f1, f2.1), ap (λ k. be w k ++ flat_map sp xs) f2.0);
       split = λ xs f. (length xs, f.0, (refl, f.1));

@@ -6,8 +6,8 @@ use Rattle.stack_code.specs.Valid.{number_fits}
 use Rattle.stack_code.specs.declared.instr.Instr.{Instr}
 use Rattle.stack_code.specs.declared.instr.Instr.TheVariants.{PushNum, PushAtom, LoadLocal, StoreLocal, Pop, LoadField, StoreField, LoadPart, StorePart, LoadSelf, LoadSite, StoreSite, Swap, IsLive, IsEmpty, RandCreate, RandOneIn, IsKind, AddI, SubI, MulI, DivI, RemI, AddU, SubU, MulU, DivU, RemU, NegI, And, Or, Xor, NotW, Shl, Shr, Fit, NotB, Eq, Ne, Lt, Le, Gt, Ge, Jump, JumpFalse, Turn, Call, Return, ReturnVoid, AddL, SubL, MulL, DivL, RemL, AddV, SubV, MulV, DivV, RemV, NegL, Dup, LoadFieldAt, StoreFieldAt, LoadPartAt, StorePartAt}
 use Rattle.code_file.specs.Instrs.{IsByte, IsInstr, IsPlace, args_bytes, array_bytes, field_bytes, instr_bytes, kind_code, opcode}
-use Rattle.code_file.specs.Numbers.{be, signed}
-use Rattle.code_file.specs.Reading.{Reader, ◌>>=◌, any_byte, args_at, args_readers, array_at, field_at, fit_at, instr_at, made, number_at, part_array_at, part_at, place_at, plain, signed_at, type_at, width_at}
+use Rattle.code_file.specs.Numbers.{be, bytes_of_signed}
+use Rattle.code_file.specs.Reading.{Reader, ◌>>=◌, any_byte, args_at, args_readers, array_at, field_at, fit_at, instr_at, map_reader, number_at, part_array_at, part_at, place_at, plain, signed_at, type_at, width_at}
 use Rattle.code_file.specs.declared.field.Field.{Field}
 use Rattle.code_file.proofs.ArgLaws.{AnyKind, FieldFits, any_laws, array_are, array_laws, be_bytes, bytes_after, field_are, field_laws, fit_laws, kind_bytes, of_field, part_array_laws, part_laws, place_laws, signed_bytes, signed_laws, type_laws, width_laws}
 use Rattle.code_file.proofs.Gathers.{made_laws}
@@ -27,7 +27,7 @@ plain_entry most code i named fits none = record {
   means = λ j f. (ap opcode f ∙ named, subst (IsInstr most) (sym f) fits);
 }
 
-made_entry : {A : Type 0} (most code : ℕ) (r : Reader A) (make : A → Instr) (sp : A → List ℕ) (F : A → Type 0) → Laws r sp F → ((a : A) → args_bytes (make a) ≡ sp a) → ((a : A) → F a → (opcode (make a) ≡ code) × IsInstr most (make a)) → Entry most code (made r make)
+made_entry : {A : Type 0} (most code : ℕ) (r : Reader A) (make : A → Instr) (sp : A → List ℕ) (F : A → Type 0) → Laws r sp F → ((a : A) → args_bytes (make a) ≡ sp a) → ((a : A) → F a → (opcode (make a) ≡ code) × IsInstr most (make a)) → Entry most code (map_reader r make)
 made_entry {A = A} most code r make sp F l spelled fits = record {
   form = λ i. (a : A) × F a × (i ≡ make a);
   laws = made_laws r make sp F args_bytes (λ i. (a : A) × F a × (i ≡ make a)) l (λ a f. ((a, f, refl), spelled a)) (λ i f. f);
@@ -45,7 +45,7 @@ entry_at most from (r ∷ rs) d es (suc k) lt = let e : suc from + k ≡ from + 
 
 all_entries : (most : ℕ) → most ≤ 65535 → Entries most 0 (args_readers most)
 all_entries most low = (
-  made_entry most 0 signed_at PushNum signed (λ v. number_fits v ≡ true) signed_laws (λ a. refl) (λ a f. (refl, f)),
+  made_entry most 0 signed_at PushNum bytes_of_signed (λ v. number_fits v ≡ true) signed_laws (λ a. refl) (λ a f. (refl, f)),
   (
     made_entry most 1 (type_at most) PushAtom (be 2) (λ k. k ≤ most) (type_laws most low) (λ a. refl) (λ a f. (refl, f)),
     (
@@ -241,13 +241,13 @@ all_entries most low = (
   ),
 )
 
-made_again : {A : Type 0} (r : Reader A) (make : A → Instr) (sp : A → List ℕ) (F : A → Type 0) → Laws r sp F → (a : A) (rest : List ℕ) → F a → made r make (sp a ++ rest) ≡ Ok (make a, rest)
+made_again : {A : Type 0} (r : Reader A) (make : A → Instr) (sp : A → List ℕ) (F : A → Type 0) → Laws r sp F → (a : A) (rest : List ℕ) → F a → map_reader r make (sp a ++ rest) ≡ Ok (make a, rest)
 made_again {A = A} r make sp F l a rest f = ap (λ (o : Result (A × List ℕ) ℕ). o >>= λ x. Ok (make x.0, x.1)) (l.again a rest f)
 
 -- the arguments of an instruction are read again
 again : (most : ℕ) → most ≤ 65535 → (i : Instr) (rest : List ℕ) → IsInstr most i → args_at most (opcode i) (args_bytes i ++ rest) ≡ Ok (i, rest)
 unfolding args_at
-again most low (PushNum v) rest h = made_again signed_at PushNum signed (λ v. number_fits v ≡ true) signed_laws v rest h
+again most low (PushNum v) rest h = made_again signed_at PushNum bytes_of_signed (λ v. number_fits v ≡ true) signed_laws v rest h
 again most low (PushAtom k) rest h = made_again (type_at most) PushAtom (be 2) (λ k. k ≤ most) (type_laws most low) k rest h
 again most low (LoadLocal s) rest h = made_again any_byte LoadLocal (be 1) IsByte any_laws s rest h
 again most low (StoreLocal s) rest h = made_again any_byte StoreLocal (be 1) IsByte any_laws s rest h

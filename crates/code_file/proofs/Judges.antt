@@ -5,7 +5,7 @@ use Rattle.std.specs.Prelude.{Option, Some, None, if◌then◌else◌}
 use Rattle.stack_code.specs.Machine.{CodeValue}
 use Rattle.stack_code.specs.Valid.{valid}
 use Rattle.code_file.specs.Form.{CodesValue, ElementValue, names_of}
-use Rattle.code_file.specs.Judging.{Admits, Answers, column_behind, is_among, judged}
+use Rattle.code_file.specs.Judging.{Admits, Answers, column_behind, is_among, right_elements}
 use Rattle.code_file.specs.declared.fault.CodeFault.{CodeFault}
 use Rattle.code_file.specs.declared.fault.CodeFault.TheVariants.{BadMagic, BadForm, NotValid, SameName, NoMemory}
 
@@ -26,13 +26,13 @@ stops false true column done rest f h = absurd cc
 stops false false column done rest f h = let e : NotValid column ≡ f = cc in ap Err e
 
 -- an element that is right is passed over
-pub judged_on : (done : CodesValue) (e : ElementValue) (es all : CodesValue) → judged done (e ∷ []) ≡ Ok all → judged done (e ∷ es) ≡ judged all es
+pub judged_on : (done : CodesValue) (e : ElementValue) (es all : CodesValue) → right_elements done (e ∷ []) ≡ Ok all → right_elements done (e ∷ es) ≡ right_elements all es
 judged_on done e es all h =
-    let g = goes (is_among e.name (names_of done)) (valid e.code) (column_behind done) (done ++ e ∷ []) all (judged (done ++ e ∷ []) es) h in
-    g.1 ∙ ap (λ xs. judged xs es) g.0
+    let g = goes (is_among e.name (names_of done)) (valid e.code) (column_behind done) (done ++ e ∷ []) all (right_elements (done ++ e ∷ []) es) h in
+    g.1 ∙ ap (λ xs. right_elements xs es) g.0
 
-pub judged_stops : (done : CodesValue) (e : ElementValue) (es : CodesValue) (f : CodeFault) → judged done (e ∷ []) ≡ Err f → judged done (e ∷ es) ≡ Err f
-judged_stops done e es f h = stops (is_among e.name (names_of done)) (valid e.code) (column_behind done) (done ++ e ∷ []) (judged (done ++ e ∷ []) es) f h
+pub judged_stops : (done : CodesValue) (e : ElementValue) (es : CodesValue) (f : CodeFault) → right_elements done (e ∷ []) ≡ Err f → right_elements done (e ∷ es) ≡ Err f
+judged_stops done e es f h = stops (is_among e.name (names_of done)) (valid e.code) (column_behind done) (done ++ e ∷ []) (right_elements (done ++ e ∷ []) es) f h
 
 abbrev fault : CodeFault → Verdict
 fault f = Err f
@@ -43,13 +43,13 @@ other true v column rest f p q r = p
 other false true column rest f p q r = r
 other false false column rest f p q r = q
 
-pub never_magic : (es done : CodesValue) → judged done es ≢ Err BadMagic
+pub never_magic : (es done : CodesValue) → right_elements done es ≢ Err BadMagic
 never_magic [] done h = cc
-never_magic (e ∷ es) done h = other (is_among e.name (names_of done)) (valid e.code) (column_behind done) (judged (done ++ e ∷ []) es) BadMagic (λ h. cc) (λ h. cc) (never_magic es (done ++ e ∷ [])) h
+never_magic (e ∷ es) done h = other (is_among e.name (names_of done)) (valid e.code) (column_behind done) (right_elements (done ++ e ∷ []) es) BadMagic (λ h. cc) (λ h. cc) (never_magic es (done ++ e ∷ [])) h
 
-pub never_form : (column : ℕ) (es done : CodesValue) → judged done es ≢ Err (BadForm column)
+pub never_form : (column : ℕ) (es done : CodesValue) → right_elements done es ≢ Err (BadForm column)
 never_form column [] done h = cc
-never_form column (e ∷ es) done h = other (is_among e.name (names_of done)) (valid e.code) (column_behind done) (judged (done ++ e ∷ []) es) (BadForm column) (λ h. cc) (λ h. cc) (never_form column es (done ++ e ∷ [])) h
+never_form column (e ∷ es) done h = other (is_among e.name (names_of done)) (valid e.code) (column_behind done) (right_elements (done ++ e ∷ []) es) (BadForm column) (λ h. cc) (λ h. cc) (never_form column es (done ++ e ∷ [])) h
 
 pub same_name : (a v : Bool) (column n : ℕ) (rest : Verdict) → a ≡ true → n ≡ column → verdict a v column rest ≡ fault (SameName n)
 same_name true v column n rest h e = ap (λ k. fault (SameName k)) (sym e)
@@ -86,7 +86,7 @@ refused raw o a b = by (valid raw) refl (sym b ∙ a)
     by false e h = e
 
 -- a refusal, behind those that were right
-pub admit_stops : (T : Type 0) (done : CodesValue) (e : ElementValue) (es new : CodesValue) (total : Verdict) (f : CodeFault) → Admits {T = T} done e new (Err f) → judged done (e ∷ es) ≡ total → Answers total (Err f)
+pub admit_stops : (T : Type 0) (done : CodesValue) (e : ElementValue) (es new : CodesValue) (total : Verdict) (f : CodeFault) → Admits {T = T} done e new (Err f) → right_elements done (e ∷ es) ≡ total → Answers total (Err f)
 admit_stops T done e es new total BadMagic h t = absurd h
 admit_stops T done e es new total (BadForm c) h t = absurd h
 admit_stops T done e es new total (SameName c) h t = sym t ∙ judged_stops done e es (SameName c) h

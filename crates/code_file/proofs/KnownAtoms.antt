@@ -17,7 +17,7 @@ use Rattle.stack_code.specs.declared.instr.Operand.{Operand}
 use Rattle.stack_code.specs.declared.instr.Operand.TheVariants.{Number, Atom}
 use Rattle.stack_code.specs.declared.instr.Instr.{Instr}
 use Rattle.stack_code.specs.declared.instr.Instr.TheVariants.{PushAtom}
-use Rattle.stack_code.specs.Machine.{CodeValue, FunctionValue, Frame, State, Held, Led, ending, Goes, Fails, Ends, Lacks, fill, fresh, now, at_self, on_own, at_site, at_bound, at_index, result_of, with_part, on_slot, atom_in, on_part, on_top, on_number, on_atom, on_numbers, kept, put_own, put_slot, work, onward, on_turn, on_test, enter, enter_with, into, back, back_one, go_by, step, step_on, and_then, iter, runs, start, start_with}
+use Rattle.stack_code.specs.Machine.{CodeValue, FunctionValue, Frame, State, Held, Led, ending, Goes, Fails, Ends, Lacks, fill, fresh, now, at_self, on_own, at_site, at_bound, at_index, result_of, with_part, on_slot, atom_in, on_part, on_top, on_number, on_atom, on_numbers, kept_bits, put_own, put_slot, work, onward, on_turn, on_test, enter, enter_with, into, back, back_one, go_by, step, step_on, and_then, iter, runs, start, start_with}
 use Rattle.code_file.specs.Acting.{after, after_by, code_of, left_by}
 use Rattle.code_file.specs.Form.{AreElements, CodesValue, IsSayable, codes_of}
 use Rattle.code_file.specs.Instrs.{IsInstr}
@@ -210,9 +210,9 @@ module _ (n : ℕ) where
   work_known kind some (Store i) g h k = on_top_known h.stack (λ x s. Goes (record h { stack = s; slots = slice_set h.slots i x })) k.stack (λ x s l m. record { stack = m; slots = set_known h.slots k.slots i x l; window = k.window })
   work_known kind some Drop g h k = on_top_known h.stack (λ x s. now h s) k.stack (λ x s l m. with_stack h s k m)
   work_known kind some (Field f t) g h k = self_known kind h.window (λ a. now h (ANumber (get_field a f t) ∷ h.stack)) k.window (λ a e l. with_stack h (ANumber (get_field a f t) ∷ h.stack) k (tt, k.stack))
-  work_known kind some (SetField f t) g h k = on_number_known h.stack (λ v s. at_self kind h.window (λ a. put_own h s (with_field a f t.width (kept t v)))) k.stack (λ v s m. self_known kind h.window (λ a. put_own h s (with_field a f t.width (kept t v))) k.window (λ a e l. with_own h s (with_field a f t.width (kept t v)) k m (own_known kind some a f t.width (kept t v) e l)))
+  work_known kind some (SetField f t) g h k = on_number_known h.stack (λ v s. at_self kind h.window (λ a. put_own h s (with_field a f t.width (kept_bits t v)))) k.stack (λ v s m. self_known kind h.window (λ a. put_own h s (with_field a f t.width (kept_bits t v))) k.window (λ a e l. with_own h s (with_field a f t.width (kept_bits t v)) k m (own_known kind some a f t.width (kept_bits t v) e l)))
   work_known kind some (Part i f t) g h k = on_part_known (atom_in (slice_get h.slots i)) (λ a. now h (ANumber (get_field a f t) ∷ h.stack)) (slot_atom h i k) (λ a l. with_stack h (ANumber (get_field a f t) ∷ h.stack) k (tt, k.stack))
-  work_known kind some (SetPart i f t) g h k = on_number_known h.stack (λ v s. on_part (atom_in (slice_get h.slots i)) (λ a. put_slot h s i (with_part a f t.width (kept t v)))) k.stack (λ v s m. on_part_known (atom_in (slice_get h.slots i)) (λ a. put_slot h s i (with_part a f t.width (kept t v))) (slot_atom h i k) (λ a l. with_slot h s i (with_part a f t.width (kept t v)) k m (part_known a f t.width (kept t v) l)))
+  work_known kind some (SetPart i f t) g h k = on_number_known h.stack (λ v s. on_part (atom_in (slice_get h.slots i)) (λ a. put_slot h s i (with_part a f t.width (kept_bits t v)))) k.stack (λ v s m. on_part_known (atom_in (slice_get h.slots i)) (λ a. put_slot h s i (with_part a f t.width (kept_bits t v))) (slot_atom h i k) (λ a l. with_slot h s i (with_part a f t.width (kept_bits t v)) k m (part_known a f t.width (kept_bits t v) l)))
   work_known kind some Own g h k = self_known kind h.window (λ a. now h (AnAtom a ∷ h.stack)) k.window (λ a e l. with_stack h (AnAtom a ∷ h.stack) k (l, k.stack))
   work_known kind some Site g h k = on_number_known h.stack (λ i s. at_site i (λ m. now h (AnAtom (atom_at h.window m) ∷ s))) k.stack (λ i s l. site_known i (λ m. now h (AnAtom (atom_at h.window m) ∷ s)) (λ m. with_stack h (AnAtom (atom_at h.window m) ∷ s) k (k.window m, l)))
   work_known kind some SetSite g h k = on_atom_known h.stack (λ a s. on_number s (λ i s1. at_site i (λ m. Goes (record h { stack = s1; window = put_at h.window m a })))) k.stack (λ a s f l. on_number_known s (λ i s1. at_site i (λ m. Goes (record h { stack = s1; window = put_at h.window m a }))) l (λ i s1 l1. site_known i (λ m. Goes (record h { stack = s1; window = put_at h.window m a })) (λ m. record { stack = l1; slots = k.slots; window = put_known h.window m a f k.window })))
@@ -222,9 +222,9 @@ module _ (n : ℕ) where
   work_known kind some (Same j) g h k = on_atom_known h.stack (λ a s. now h (ANumber (of_bool (nat_eq a.kind j)) ∷ s)) k.stack (λ a s f l. with_stack h (ANumber (of_bool (nat_eq a.kind j)) ∷ s) k (tt, l))
   work_known kind some Double g h k = on_number_known h.stack (λ v s. now h (ANumber v ∷ ANumber v ∷ s)) k.stack (λ v s l. with_stack h (ANumber v ∷ ANumber v ∷ s) k (tt, (tt, l)))
   work_known kind some (FieldAt f t m) g h k = on_number_known h.stack (λ i s. at_self kind h.window (λ a. at_index i m (λ j. now h (ANumber (get_field a (f + j * t.width) t) ∷ s)))) k.stack (λ i s l. self_known kind h.window (λ a. at_index i m (λ j. now h (ANumber (get_field a (f + j * t.width) t) ∷ s))) k.window (λ a e p. index_known i m (λ j. now h (ANumber (get_field a (f + j * t.width) t) ∷ s)) (λ j. with_stack h (ANumber (get_field a (f + j * t.width) t) ∷ s) k (tt, l))))
-  work_known kind some (SetFieldAt f t m) g h k = on_numbers_known h.stack (λ i v s. at_self kind h.window (λ a. at_index i m (λ j. put_own h s (with_field a (f + j * t.width) t.width (kept t v))))) k.stack (λ i v s l. self_known kind h.window (λ a. at_index i m (λ j. put_own h s (with_field a (f + j * t.width) t.width (kept t v)))) k.window (λ a e p. index_known i m (λ j. put_own h s (with_field a (f + j * t.width) t.width (kept t v))) (λ j. with_own h s (with_field a (f + j * t.width) t.width (kept t v)) k l (own_known kind some a (f + j * t.width) t.width (kept t v) e p))))
+  work_known kind some (SetFieldAt f t m) g h k = on_numbers_known h.stack (λ i v s. at_self kind h.window (λ a. at_index i m (λ j. put_own h s (with_field a (f + j * t.width) t.width (kept_bits t v))))) k.stack (λ i v s l. self_known kind h.window (λ a. at_index i m (λ j. put_own h s (with_field a (f + j * t.width) t.width (kept_bits t v)))) k.window (λ a e p. index_known i m (λ j. put_own h s (with_field a (f + j * t.width) t.width (kept_bits t v))) (λ j. with_own h s (with_field a (f + j * t.width) t.width (kept_bits t v)) k l (own_known kind some a (f + j * t.width) t.width (kept_bits t v) e p))))
   work_known kind some (PartAt q f t m) g h k = on_number_known h.stack (λ i s. on_part (atom_in (slice_get h.slots q)) (λ a. at_index i m (λ j. now h (ANumber (get_field a (f + j * t.width) t) ∷ s)))) k.stack (λ i s l. on_part_known (atom_in (slice_get h.slots q)) (λ a. at_index i m (λ j. now h (ANumber (get_field a (f + j * t.width) t) ∷ s))) (slot_atom h q k) (λ a p. index_known i m (λ j. now h (ANumber (get_field a (f + j * t.width) t) ∷ s)) (λ j. with_stack h (ANumber (get_field a (f + j * t.width) t) ∷ s) k (tt, l))))
-  work_known kind some (SetPartAt q f t m) g h k = on_numbers_known h.stack (λ i v s. on_part (atom_in (slice_get h.slots q)) (λ a. at_index i m (λ j. put_slot h s q (with_part a (f + j * t.width) t.width (kept t v))))) k.stack (λ i v s l. on_part_known (atom_in (slice_get h.slots q)) (λ a. at_index i m (λ j. put_slot h s q (with_part a (f + j * t.width) t.width (kept t v)))) (slot_atom h q k) (λ a p. index_known i m (λ j. put_slot h s q (with_part a (f + j * t.width) t.width (kept t v))) (λ j. with_slot h s q (with_part a (f + j * t.width) t.width (kept t v)) k l (part_known a (f + j * t.width) t.width (kept t v) p))))
+  work_known kind some (SetPartAt q f t m) g h k = on_numbers_known h.stack (λ i v s. on_part (atom_in (slice_get h.slots q)) (λ a. at_index i m (λ j. put_slot h s q (with_part a (f + j * t.width) t.width (kept_bits t v))))) k.stack (λ i v s l. on_part_known (atom_in (slice_get h.slots q)) (λ a. at_index i m (λ j. put_slot h s q (with_part a (f + j * t.width) t.width (kept_bits t v)))) (slot_atom h q k) (λ a p. index_known i m (λ j. put_slot h s q (with_part a (f + j * t.width) t.width (kept_bits t v))) (λ j. with_slot h s q (with_part a (f + j * t.width) t.width (kept_bits t v)) k l (part_known a (f + j * t.width) t.width (kept_bits t v) p))))
   work_known kind some (Goto p) g h k = tt
   work_known kind some (GotoFalse p) g h k = tt
   work_known kind some Take g h k = tt

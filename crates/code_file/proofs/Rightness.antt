@@ -4,7 +4,7 @@ use Rattle.std.specs.Prelude.{slice_get}
 use Rattle.std.proofs.lemmas.List.{append-nil}
 use Rattle.stack_code.specs.Valid.{valid}
 use Rattle.code_file.specs.Form.{CodesValue, ElementValue, IsFile, IsSayable, file_bytes, names_of}
-use Rattle.code_file.specs.Judging.{Reads, column_behind, is_among, judged}
+use Rattle.code_file.specs.Judging.{Reads, column_behind, is_among, right_elements}
 use Rattle.code_file.specs.Right.{AreRight}
 use Rattle.code_file.specs.declared.fault.CodeFault.{CodeFault}
 use Rattle.code_file.specs.declared.fault.CodeFault.TheVariants.{NotValid, SameName}
@@ -25,21 +25,21 @@ RightBehind done es = (k : ℕ) (e : ElementValue) → slice_get es k ≡ Some e
 among : ElementValue → CodesValue → Bool
 among e es = is_among e.name (names_of es)
 
-judge_right : (es done : CodesValue) → RightBehind done es → judged done es ≡ Ok (done ++ es)
+judge_right : (es done : CodesValue) → RightBehind done es → right_elements done es ≡ Ok (done ++ es)
 unfolding among
 judge_right [] done h = ap taken (sym (append-nil done))
 judge_right (e ∷ es) done h =
     let here = h 0 e refl in
     let a : is_among e.name (names_of done) ≡ false = ap (among e) (sym (append-nil done)) ∙ here.0 in
     let rest = judge_right es (done ++ e ∷ []) (λ k x s. let b = h (suc k) x s in (ap (among x) (append_assoc done (e ∷ []) (take k es)) ∙ b.0, b.1)) in
-    (λ i. verdict (a i) (here.1 i) (column_behind done) (judged (done ++ e ∷ []) es)) ∙ rest ∙ ap taken (append_assoc done (e ∷ []) es)
+    (λ i. verdict (a i) (here.1 i) (column_behind done) (right_elements (done ++ e ∷ []) es)) ∙ rest ∙ ap taken (append_assoc done (e ∷ []) es)
 
-judged_right : (es done all : CodesValue) → judged done es ≡ Ok all → RightBehind done es × (done ++ es ≡ all)
+judged_right : (es done all : CodesValue) → right_elements done es ≡ Ok all → RightBehind done es × (done ++ es ≡ all)
 unfolding among
 judged_right [] done all h = let same : done ≡ all = cc in (λ k x s. absurd cc, append-nil done ∙ same)
 judged_right (e ∷ es) done all h = by (judged_right es (done ++ e ∷ []) all) (is_among e.name (names_of done)) refl (valid e.code) refl h
   where
-    by : (judged (done ++ e ∷ []) es ≡ Ok all → RightBehind (done ++ e ∷ []) es × ((done ++ e ∷ []) ++ es ≡ all)) → (a : Bool) → is_among e.name (names_of done) ≡ a → (v : Bool) → valid e.code ≡ v → verdict a v (column_behind done) (judged (done ++ e ∷ []) es) ≡ Ok all → RightBehind done (e ∷ es) × (done ++ (e ∷ es) ≡ all)
+    by : (right_elements (done ++ e ∷ []) es ≡ Ok all → RightBehind (done ++ e ∷ []) es × ((done ++ e ∷ []) ++ es ≡ all)) → (a : Bool) → is_among e.name (names_of done) ≡ a → (v : Bool) → valid e.code ≡ v → verdict a v (column_behind done) (right_elements (done ++ e ∷ []) es) ≡ Ok all → RightBehind done (e ∷ es) × (done ++ (e ∷ es) ≡ all)
     by rest true p v q h = absurd cc
     by rest false p false q h = absurd cc
     by rest false p true q h =

@@ -8,8 +8,12 @@ use Rattle.stack_code.specs.declared.instr.Answer.TheVariants.{Nothing, Number a
 use Rattle.stack_code.specs.declared.instr.Operand.{Operand}
 use Rattle.stack_code.specs.declared.instr.Operand.TheVariants.{Number, Atom}
 use Rattle.code_file.specs.Instrs.{IsInstr, instr_bytes}
-use Rattle.code_file.specs.Numbers.{be, counted, name_bytes}
+use Rattle.code_file.specs.Numbers.{be, with_length, name_bytes}
 use Rattle.code_file.specs.Words.{is_name}
+use Rattle.bit_field.specs.declared.TheConstants.{STATE_BITS}
+use Rattle.code_file.specs.declared.elements.TheConstants.{MOST_ELEMENTS}
+use Rattle.stack_code.specs.declared.limits.TheConstants.{MOST_INSTRS, MOST_SLOTS}
+use Rattle.feast_base.specs.declared.limits.TheConstants.{MOST_PARAMS}
 
 -- an element: its name and its code
 pub record ElementValue : Type 0 where
@@ -53,11 +57,11 @@ slot_bytes slot = be 1 (operand_code slot)
 
 -- a function: its name, base, first place, parameters, answer and slots
 abbrev pub function_bytes : FunctionValue → List ℕ
-function_bytes f = name_bytes f.name ++ (be 1 f.base ++ (be 4 f.first ++ (be 1 f.params ++ (be 1 (answer_code f.answer) ++ counted 1 slot_bytes f.slots))))
+function_bytes f = name_bytes f.name ++ (be 1 f.base ++ (be 4 f.first ++ (be 1 f.params ++ (be 1 (answer_code f.answer) ++ with_length 1 slot_bytes f.slots))))
 
 -- an element: its name, its functions, its instructions
 abbrev pub element_bytes : ElementValue → List ℕ
-element_bytes e = name_bytes e.name ++ (counted 4 function_bytes e.code.functions ++ counted 4 instr_bytes e.code.instrs)
+element_bytes e = name_bytes e.name ++ (with_length 4 function_bytes e.code.functions ++ with_length 4 instr_bytes e.code.instrs)
 
 -- the bytes 46 45 41 53 54 43 01 00, in which the last two are the version
 abbrev pub magic : List ℕ
@@ -65,26 +69,26 @@ magic = codes "FEASTC" ++ (1 ∷ 0 ∷ [])
 
 -- a whole file
 abbrev pub file_bytes : CodesValue → List ℕ
-file_bytes es = magic ++ counted 2 element_bytes es
+file_bytes es = magic ++ with_length 2 element_bytes es
 
 -- Ranges
 
 pub record IsFunction (f : FunctionValue) : Type 0 where
   pub name : is_name f.name ≡ true
-  pub base : f.base ≤ 71
+  pub base : f.base ≤ STATE_BITS
   pub first : f.first < 2 ^ 32
-  pub params : f.params ≤ 8
-  pub slots : length f.slots ≤ 72
+  pub params : f.params ≤ MOST_PARAMS
+  pub slots : length f.slots ≤ MOST_SLOTS
 
 -- an element of this type number, in a file of so many elements
 pub record IsElement (most kind : ℕ) (e : ElementValue) : Type 0 where
   pub name : is_type_name e.name ≡ true
   pub kind_is : e.code.kind ≡ kind
   pub some_functions : 1 ≤ length e.code.functions
-  pub few_functions : length e.code.functions ≤ 65536
+  pub few_functions : length e.code.functions ≤ MOST_INSTRS
   pub functions : AllByRecursion IsFunction e.code.functions
   pub some_instrs : 1 ≤ length e.code.instrs
-  pub few_instrs : length e.code.instrs ≤ 65536
+  pub few_instrs : length e.code.instrs ≤ MOST_INSTRS
   pub instrs : AllByRecursion (IsInstr most) e.code.instrs
 
 -- elements whose type numbers count up from this one
@@ -94,7 +98,7 @@ AreElements most kind (e ∷ es) = IsElement most kind e × AreElements most (ki
 
 -- elements that a code file can have
 pub record IsSayable (es : CodesValue) : Type 0 where
-  pub few : length es ≤ 256
+  pub few : length es ≤ MOST_ELEMENTS
   pub each : AreElements (length es) 1 es
 
 -- the bytes are the code file of these elements

@@ -5,7 +5,7 @@ use Rattle.sat_math.specs.declared.Kind.TheVariants.{Int, Unsigned, Bits, Bool, 
 use Rattle.stack_code.specs.Valid.{number_fits}
 use Rattle.stack_code.specs.declared.instr.Instr.{Instr}
 use Rattle.stack_code.specs.declared.instr.Instr.TheVariants.{PushNum, PushAtom, LoadLocal, StoreLocal, Pop, LoadField, StoreField, LoadPart, StorePart, LoadSelf, LoadSite, StoreSite, Swap, IsLive, IsEmpty, RandCreate, RandOneIn, IsKind, AddI, SubI, MulI, DivI, RemI, AddU, SubU, MulU, DivU, RemU, NegI, And, Or, Xor, NotW, Shl, Shr, Fit, NotB, Eq, Ne, Lt, Le, Gt, Ge, Jump, JumpFalse, Turn, Call, Return, ReturnVoid, AddL, SubL, MulL, DivL, RemL, AddV, SubV, MulV, DivV, RemV, NegL, Dup, LoadFieldAt, StoreFieldAt, LoadPartAt, StorePartAt}
-use Rattle.code_file.specs.Numbers.{be, signed}
+use Rattle.code_file.specs.Numbers.{be, bytes_of_signed}
 
 -- the byte of an instruction's name
 abbrev pub opcode : Instr → ℕ
@@ -93,7 +93,7 @@ array_bytes f w k n = field_bytes f w k ++ be 1 n
 
 -- the arguments of an instruction, in their order
 abbrev pub args_bytes : Instr → List ℕ
-args_bytes (PushNum v) = signed v
+args_bytes (PushNum v) = bytes_of_signed v
 args_bytes (PushAtom k) = be 2 k
 args_bytes (LoadLocal s) = be 1 s
 args_bytes (StoreLocal s) = be 1 s

@@ -19,20 +19,20 @@ abbrev pub column_behind : CodesValue → ℕ
 column_behind done = 11 + length (flat_map element_bytes done)
 
 -- elements by the vectors of their names and their codes
-abbrev pub listed : Vec (List ℕ) Global → Vec CodeValue Global → CodesValue
-listed names codes = elements names.items codes.items
+abbrev pub element_list : Vec (List ℕ) Global → Vec CodeValue Global → CodesValue
+element_list names codes = elements names.items codes.items
 
 -- The elements after those that are right. The first one that has the name of an earlier one, or whose
 -- code is not valid, is refused at the first byte of its name's length.
-abbrev pub judged : CodesValue → CodesValue → Result CodesValue CodeFault
-judged done [] = Ok done
-judged done (e ∷ es) = if is_among e.name (names_of done) then Err (SameName (column_behind done)) else (if valid e.code then judged (done ++ e ∷ []) es else Err (NotValid (column_behind done)))
+abbrev pub right_elements : CodesValue → CodesValue → Result CodesValue CodeFault
+right_elements done [] = Ok done
+right_elements done (e ∷ es) = if is_among e.name (names_of done) then Err (SameName (column_behind done)) else (if valid e.code then right_elements (done ++ e ∷ []) es else Err (NotValid (column_behind done)))
 
 -- the bytes are a code file, and this is the judgement of its elements
 pub record IsJudged (bytes : List ℕ) (r : Result CodesValue CodeFault) : Type 0 where
   pub says : CodesValue
   pub is_file : IsFile bytes says
-  pub judged_is : judged [] says ≡ r
+  pub judged_is : right_elements [] says ≡ r
 
 -- The outcome of reading: `BadMagic` if the first 8 bytes are not those of a code file, otherwise
 -- `BadForm` if the bytes are no code file, and otherwise the judgement of its elements. Running out of
@@ -55,11 +55,11 @@ Tells bytes answer = Reads bytes answer
 
 -- an element was added after others, or it is refused, or memory ran out
 abbrev pub Admits : {T : Type 0} → CodesValue → ElementValue → CodesValue → Result T CodeFault → Type 0
-Admits done e new (Ok x) = judged done (e ∷ []) ≡ Ok new
+Admits done e new (Ok x) = right_elements done (e ∷ []) ≡ Ok new
 Admits done e new (Err BadMagic) = ⊥
 Admits done e new (Err (BadForm column)) = ⊥
-Admits done e new (Err (SameName column)) = judged done (e ∷ []) ≡ Err (SameName column)
-Admits done e new (Err (NotValid column)) = judged done (e ∷ []) ≡ Err (NotValid column)
+Admits done e new (Err (SameName column)) = right_elements done (e ∷ []) ≡ Err (SameName column)
+Admits done e new (Err (NotValid column)) = right_elements done (e ∷ []) ≡ Err (NotValid column)
 Admits done e new (Err NoMemory) = Unit {0}
 
 -- reading stopped with no more bytes left than there are

@@ -7,12 +7,14 @@ use Rattle.stack_code.specs.declared.instr.Instr.{Instr}
 use Rattle.stack_code.specs.declared.instr.Instr.TheVariants.{PushAtom, IsKind}
 use Rattle.code_file.specs.Form.{ElementValue}
 use Rattle.code_file.specs.Words.{is_name}
+use Rattle.bit_field.specs.declared.TheConstants.{STATE_BITS}
+use Rattle.feast_base.specs.declared.limits.TheConstants.{MOST_PARAMS}
 
 -- a function with a name, a base inside an atom's state, and few parameters
 pub record IsRanged (f : FunctionValue) : Type 0 where
   pub name : is_name f.name ≡ true
-  pub base : f.base ≤ 71
-  pub params : f.params ≤ 8
+  pub base : f.base ≤ STATE_BITS
+  pub params : f.params ≤ MOST_PARAMS
 
 -- an instruction makes only atoms of the types up to this one, and asks for a type of 16 bits
 abbrev pub OfTypes : ℕ → Instr → Type 0

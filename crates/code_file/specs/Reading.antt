@@ -16,6 +16,11 @@ use Rattle.code_file.specs.declared.halt.Halt.{Halt}
 use Rattle.code_file.specs.declared.halt.Halt.TheVariants.{NoMemory, Bad}
 use Rattle.code_file.specs.declared.names.NameForm.{NameForm}
 use Rattle.code_file.specs.declared.names.NameForm.TheVariants.{OfElement, OfFunction}
+use Rattle.feast_base.specs.declared.type_name.TheConstants.{LONGEST_NAME}
+use Rattle.bit_field.specs.declared.TheConstants.{STATE_BITS}
+use Rattle.code_file.specs.declared.elements.TheConstants.{MOST_ELEMENTS}
+use Rattle.stack_code.specs.declared.limits.TheConstants.{MOST_INSTRS, MOST_SLOTS}
+use Rattle.feast_base.specs.declared.limits.TheConstants.{MOST_PARAMS}
 
 abbrev pub Reader : Type 0 → Type 0
 Reader A = List ℕ → Result (A × List ℕ) ℕ
@@ -35,8 +40,8 @@ Gives view (Ok x) read = read ≡ Ok (view x)
 Gives view (Err e) read = Fails e read
 
 -- a value made of what was read
-abbrev pub made : {A B : Type 0} → Reader A → (A → B) → Reader B
-made r f bytes = r bytes >>= λ x. Ok (f x.0, x.1)
+abbrev pub map_reader : {A B : Type 0} → Reader A → (A → B) → Reader B
+map_reader r f bytes = r bytes >>= λ x. Ok (f x.0, x.1)
 
 -- one value and then another
 abbrev pub both : {A B : Type 0} → Reader A → Reader B → Reader (A × B)
@@ -80,7 +85,7 @@ abbrev pub is_sign : ℕ → Bool
 is_sign b = b == 0 || b == 255
 
 abbrev pub signed_rest : ℕ → Reader ℤ
-signed_rest s bytes = if s == 0 then made (number_at 8 0 (2 ^ 64 - 1)) pos bytes else made (number_at 8 (2 ^ 63) (2 ^ 64 - 1)) (λ n. negsuc (2 ^ 64 - 1 - n)) bytes
+signed_rest s bytes = if s == 0 then map_reader (number_at 8 0 (2 ^ 64 - 1)) pos bytes else map_reader (number_at 8 (2 ^ 63) (2 ^ 64 - 1)) (λ n. negsuc (2 ^ 64 - 1 - n)) bytes
 
 unfoldable pub signed_at : Reader ℤ
 signed_at bytes = byte_at is_sign bytes >>= λ s. signed_rest s.0 s.1
@@ -95,7 +100,7 @@ unfoldable pub letters_at : NameForm → ℕ → Reader (List ℕ)
 letters_at form n bytes = gather (λ done left. byte_at (stands form done left)) n [] bytes
 
 unfoldable pub name_at : NameForm → Reader (List ℕ)
-name_at form bytes = number_at 4 1 255 bytes >>= λ n. letters_at form n.0 n.1
+name_at form bytes = number_at 4 1 LONGEST_NAME bytes >>= λ n. letters_at form n.0 n.1
 
 abbrev pub operand_of : ℕ → Operand
 operand_of k = if k == 0 then Number else Atom
@@ -107,31 +112,31 @@ abbrev pub kind_of : ℕ → Kind
 kind_of k = if k == 0 then kind.Int else if k == 1 then kind.Unsigned else if k == 2 then kind.Bits else if k == 3 then kind.Bool else kind.Unary
 
 unfoldable pub slot_at : Reader Operand
-slot_at bytes = made (number_at 1 0 1) operand_of bytes
+slot_at bytes = map_reader (number_at 1 0 1) operand_of bytes
 
 unfoldable pub answer_at : Reader Answer
-answer_at bytes = made (number_at 1 0 2) answer_of bytes
+answer_at bytes = map_reader (number_at 1 0 2) answer_of bytes
 
 unfoldable pub slots_at : Reader (List Operand)
-slots_at bytes = counted_at 1 0 72 slot_at bytes
+slots_at bytes = counted_at 1 0 MOST_SLOTS slot_at bytes
 
 unfoldable pub function_at : Reader FunctionValue
 function_at bytes = do
   name ← name_at OfFunction bytes
-  base ← number_at 1 0 71 name.1
+  base ← number_at 1 0 STATE_BITS name.1
   first ← number_at 4 0 (2 ^ 32 - 1) base.1
-  params ← number_at 1 0 8 first.1
+  params ← number_at 1 0 MOST_PARAMS first.1
   answer ← answer_at params.1
   slots ← slots_at answer.1
   Ok (record { name = name.0; base = base.0; first = first.0; params = params.0; slots = slots.0; answer = answer.0 }, slots.1)
 
 unfoldable pub functions_at : Reader (List FunctionValue)
-functions_at bytes = counted_at 4 1 65536 function_at bytes
+functions_at bytes = counted_at 4 1 MOST_INSTRS function_at bytes
 
 -- Instructions
 
 unfoldable pub kind_at : Reader Kind
-kind_at bytes = made (number_at 1 0 4) kind_of bytes
+kind_at bytes = map_reader (number_at 1 0 4) kind_of bytes
 
 unfoldable pub any_byte : Reader ℕ
 any_byte bytes = number_at 1 0 255 bytes
@@ -171,15 +176,15 @@ plain i bytes = Ok (i, bytes)
 -- the arguments of each instruction, in the order of the opcodes
 abbrev pub args_readers : ℕ → List (Reader Instr)
 args_readers most =
-    (made signed_at PushNum) ∷
-    (made (type_at most) PushAtom) ∷
-    (made any_byte LoadLocal) ∷
-    (made any_byte StoreLocal) ∷
+    (map_reader signed_at PushNum) ∷
+    (map_reader (type_at most) PushAtom) ∷
+    (map_reader any_byte LoadLocal) ∷
+    (map_reader any_byte StoreLocal) ∷
     (plain Pop) ∷
-    (made field_at (λ x. LoadField x.first x.width x.kind)) ∷
-    (made field_at (λ x. StoreField x.first x.width x.kind)) ∷
-    (made part_at (λ x. LoadPart x.0 x.1.first x.1.width x.1.kind)) ∷
-    (made part_at (λ x. StorePart x.0 x.1.first x.1.width x.1.kind)) ∷
+    (map_reader field_at (λ x. LoadField x.first x.width x.kind)) ∷
+    (map_reader field_at (λ x. StoreField x.first x.width x.kind)) ∷
+    (map_reader part_at (λ x. LoadPart x.0 x.1.first x.1.width x.1.kind)) ∷
+    (map_reader part_at (λ x. StorePart x.0 x.1.first x.1.width x.1.kind)) ∷
     (plain LoadSelf) ∷
     (plain LoadSite) ∷
     (plain StoreSite) ∷
@@ -188,7 +193,7 @@ args_readers most =
     (plain IsEmpty) ∷
     (plain RandCreate) ∷
     (plain RandOneIn) ∷
-    (made (type_at 65535) IsKind) ∷
+    (map_reader (type_at (2 ^ 16 - 1)) IsKind) ∷
     (plain AddI) ∷
     (plain SubI) ∷
     (plain MulI) ∷
@@ -203,10 +208,10 @@ args_readers most =
     (plain And) ∷
     (plain Or) ∷
     (plain Xor) ∷
-    (made width_at NotW) ∷
-    (made width_at Shl) ∷
+    (map_reader width_at NotW) ∷
+    (map_reader width_at Shl) ∷
     (plain Shr) ∷
-    (made fit_at (λ x. Fit x.0 x.1)) ∷
+    (map_reader fit_at (λ x. Fit x.0 x.1)) ∷
     (plain NotB) ∷
     (plain Eq) ∷
     (plain Ne) ∷
@@ -214,10 +219,10 @@ args_readers most =
     (plain Le) ∷
     (plain Gt) ∷
     (plain Ge) ∷
-    (made place_at Jump) ∷
-    (made place_at JumpFalse) ∷
+    (map_reader place_at Jump) ∷
+    (map_reader place_at JumpFalse) ∷
     (plain Turn) ∷
-    (made place_at Call) ∷
+    (map_reader place_at Call) ∷
     (plain Return) ∷
     (plain ReturnVoid) ∷
     (plain AddL) ∷
@@ -232,10 +237,10 @@ args_readers most =
     (plain RemV) ∷
     (plain NegL) ∷
     (plain Dup) ∷
-    (made array_at (λ x. LoadFieldAt x.0.first x.0.width x.0.kind x.1)) ∷
-    (made array_at (λ x. StoreFieldAt x.0.first x.0.width x.0.kind x.1)) ∷
-    (made part_array_at (λ x. LoadPartAt x.0 x.1.0.first x.1.0.width x.1.0.kind x.1.1)) ∷
-    (made part_array_at (λ x. StorePartAt x.0 x.1.0.first x.1.0.width x.1.0.kind x.1.1)) ∷
+    (map_reader array_at (λ x. LoadFieldAt x.0.first x.0.width x.0.kind x.1)) ∷
+    (map_reader array_at (λ x. StoreFieldAt x.0.first x.0.width x.0.kind x.1)) ∷
+    (map_reader part_array_at (λ x. LoadPartAt x.0 x.1.0.first x.1.0.width x.1.0.kind x.1.1)) ∷
+    (map_reader part_array_at (λ x. StorePartAt x.0 x.1.0.first x.1.0.width x.1.0.kind x.1.1)) ∷
     []
 
 -- the arguments of the instruction of an opcode, in a file of this many elements
@@ -246,7 +251,7 @@ unfoldable pub instr_at : ℕ → Reader Instr
 instr_at most bytes = number_at 1 0 64 bytes >>= λ code. args_at most code.0 code.1
 
 unfoldable pub instrs_at : ℕ → Reader (List Instr)
-instrs_at most bytes = counted_at 4 1 65536 (instr_at most) bytes
+instrs_at most bytes = counted_at 4 1 MOST_INSTRS (instr_at most) bytes
 
 -- Elements
 
@@ -263,7 +268,7 @@ abbrev pub elements_from : ℕ → ℕ → CodesValue → Reader CodesValue
 elements_from most = gather (λ done left. element_at most (length done + 1))
 
 unfoldable pub elements_at : Reader CodesValue
-elements_at bytes = number_at 2 0 256 bytes >>= λ n. elements_from n.0 n.0 [] n.1
+elements_at bytes = number_at 2 0 MOST_ELEMENTS bytes >>= λ n. elements_from n.0 n.0 [] n.1
 
 -- a value with nothing after it
 abbrev pub alone : {A : Type 0} → A → List ℕ → Result A ℕ

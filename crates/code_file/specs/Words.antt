@@ -3,6 +3,7 @@ use Rattle.std.specs.Prelude.{ℕ, ◌==◌, Bool, true, false, ◌&&◌, ◌||�
 use Rattle.std.specs.Char.{is_ascii_lowercase, is_ascii_uppercase}
 use Rattle.std.specs.List.{list_all}
 use Rattle.feast_base.specs.TypeNames.{is_type_name, is_word_byte}
+use Rattle.feast_base.specs.declared.type_name.TheConstants.{LONGEST_NAME}
 use Rattle.ulam_lex.specs.Bytes.{is_keyword}
 use Rattle.code_file.specs.declared.names.NameForm.{NameForm}
 use Rattle.code_file.specs.declared.names.NameForm.TheVariants.{OfElement, OfFunction}
@@ -10,7 +11,7 @@ use Rattle.code_file.specs.declared.names.NameForm.TheVariants.{OfElement, OfFun
 -- the name of a function: a to z or `_`, then letters, digits and `_`, at most 255 bytes in all, but not a keyword
 abbrev pub is_name : List ℕ → Bool
 is_name [] = false
-is_name (b ∷ rest) = (is_ascii_lowercase b || b == 95) && (list_all is_word_byte rest && (nat_le (length (b ∷ rest)) 255 && not (is_keyword (b ∷ rest))))
+is_name (b ∷ rest) = (is_ascii_lowercase b || b == 95) && (list_all is_word_byte rest && (nat_le (length (b ∷ rest)) LONGEST_NAME && not (is_keyword (b ∷ rest))))
 
 -- a name of a form
 abbrev pub is_named : NameForm → List ℕ → Bool

@@ -47,7 +47,7 @@ pub fn any_byte(bytes: &[u8]) -> Result<(u8, &[u8]), Halt>
 pub fn place(bytes: &[u8]) -> Result<(u32, &[u8]), Halt>
     ensures { Gives (λ x. (x.0, x.1.now)) result (place_at bytes.now) }
 {
-    let (place, rest) = number(bytes, 4, 0, 4_294_967_295)?;
+    let (place, rest) = number(bytes, 4, 0, u64::from(u32::MAX))?;
     Ok((place as u32, rest))
 }
 

@@ -1,6 +1,7 @@
 //! Reading elements.
 ghost use Rattle.std.specs.Prelude.{◌≡◌, ◌≤◌, ◌+◌, ◌<◌, [], length};
 ghost use Rattle.code_file.specs.Reading.{Gives, alone, body_at, element_at, elements_at, elements_from};
+ghost use Rattle.code_file.specs.declared.elements.TheConstants.{MOST_ELEMENTS};
 
 use crate::functions::functions;
 use crate::halt::Halt;
@@ -11,6 +12,9 @@ use feast_base::Name;
 use stack_code::RawCode;
 use std::alloc::Global;
 use std::marker::Model;
+
+/// The most elements of a code file.
+pub const MOST_ELEMENTS: u16 = 256;
 
 /// An element whose code has not been verified yet.
 #[derive(Drop)]
@@ -42,7 +46,7 @@ fn element(alloc: Global, most: u16, kind: u16, bytes: &[u8]) -> Result<(Draft, 
 
 /// This many elements, and the remaining bytes. Memory is allocated as they are read.
 fn elements_in(alloc: Global, count: u16, bytes: &[u8]) -> Result<(Vec<Draft>, &[u8]), Halt>
-    requires { count ≤ 256 }
+    requires { count ≤ MOST_ELEMENTS }
     ensures { Gives (λ x. (x.0.items, x.1.now)) result (elements_from count count [] bytes.now) }
 {
     let mut elements = Vec::new(alloc);
@@ -60,7 +64,7 @@ fn elements_in(alloc: Global, count: u16, bytes: &[u8]) -> Result<(Vec<Draft>, &
 fn elements(alloc: Global, bytes: &[u8]) -> Result<(Vec<Draft>, &[u8]), Halt>
     ensures { Gives (λ x. (x.0.items, x.1.now)) result (elements_at bytes.now) }
 {
-    let (count, rest) = number(bytes, 2, 0, 256)?;
+    let (count, rest) = number(bytes, 2, 0, u64::from(MOST_ELEMENTS))?;
     elements_in(alloc, count as u16, rest)
 }
 

@@ -5,8 +5,9 @@ ghost use Rattle.code_file.specs.Reading.{Gives, answer_at, answer_of, function_
 use crate::halt::Halt;
 use crate::names::{NameForm, name};
 use crate::numbers::number;
-use feast_base::Name;
-use stack_code::{Answer, Operand, RawFunction};
+use bit_field::STATE_BITS;
+use feast_base::{MOST_PARAMS, Name};
+use stack_code::{Answer, MOST_INSTRS, MOST_SLOTS, Operand, RawFunction};
 use std::alloc::Global;
 
 /// The kind of slot that a byte stands for.
@@ -70,7 +71,7 @@ fn slots_in(alloc: Global, count: u64, bytes: &[u8]) -> Result<(Vec<Operand>, &[
 fn slots(alloc: Global, bytes: &[u8]) -> Result<(Vec<Operand>, &[u8]), Halt>
     ensures { Gives (λ x. (x.0.items, x.1.now)) result (slots_at bytes.now) }
 {
-    let (count, rest) = number(bytes, 1, 0, 72)?;
+    let (count, rest) = number(bytes, 1, 0, MOST_SLOTS as u64)?;
     slots_in(alloc, count, rest)
 }
 
@@ -80,9 +81,9 @@ fn function(alloc: Global, bytes: &[u8]) -> Result<(RawFunction, &[u8]), Halt>
     ensures { Gives (λ x. (x.0, x.1.now)) result (function_at bytes.now) }
 {
     let (name, rest) = name(NameForm::OfFunction, bytes)?;
-    let (base, rest) = number(rest, 1, 0, 71)?;
-    let (first, rest) = number(rest, 4, 0, 4_294_967_295)?;
-    let (params, rest) = number(rest, 1, 0, 8)?;
+    let (base, rest) = number(rest, 1, 0, STATE_BITS as u64)?;
+    let (first, rest) = number(rest, 4, 0, u32::MAX as u64)?;
+    let (params, rest) = number(rest, 1, 0, MOST_PARAMS as u64)?;
     let (answer, rest) = answer(rest)?;
     let (slots, rest) = slots(alloc, rest)?;
     let name = Name::new(alloc, name)?;
@@ -116,6 +117,6 @@ fn functions_in(alloc: Global, count: u64, bytes: &[u8]) -> Result<(Vec<RawFunct
 pub fn functions(alloc: Global, bytes: &[u8]) -> Result<(Vec<RawFunction>, &[u8]), Halt>
     ensures { Gives (λ x. (x.0.items, x.1.now)) result (functions_at bytes.now) }
 {
-    let (count, rest) = number(bytes, 4, 1, 65_536)?;
+    let (count, rest) = number(bytes, 4, 1, u64::from(MOST_INSTRS))?;
     functions_in(alloc, count, rest)
 }

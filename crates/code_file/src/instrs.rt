@@ -4,8 +4,8 @@ ghost use Rattle.code_file.specs.Reading.{Gives, args_at, instr_at, instrs_at, t
 
 use crate::args::{any_byte, array, field, fit, part, part_array, place, type_number, width};
 use crate::halt::Halt;
-use crate::numbers::{number, signed};
-use stack_code::Instr;
+use crate::numbers::{number, signed_number};
+use stack_code::{Instr, MOST_INSTRS};
 use std::alloc::Global;
 
 /// The instructions from PushNum to Pop, by opcode, and the remaining bytes.
@@ -17,7 +17,7 @@ fn operands(code: u64, most: u16, bytes: &[u8]) -> Result<(Instr, &[u8]), Halt>
 {
     match code {
         0 => {
-            let (v, rest) = signed(bytes)?;
+            let (v, rest) = signed_number(bytes)?;
             Ok((Instr::PushNum(v), rest))
         }
         1 => {
@@ -80,7 +80,7 @@ fn sites(code: u64, bytes: &[u8]) -> Result<(Instr, &[u8]), Halt>
         15 => Ok((Instr::RandCreate, bytes)),
         16 => Ok((Instr::RandOneIn, bytes)),
         _ => {
-            let (k, rest) = type_number(bytes, 65_535)?;
+            let (k, rest) = type_number(bytes, u16::MAX)?;
             Ok((Instr::IsKind(k), rest))
         }
     }
@@ -275,6 +275,6 @@ fn instrs_in(
 pub fn instrs(alloc: Global, most: u16, bytes: &[u8]) -> Result<(Vec<Instr>, &[u8]), Halt>
     ensures { Gives (λ x. (x.0.items, x.1.now)) result (instrs_at most bytes.now) }
 {
-    let (count, rest) = number(bytes, 4, 1, 65_536)?;
+    let (count, rest) = number(bytes, 4, 1, u64::from(MOST_INSTRS))?;
     instrs_in(alloc, most, count, rest)
 }

@@ -24,6 +24,7 @@ mod written_instrs;
 mod written_numbers;
 
 pub use actor::CodeActor;
+pub use elements::MOST_ELEMENTS;
 pub use fault::CodeFault;
 pub use law::file_laws;
 pub use reading::read;

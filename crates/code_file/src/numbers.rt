@@ -69,7 +69,7 @@ fn signed_rest(sign: u8, bytes: &[u8]) -> Result<(i128, &[u8]), Halt>
 
 /// A number in nine bytes, in two's complement, and the remaining bytes.
 #[tactic(auto, unfolding(crate::specs::Reading::signed_at))]
-pub fn signed(bytes: &[u8]) -> Result<(i128, &[u8]), Halt>
+pub fn signed_number(bytes: &[u8]) -> Result<(i128, &[u8]), Halt>
     ensures { Gives (λ x. (x.0, x.1.now)) result (signed_at bytes.now) }
 {
     match bytes {

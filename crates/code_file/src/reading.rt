@@ -1,7 +1,7 @@
 //! Reading code files.
 ghost use Rattle.std.specs.Prelude.{◌≡◌, ◌↔◌, [], IsTrue, IfOk, length, take, Result};
 ghost use Rattle.code_file.specs.Form.{CodesValue, element, elements, magic};
-ghost use Rattle.code_file.specs.Judging.{Admits, Answers, IsWithin, Reads, Tells, column_behind, fault_of, is_among, judged, listed};
+ghost use Rattle.code_file.specs.Judging.{Admits, Answers, IsWithin, Reads, Tells, column_behind, fault_of, is_among, right_elements, element_list};
 ghost use Rattle.code_file.specs.declared.fault.CodeFault.{CodeFault};
 
 use crate::elements::{Draft, body};
@@ -48,7 +48,7 @@ fn admit(
     code: RawCode,
 ) -> Result<(), CodeFault>
     requires { length names.old.items ≡ length codes.old.items }
-    ensures admits { Admits (listed names.old codes.old) (element name code) (listed names.new codes.new) result }
+    ensures admits { Admits (element_list names.old codes.old) (element name code) (element_list names.new codes.new) result }
     ensures same { IfOk result (λ _. length names.new.items ≡ length codes.new.items) }
 {
     if is_among(&name, names.as_slice()) {
@@ -71,7 +71,7 @@ fn admit(
 /// The set of elements, or the fault of the first one that has the name of an earlier one or whose
 /// code is not valid.
 fn judge(alloc: Global, drafts: Vec<Draft>) -> Result<CodeSet, CodeFault>
-    ensures { Answers (judged [] drafts.items) result }
+    ensures { Answers (right_elements [] drafts.items) result }
 {
     let mut names = Vec::new(alloc);
     let mut codes = Vec::new(alloc);

@@ -3,7 +3,7 @@ ghost use Rattle.std.specs.Prelude.{◌≡◌, ◌++◌, length};
 ghost use Rattle.std.specs.List.{flat_map};
 ghost use Rattle.feast_base.specs.Appending.{Appends};
 ghost use Rattle.code_file.specs.Form.{answer_code, element, element_bytes, elements, file_bytes, function_bytes, operand_code, slot_bytes};
-ghost use Rattle.code_file.specs.Numbers.{be, counted, name_bytes};
+ghost use Rattle.code_file.specs.Numbers.{be, with_length, name_bytes};
 
 use crate::magic::MAGIC;
 use crate::written_instrs::{push_byte, push_instrs};
@@ -45,7 +45,7 @@ fn push_each_slot(out: &mut Vec<u8>, slots: &[Operand]) -> Result<(), NoMemory>
 
 /// Appends slots after their count.
 fn push_slots(out: &mut Vec<u8>, slots: &[Operand]) -> Result<(), NoMemory>
-    ensures { Appends out.old.items out.new.items result (counted 1 slot_bytes slots.now) }
+    ensures { Appends out.old.items out.new.items result (with_length 1 slot_bytes slots.now) }
 {
     push_number(out, slots.len() as u128, 1)?;
     push_each_slot(out, slots)
@@ -82,7 +82,7 @@ fn push_each_function(out: &mut Vec<u8>, functions: &[RawFunction]) -> Result<()
 
 /// Appends functions after their count.
 fn push_functions(out: &mut Vec<u8>, functions: &[RawFunction]) -> Result<(), NoMemory>
-    ensures { Appends out.old.items out.new.items result (counted 4 function_bytes functions.now) }
+    ensures { Appends out.old.items out.new.items result (with_length 4 function_bytes functions.now) }
 {
     push_number(out, functions.len() as u128, 4)?;
     push_each_function(out, functions)

@@ -3,7 +3,7 @@ ghost use Rattle.std.specs.Prelude.{◌≡◌, ◌++◌};
 ghost use Rattle.std.specs.List.{flat_map};
 ghost use Rattle.feast_base.specs.Appending.{Appends};
 ghost use Rattle.code_file.specs.Instrs.{args_bytes, array_bytes, field_bytes, instr_bytes, kind_code, opcode};
-ghost use Rattle.code_file.specs.Numbers.{be, counted};
+ghost use Rattle.code_file.specs.Numbers.{be, with_length};
 
 use crate::written_numbers::{push_number, push_signed};
 use feast_base::NoMemory;
@@ -204,7 +204,7 @@ fn push_each(out: &mut Vec<u8>, instrs: &[Instr]) -> Result<(), NoMemory>
 
 /// Appends instructions after their count.
 pub fn push_instrs(out: &mut Vec<u8>, instrs: &[Instr]) -> Result<(), NoMemory>
-    ensures { Appends out.old.items out.new.items result (counted 4 instr_bytes instrs.now) }
+    ensures { Appends out.old.items out.new.items result (with_length 4 instr_bytes instrs.now) }
 {
     push_number(out, instrs.len() as u128, 4)?;
     push_each(out, instrs)

@@ -1,7 +1,7 @@
 //! Writing big-endian numbers.
 ghost use Rattle.std.specs.Prelude.{◌≡◌, ◌*◌, ◌/◌, ◌%◌, ◌^◌, ◌≤◌, ◌<◌, ◌++◌, length};
 ghost use Rattle.feast_base.specs.Appending.{Appends};
-ghost use Rattle.code_file.specs.Numbers.{be, name_bytes, signed};
+ghost use Rattle.code_file.specs.Numbers.{be, name_bytes, bytes_of_signed};
 
 use feast_base::text::push;
 use feast_base::{Name, NoMemory};
@@ -27,7 +27,7 @@ pub fn push_number(out: &mut Vec<u8>, n: u128, width: u32) -> Result<(), NoMemor
 
 /// Appends a number in nine bytes, in two's complement.
 pub fn push_signed(out: &mut Vec<u8>, n: i128) -> Result<(), NoMemory>
-    ensures { Appends out.old.items out.new.items result (signed n) }
+    ensures { Appends out.old.items out.new.items result (bytes_of_signed n) }
 {
     if n >= 0 {
         push(out, &[0])?;

@@ -8,7 +8,7 @@ use Rattle.stack_code.specs.declared.instr.Answer.{Answer}
 use Rattle.stack_code.specs.declared.instr.Answer.TheVariants.{Nothing, Number as NumberBack, Atom as AtomBack}
 use Rattle.code_gen.specs.Drafts.{Drafts, end_by, end_piece}
 use Rattle.code_gen.specs.Kinds.{Setting, Fits}
-use Rattle.code_gen.specs.Runs.{Now, Out, goes, leaps, nexts, hands, fails, stops, lacks, turn_out, Asks, run, finish, answers, given, handed, entered, run_function, asks_at}
+use Rattle.code_gen.specs.Runs.{Now, Out, goes, leaps, nexts, hands, fails, stops, lacks, turn_out, Asks, run, finish, answers, after_return, after_call, function_start, run_function, asks_at}
 use Rattle.code_gen.proofs.Turns.{Kept, AsksKept, kept_less, turn_kept, run_kept}
 use Rattle.code_gen.proofs.Handed.{Right, NoHand, AsksRight}
 
@@ -57,11 +57,11 @@ finish_kept n (fails j) go k f = tt
 finish_kept n (stops w) go k f = tt
 finish_kept n lacks go k f = tt
 
-given_kept : (b : Bool) (n : ℕ) (st sl vs : List Datum) (s : Now) → s.turns ≤ n → Kept n (given b st sl vs s)
+given_kept : (b : Bool) (n : ℕ) (st sl vs : List Datum) (s : Now) → s.turns ≤ n → Kept n (after_return b st sl vs s)
 given_kept true n st sl vs s le = le
 given_kept false n st sl vs s le = tt
 
-handed_kept : (r : Answer) (n : ℕ) (st sl : List Datum) (o : Out) → Kept n o → Kept n (handed r st sl o)
+handed_kept : (r : Answer) (n : ℕ) (st sl : List Datum) (o : Out) → Kept n o → Kept n (after_call r st sl o)
 handed_kept r n st sl (goes s) k = tt
 handed_kept r n st sl (leaps s) k = tt
 handed_kept r n st sl (nexts s) k = tt
@@ -70,11 +70,11 @@ handed_kept r n st sl (fails j) k = tt
 handed_kept r n st sl (stops w) k = tt
 handed_kept r n st sl lacks k = tt
 
-given_none : (b : Bool) (st sl vs : List Datum) (s : Now) → NoHand (given b st sl vs s)
+given_none : (b : Bool) (st sl vs : List Datum) (s : Now) → NoHand (after_return b st sl vs s)
 given_none true st sl vs s = tt
 given_none false st sl vs s = tt
 
-handed_none : (r : Answer) (st sl : List Datum) (o : Out) → NoHand (handed r st sl o)
+handed_none : (r : Answer) (st sl : List Datum) (o : Out) → NoHand (after_call r st sl o)
 handed_none r st sl (goes s) = tt
 handed_none r st sl (leaps s) = tt
 handed_none r st sl (nexts s) = tt
@@ -103,9 +103,9 @@ asks_kept g kind (suc d) f s =
     let h = asks_at g kind d in
     let r = (g f).answer in
     let st = drop (length (g f).takes) s.held.stack in
-    let go = λ (t : ℕ). run_function kind h (g f) (entered (g f) s t) in
-    ask_kept_by (nat_le (length (g f).takes) (length s.held.stack)) s.turns (λ t. handed r st s.held.slots (go t)) (λ t.
-    handed_kept r t st s.held.slots (go t) (finish_kept t (run kind h (g f).body (entered (g f) s t)) (run kind h (end_piece (g f))) (run_kept kind h (asks_kept g kind d) (g f).body (entered (g f) s t)) (run_kept kind h (asks_kept g kind d) (end_piece (g f)))))
+    let go = λ (t : ℕ). run_function kind h (g f) (function_start (g f) s t) in
+    ask_kept_by (nat_le (length (g f).takes) (length s.held.stack)) s.turns (λ t. after_call r st s.held.slots (go t)) (λ t.
+    handed_kept r t st s.held.slots (go t) (finish_kept t (run kind h (g f).body (function_start (g f) s t)) (run kind h (end_piece (g f))) (run_kept kind h (asks_kept g kind d) (g f).body (function_start (g f) s t)) (run_kept kind h (asks_kept g kind d) (end_piece (g f)))))
 
 -- no call hands anything to its caller's caller
 pub asks_none : (g : Drafts) (kind d : ℕ) → AsksRight (asks_at g kind d)
@@ -114,5 +114,5 @@ asks_none g kind zero f s = ask_none_by (nat_le (length (g f).takes) (length s.h
 asks_none g kind (suc d) f s =
     let r = (g f).answer in
     let st = drop (length (g f).takes) s.held.stack in
-    let go = λ (t : ℕ). run_function kind (asks_at g kind d) (g f) (entered (g f) s t) in
-    ask_none_by (nat_le (length (g f).takes) (length s.held.stack)) s.turns (λ t. handed r st s.held.slots (go t)) (λ t. handed_none r st s.held.slots (go t))
+    let go = λ (t : ℕ). run_function kind (asks_at g kind d) (g f) (function_start (g f) s t) in
+    ask_none_by (nat_le (length (g f).takes) (length s.held.stack)) s.turns (λ t. after_call r st s.held.slots (go t)) (λ t. handed_none r st s.held.slots (go t))

@@ -9,7 +9,7 @@ use Rattle.stack_code.specs.declared.instr.Instr.TheVariants.{Call}
 use Rattle.code_gen.specs.Pieces.{Key, size, key_number}
 use Rattle.code_gen.specs.Drafts.{Drafts, end_piece, key_piece, value_at}
 use Rattle.code_gen.specs.Kinds.{setting_of, Fits}
-use Rattle.code_gen.specs.Runs.{Now, Out, goes, leaps, nexts, hands, fails, stops, lacks, turn_out, run, finish, answers, given, handed, entered, run_function, asks_at}
+use Rattle.code_gen.specs.Runs.{Now, Out, goes, leaps, nexts, hands, fails, stops, lacks, turn_out, run, finish, answers, after_return, after_call, function_start, run_function, asks_at}
 use Rattle.code_gen.proofs.Places.{At, HasPiece}
 use Rattle.code_gen.proofs.Comes.{Comes, one, comes_to}
 use Rattle.code_gen.proofs.Handed.{Right, run_right}
@@ -46,11 +46,11 @@ module _ (g : Drafts) (c : CodeValue) (ks : List Key) (has : HasFunctions g c ks
       let none = asks_none g c.kind d in
       finish_right n.answer (run c.kind h (g f).body s) (run c.kind h (end_piece (g f))) (run_right c.kind h none n (g f).body [] fit s) (λ s1. run_right c.kind h none n (end_piece (g f)) [] (end_fits n (g f).answer (g f).blank refl) s1)
 
-  given_does : (s0 : State) (p e k : ℕ) (frs : List Frame) (st sl vs : List Datum) (s : Now) (b : Bool) → b ≡ true → Comes c s0 (back (here 0 (record { place = p; stack = st; slots = sl } ∷ frs) s) vs (record { place = p; stack = st; slots = sl } ∷ frs)) → Does c s0 p e k frs (given b st sl vs s)
+  given_does : (s0 : State) (p e k : ℕ) (frs : List Frame) (st sl vs : List Datum) (s : Now) (b : Bool) → b ≡ true → Comes c s0 (back (here 0 (record { place = p; stack = st; slots = sl } ∷ frs) s) vs (record { place = p; stack = st; slots = sl } ∷ frs)) → Does c s0 p e k frs (after_return b st sl vs s)
   given_does s0 p e k frs st sl vs s true y a = a
   given_does s0 p e k frs st sl vs s false y a = absurd (cc)
 
-  handed_does : (s0 : State) (q x y p e k : ℕ) (frs : List Frame) (r : Answer) (st sl : List Datum) (o : Out) → Ended o → Right r o → Does c s0 q x y (record { place = p; stack = st; slots = sl } ∷ frs) o → Does c s0 p e k frs (handed r st sl o)
+  handed_does : (s0 : State) (q x y p e k : ℕ) (frs : List Frame) (r : Answer) (st sl : List Datum) (o : Out) → Ended o → Right r o → Does c s0 q x y (record { place = p; stack = st; slots = sl } ∷ frs) o → Does c s0 p e k frs (after_call r st sl o)
   handed_does s0 q x y p e k frs r st sl (goes s) en ri a = absurd en
   handed_does s0 q x y p e k frs r st sl (leaps s) en ri a = absurd en
   handed_does s0 q x y p e k frs r st sl (nexts s) en ri a = absurd en
@@ -84,11 +84,11 @@ module _ (g : Drafts) (c : CodeValue) (ks : List Key) (has : HasFunctions g c ks
       let st = drop (length (g f).takes) s.held.stack in
       let fr : Frame = record { place = p + 1; stack = st; slots = s.held.slots } in
       let end = x.0 + size (g f).body in
-      let in_it = λ (t : ℕ). entered (g f) s t in
+      let in_it = λ (t : ℕ). function_start (g f) s t in
       let go = λ (t : ℕ). run_function c.kind h (g f) (in_it t) in
-      ask_does p e k frs s (nat_le (length (g f).takes) (length s.held.stack)) s.turns true (λ t. into (here p frs s) (value_at g x.0 f) t) (λ t. handed (g f).answer st s.held.slots (go t))
+      ask_does p e k frs s (nat_le (length (g f).takes) (length s.held.stack)) s.turns true (λ t. into (here p frs s) (value_at g x.0 f) t) (λ t. after_call (g f).answer st s.held.slots (go t))
       (call_comes p frs s f x.0 true at x.1 (lt-ltb (length frs) 16 (omega arith))) (λ t a.
-      does_on c (here p frs s) (here x.0 (fr ∷ frs) (in_it t)) (p + 1) e k frs (handed (g f).answer st s.held.slots (go t)) a
+      does_on c (here p frs s) (here x.0 (fr ∷ frs) (in_it t)) (p + 1) e k frs (after_call (g f).answer st s.held.slots (go t)) a
       (handed_does (here x.0 (fr ∷ frs) (in_it t)) (end + size (end_piece (g f))) end end (p + 1) e k frs (g f).answer st s.held.slots (go t)
       (finish_ended (run c.kind h (g f).body (in_it t)) (run c.kind h (end_piece (g f))) (end_ended c.kind h (g f).answer (g f).blank))
       (function_right d f (in_it t) x.3)

@@ -17,7 +17,7 @@ use Rattle.ulam_meaning.specs.Runs as m
 use Rattle.ulam_meaning.specs.Runs.{Event, Store, Outcome, Way, Calls}
 use Rattle.ulam_meaning.specs.Places.{bit_at, read, read_at, write, write_at}
 use Rattle.ulam_meaning.specs.Expressions.{call, has_kind, eval, arguments}
-use Rattle.ulam_meaning.specs.Statements.{holds, choose, loop as loop_of, updated, assign, if_any, one, count_op, declare, give_back, exec, exec_part, exec_all}
+use Rattle.ulam_meaning.specs.Statements.{holds, choose, loop as loop_of, update, assign, if_any, one, count_op, declare, give_back, exec, exec_part, exec_all}
 use Rattle.ulam_meaning.specs.Events.{answer}
 use Rattle.stack_code.specs.Machine.{Goes, at_index}
 use Rattle.stack_code.specs.declared.instr.Instr.TheVariants.{PushNum, Pop, StoreLocal, Dup, IsKind}
@@ -127,8 +127,8 @@ module _ (e : Event) (hh : Asks) (z : Scene) where
   twice_same l q (Atom a) s next h = sym (ap (λ r. ends (m.and_then r next)) (no_number l a s))
 
   -- an operator, and a store
-  update_same : (st : List Datum) (o : PairOp) (ty : Ty) (w : ℕ) (q : Piece) (x y : Datum) (s : Store) (last : Datum → Store → Outcome Way) → ((v : Datum) (s : Store) → run e.acting hh q (at e.seed (v ∷ st) s) ≡ ends (last v s)) → run e.acting hh (seq (plain (update_instr o ty w)) q) (at e.seed (y ∷ x ∷ st) s) ≡ ends (m.and_then (updated o ty w x y s) last)
-  update_same st o ty w q x y s last h = value_same e hh st way (at e.seed (y ∷ x ∷ st) s) (plain (update_instr o ty w)) q (updated o ty w x y s) last (two_same e hh (update_instr o ty w) (operator o (arith_with ty w) (width_of ty)) (pair_sort o (arith_with ty w) (width_of ty)) x y st s) h
+  update_same : (st : List Datum) (o : PairOp) (ty : Ty) (w : ℕ) (q : Piece) (x y : Datum) (s : Store) (last : Datum → Store → Outcome Way) → ((v : Datum) (s : Store) → run e.acting hh q (at e.seed (v ∷ st) s) ≡ ends (last v s)) → run e.acting hh (seq (plain (update_instr o ty w)) q) (at e.seed (y ∷ x ∷ st) s) ≡ ends (m.and_then (update o ty w x y s) last)
+  update_same st o ty w q x y s last h = value_same e hh st way (at e.seed (y ∷ x ∷ st) s) (plain (update_instr o ty w)) q (update o ty w x y s) last (two_same e hh (update_instr o ty w) (operator o (arith_with ty w) (width_of ty)) (pair_sort o (arith_with ty w) (width_of ty)) x y st s) h
 
   abbrev SameIndex : Option Piece → Option (Store → Outcome Datum) → Type 0
   SameIndex None None = Unit {0}
@@ -140,7 +140,7 @@ module _ (e : Event) (hh : Asks) (z : Scene) where
   assign_same l None None None w a value s hi hv = value_same e hh [] way (at e.seed [] s) a (store z l) (value s) (λ x s1. write e z l x s1) (hv [] s) (λ x s1. store_same l x s1)
   assign_same l None None (Some o) w a value s hi hv =
       let last = λ (v : Datum) (s3 : Store). write e z l v s3 in
-      let change = λ (x : Datum) (y : Datum) (s2 : Store). m.and_then (updated o (spot_type z l) w x y s2) last in
+      let change = λ (x : Datum) (y : Datum) (s2 : Store). m.and_then (update o (spot_type z l) w x y s2) last in
       let q = seq (plain (update_instr o (spot_type z l) w)) (store z l) in
       value_same e hh [] way (at e.seed [] s) (load l) (seq a q) (read e l s) (λ x s1. m.and_then (value s1) (change x)) (load_same e hh l [] s) (λ x s1.
       value_same e hh (x ∷ []) way (at e.seed (x ∷ []) s1) a q (value s1) (change x) (hv (x ∷ []) s1) (λ y s2. update_same [] o (spot_type z l) w (store z l) x y s2 last (λ v s3. store_same l v s3)))
@@ -149,7 +149,7 @@ module _ (e : Event) (hh : Asks) (z : Scene) where
       value_same e hh (u ∷ []) way (at e.seed (u ∷ []) s1) a (store_at l) (value s1) (λ x s2. write_at e l u x s2) (hv (u ∷ []) s1) (λ x s2. store_at_same l u x s2))
   assign_same l (Some i) (Some index) (Some o) w a value s hi hv =
       let last = λ (u : Datum) (v : Datum) (s4 : Store). write_at e l u v s4 in
-      let change = λ (u x : Datum) (y : Datum) (s3 : Store). m.and_then (updated o (spot_type z l) w x y s3) (last u) in
+      let change = λ (u x : Datum) (y : Datum) (s3 : Store). m.and_then (update o (spot_type z l) w x y s3) (last u) in
       let q = seq (plain (update_instr o (spot_type z l) w)) (store_at l) in
       value_same e hh [] way (at e.seed [] s) i (seq (plain Dup) (seq (load_at l) (seq a q))) (index s) (λ u s1. m.and_then (read_at e l u s1) (λ x s2. m.and_then (value s2) (change u x))) (hi [] s) (λ u s1.
       twice_same l (seq (load_at l) (seq a q)) u s1 (λ x s2. m.and_then (value s2) (change u x)) (

@@ -3,12 +3,12 @@ use Rattle.std.proofs.Common.{◌≡◌, ℕ, ◌+◌, List, [], ◌∷◌, ◌+
 use Rattle.stack_code.specs.declared.instr.Instr.{Instr}
 use Rattle.stack_code.specs.declared.instr.Instr.TheVariants.{Jump, JumpFalse, Turn}
 use Rattle.code_gen.specs.Pieces.{Piece, pick, loop, ever, size, lay}
-use Rattle.code_gen.specs.Laying.{laid, laid_if}
+use Rattle.code_gen.specs.Laying.{code_and_piece, laid_if}
 use Rattle.code_gen.specs.Views.{key_of}
 use Rattle.code_gen.specs.declared.piece.Key.{Key}
 
 pub pick_laid : (old one two new : List Instr) (ks : List Key) (out next other end : ℕ) (a b : Piece) → other ≡ length old + 1 + size a + 1 → end ≡ other + size b → length two ≡ other →
-    one ≡ laid_if old ks out next other a → two ≡ one ++ Jump end ∷ [] → new ≡ laid two ks out next b → new ≡ laid old ks out next (pick a b)
+    one ≡ laid_if old ks out next other a → two ≡ one ++ Jump end ∷ [] → new ≡ code_and_piece two ks out next b → new ≡ code_and_piece old ks out next (pick a b)
 pick_laid old one two new ks out next other end a b is_other is_end long e f g =
     let all = map key_of ks in
     let first = lay all (length old + 1) out next a in
@@ -22,8 +22,8 @@ pick_laid old one two new ks out next other end a b is_other is_end long e f g =
     ∙ ap (λ o. old ++ JumpFalse o ∷ (first ++ Jump (o + size b) ∷ lay all o out next b)) is_other
 
 pub loop_laid : (old one two three new : List Instr) (ks : List Key) (out next start step past : ℕ) (t a b : Piece) → start ≡ length old → step ≡ length old + size t + 1 + size a → past ≡ step + size b + 2 →
-    length one + 1 ≡ length old + size t + 1 → length two ≡ step → one ≡ laid old ks out next t → two ≡ laid_if one ks past step past a → three ≡ laid two ks out next b → new ≡ three ++ Turn ∷ (Jump start ∷ []) →
-    new ≡ laid old ks out next (loop t a b)
+    length one + 1 ≡ length old + size t + 1 → length two ≡ step → one ≡ code_and_piece old ks out next t → two ≡ laid_if one ks past step past a → three ≡ code_and_piece two ks out next b → new ≡ three ++ Turn ∷ (Jump start ∷ []) →
+    new ≡ code_and_piece old ks out next (loop t a b)
 loop_laid old one two three new ks out next start step past t a b is_start is_step is_past long_one long_two e f g h =
     let all = map key_of ks in
     let body = length old + size t + 1 in
@@ -41,7 +41,7 @@ loop_laid old one two three new ks out next start step past t a b is_start is_st
     ∙ ap (λ s. old ++ (test ++ JumpFalse (s + size b + 2) ∷ (lay all body (s + size b + 2) s a ++ (lay all s out next b ++ Turn ∷ (Jump (length old) ∷ []))))) is_step
 
 pub ever_laid : (old one two new : List Instr) (ks : List Key) (out next start step past : ℕ) (a b : Piece) → start ≡ length old → step ≡ length old + size a → past ≡ step + size b + 2 →
-    length one ≡ step → one ≡ laid old ks past step a → two ≡ laid one ks out next b → new ≡ two ++ Turn ∷ (Jump start ∷ []) → new ≡ laid old ks out next (ever a b)
+    length one ≡ step → one ≡ code_and_piece old ks past step a → two ≡ code_and_piece one ks out next b → new ≡ two ++ Turn ∷ (Jump start ∷ []) → new ≡ code_and_piece old ks out next (ever a b)
 ever_laid old one two new ks out next start step past a b is_start is_step is_past long e f g =
     let all = map key_of ks in
     let first = lay all (length old) past step a in

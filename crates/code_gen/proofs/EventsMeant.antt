@@ -17,12 +17,12 @@ use Rattle.ulam_meaning.specs.Runs as m
 use Rattle.ulam_meaning.specs.Runs.{Event, Store, Outcome, Way, Calls}
 use Rattle.ulam_meaning.specs.Expressions.{casts}
 use Rattle.ulam_meaning.specs.Statements.{exec_all}
-use Rattle.ulam_meaning.specs.Events.{fill as fill_of, fresh as fresh_of, answer, answer_by, run_body, returned, calls_at, behave_key, behaves}
+use Rattle.ulam_meaning.specs.Events.{fill as fill_of, fresh as fresh_of, answer, answer_by, run_body, after_body, calls_at, behave_key, behaves}
 use Rattle.stack_code.specs.Machine.{fill, fresh}
 use Rattle.code_gen.specs.Drafts.{Draft, slots_of, end_piece}
 use Rattle.code_gen.specs.Scheme.{operand_of, answer_of, draft_of}
 use Rattle.code_gen.specs.Endings.{over}
-use Rattle.code_gen.specs.Runs.{Now, Out, goes, hands, fails, lacks, turn_out, Asks, run, finish, answers, given, handed, entered, ask_turn, run_function, asks_at, event, event_over}
+use Rattle.code_gen.specs.Runs.{Now, Out, goes, hands, fails, lacks, turn_out, Asks, run, finish, answers, after_return, after_call, function_start, ask_turn, run_function, asks_at, event, event_over}
 use Rattle.code_gen.proofs.Meant.{at, out_of, pushed, call_out, IfGives, Answers, SameCalls}
 use Rattle.code_gen.proofs.Done.{way_out, end_same, body_same}
 
@@ -129,13 +129,13 @@ finish_same g seed ty (m.gives (m.returns v) s) last h = refl
 finish_same g seed ty (m.fails n) last h = refl
 finish_same g seed ty m.wrong last h = refl
 
-given_same : (seed : ℕ) (v : Option Datum) (st locals : List Datum) (s : Store) → given true st locals (pushed v []) (at seed (pushed v []) s) ≡ goes (at seed (pushed v st) (record s { locals = locals }))
+given_same : (seed : ℕ) (v : Option Datum) (st locals : List Datum) (s : Store) → after_return true st locals (pushed v []) (at seed (pushed v []) s) ≡ goes (at seed (pushed v st) (record s { locals = locals }))
 given_same seed None st locals s = refl
 given_same seed (Some x) st locals s = refl
 
-back_same : (g : Program) (seed : ℕ) (ty : Ty) (st locals : List Datum) (r : Outcome Way) → handed (answer_of ty) st locals (handed_out g seed ty r) ≡ call_out seed st (returned g ty locals r)
+back_same : (g : Program) (seed : ℕ) (ty : Ty) (st locals : List Datum) (r : Outcome Way) → after_call (answer_of ty) st locals (handed_out g seed ty r) ≡ call_out seed st (after_body g ty locals r)
 back_same g seed ty st locals (m.gives way s) =
-    ap (λ b. given b st locals (pushed (answer_by g ty way) []) (at seed (pushed (answer_by g ty way) []) s)) (as_many_as ty (answer_by g ty way) (way_fits g ty way)) ∙ given_same seed (answer_by g ty way) st locals s
+    ap (λ b. after_return b st locals (pushed (answer_by g ty way) []) (at seed (pushed (answer_by g ty way) []) s)) (as_many_as ty (answer_by g ty way) (way_fits g ty way)) ∙ given_same seed (answer_by g ty way) st locals s
 back_same g seed ty st locals (m.fails n) = refl
 back_same g seed ty st locals m.wrong = refl
 
@@ -159,7 +159,7 @@ module _ (e : Event) (g : Program) where
       by_turn (suc t) = h t
 
   -- its slots are the fresh locals
-  entered_same : (f : Key) (xs st : List Datum) (s : Store) (t : ℕ) → length (draft_of g f).takes ≡ length xs → entered (draft_of g f) (at e.seed (reverse_aux xs st) s) t ≡ at e.seed [] (record s { locals = fresh_of xs (slot_types (function_of g f)); turns = t })
+  entered_same : (f : Key) (xs st : List Datum) (s : Store) (t : ℕ) → length (draft_of g f).takes ≡ length xs → function_start (draft_of g f) (at e.seed (reverse_aux xs st) s) t ≡ at e.seed [] (record s { locals = fresh_of xs (slot_types (function_of g f)); turns = t })
   entered_same f xs st s t l =
       let a : reverse (take (length (draft_of g f).takes) (reverse_aux xs st)) ≡ xs = ap (λ n. reverse (take n (reverse_aux xs st))) l ∙ ap reverse (take_rest xs st) ∙ reverse-reverse xs in
       ap (λ ys. at e.seed [] (record s { locals = fresh ys (slots_of (draft_of g f)); turns = t })) a ∙ ap (λ ys. at e.seed [] (record s { locals = ys; turns = t })) (slots_same g f xs)
@@ -168,7 +168,7 @@ module _ (e : Event) (g : Program) where
   turn_gives P zero go h = tt
   turn_gives P (suc t) go h = h t
 
-  returned_gives : (ty : Ty) (locals : List Datum) (r : Outcome Way) → IfGives (Answers ty) (returned g ty locals r)
+  returned_gives : (ty : Ty) (locals : List Datum) (r : Outcome Way) → IfGives (Answers ty) (after_body g ty locals r)
   returned_gives ty locals (m.gives way s) = way_fits g ty way
   returned_gives ty locals (m.fails n) = tt
   returned_gives ty locals m.wrong = tt
@@ -188,13 +188,13 @@ module _ (e : Event) (g : Program) where
             let draft = draft_of g f in
             let now = at e.seed (reverse_aux xs st) s in
             let many : length draft.takes ≡ length xs = takes_long (function_of g f).params ∙ sym l in
-            ask_same draft xs st s (λ t. handed draft.answer (drop (length draft.takes) now.held.stack) now.held.slots (run_function e.acting hh draft (entered draft now t))) (λ t. returned g (function_of g f).result s.locals (run_body e g h f xs t s)) many (λ t.
+            ask_same draft xs st s (λ t. after_call draft.answer (drop (length draft.takes) now.held.stack) now.held.slots (run_function e.acting hh draft (function_start draft now t))) (λ t. after_body g (function_of g f).result s.locals (run_body e g h f xs t s)) many (λ t.
             let rest : drop (length draft.takes) (reverse_aux xs st) ≡ st = ap (λ n. drop n (reverse_aux xs st)) many ∙ drop_rest xs st in
-            ap (λ k. handed draft.answer k s.locals (run_function e.acting hh draft (entered draft now t))) rest
-            ∙ ap (λ k. handed draft.answer st s.locals (run_function e.acting hh draft k)) (entered_same f xs st s t many)
-            ∙ ap (handed draft.answer st s.locals) (function_same hh h (calls_same d) f (record s { locals = fresh_of xs (slot_types (function_of g f)); turns = t }))
+            ap (λ k. after_call draft.answer k s.locals (run_function e.acting hh draft (function_start draft now t))) rest
+            ∙ ap (λ k. after_call draft.answer st s.locals (run_function e.acting hh draft k)) (entered_same f xs st s t many)
+            ∙ ap (after_call draft.answer st s.locals) (function_same hh h (calls_same d) f (record s { locals = fresh_of xs (slot_types (function_of g f)); turns = t }))
             ∙ back_same g e.seed (function_of g f).result st s.locals (run_body e g h f xs t s));
-        answers = λ f xs s. turn_gives (Answers (function_of g f).result) s.turns (λ t. returned g (function_of g f).result s.locals (run_body e g h f xs t s)) (λ t. returned_gives (function_of g f).result s.locals (run_body e g h f xs t s));
+        answers = λ f xs s. turn_gives (Answers (function_of g f).result) s.turns (λ t. after_body g (function_of g f).result s.locals (run_body e g h f xs t s)) (λ t. returned_gives (function_of g f).result s.locals (run_body e g h f xs t s));
       }
 
   -- an event on both sides

@@ -11,7 +11,7 @@ use Rattle.sat_math.specs.declared.Arith.{Arith}
 use Rattle.sat_math.specs.declared.Arith.TheVariants.{Int32, Unsigned32, Int64, Unsigned64}
 use Rattle.sat_math.specs.declared.Kind.TheVariants as k
 use Rattle.sat_math.specs.Numbers.{cast}
-use Rattle.sat_math.specs.Operations.{saturated, of_bool, is_zero, one_in}
+use Rattle.sat_math.specs.Operations.{saturate, of_bool, is_zero, one_in}
 use Rattle.datum.specs.declared.Datum.{Datum}
 use Rattle.datum.specs.declared.Datum.TheVariants.{Number, Atom}
 use Rattle.ulam_tree.specs.declared.resolved.Ty.{Ty}
@@ -25,11 +25,11 @@ use Rattle.ulam_tree.specs.declared.op.PairOp.TheVariants as op
 use Rattle.ulam_tree.specs.Typed as t
 use Rattle.ulam_meaning.specs.Programs.{Program, type_number}
 use Rattle.ulam_meaning.specs.Paths.{Spot, itself, local, member, part, window, constant, nothing, spot, Key, function_of, Callee, called, built_in, no_callee, callee, Scene}
-use Rattle.ulam_meaning.specs.Values.{arith_by, number_type, width_of, arith_of, operator, prefixed}
+use Rattle.ulam_meaning.specs.Values.{arith_by, number_type, width_of, arith_of, operator, apply_prefix}
 use Rattle.ulam_meaning.specs.Runs as m
 use Rattle.ulam_meaning.specs.Runs.{Event, Store, Outcome, Calls}
 use Rattle.ulam_meaning.specs.Places.{on_part, bit_at, read, read_at}
-use Rattle.ulam_meaning.specs.Expressions.{ask, draw, exchange, built, casts, built_casts, with_first, call, value_given, both, either, operate, has_kind, eval, eval_form, arguments}
+use Rattle.ulam_meaning.specs.Expressions.{ask, draw, exchange, call_built_in, casts, built_casts, with_first, call, value_given, both, either, operate, has_kind, eval, eval_form, arguments}
 use Rattle.stack_code.specs.Sorts.{Sort, One, Two, Ask, Draw, sort}
 use Rattle.stack_code.specs.Machine.{Held, Led, Goes, Fails, work, at_self, on_own, at_site, at_index, at_bound, on_slot, atom_in, on_part as on_part_of, result_of}
 use Rattle.stack_code.specs.declared.instr.Instr.{Instr}
@@ -129,11 +129,11 @@ pair_sort op.Le h w = refl
 pair_sort op.Gt h w = refl
 pair_sort op.Ge h w = refl
 
-minus_sort : (b : Bool) → sort (minus_instr b) ≡ One (λ v. saturated (arith_by k.Int b) (neg_ℤ v))
+minus_sort : (b : Bool) → sort (minus_instr b) ≡ One (λ v. saturate (arith_by k.Int b) (neg_ℤ v))
 minus_sort true = refl
 minus_sort false = refl
 
-pub prefix_sort : (o : PrefixOp) (ty : Ty) → sort (prefix_instr o ty) ≡ One (prefixed o ty)
+pub prefix_sort : (o : PrefixOp) (ty : Ty) → sort (prefix_instr o ty) ≡ One (apply_prefix o ty)
 prefix_sort pre.Minus ty = minus_sort (nat_le (width_of ty) 32)
 prefix_sort pre.Not ty = refl
 prefix_sort pre.Flip ty = refl
@@ -329,7 +329,7 @@ module _ (e : Event) (hh : Asks) where
   two_args i go (x ∷ y ∷ []) st s l h = h x y
   two_args i go (x ∷ y ∷ u ∷ xs) st s l h = absurd (omega (arith, l))
 
-  built_same : (c : Built) (xs st : List Datum) (s : Store) → length xs ≡ length (built_casts c) → run e.acting hh (plain (built_instr c)) (at e.seed (reverse_aux xs st) s) ≡ call_out e.seed st (built e c xs s)
+  built_same : (c : Built) (xs st : List Datum) (s : Store) → length xs ≡ length (built_casts c) → run e.acting hh (plain (built_instr c)) (at e.seed (reverse_aux xs st) s) ≡ call_out e.seed st (call_built_in e c xs s)
   built_same b.Swap xs st s l = two_args Swap (λ x y. exchange x y s) xs st s l (λ x y. swap_same x y st s)
   built_same b.IsLive xs st s l = one_arg IsLive (λ x. ask live_at x s) xs st s l (λ x. ask_same IsLive live_at refl x st s)
   built_same b.IsEmpty xs st s l = one_arg IsEmpty (λ x. ask is_empty_at x s) xs st s l (λ x. ask_same IsEmpty is_empty_at refl x st s)
@@ -370,7 +370,7 @@ module _ (e : Event) (hh : Asks) where
   draw_gives : (f : ℕ → ℤ) (P : Option Datum → Type 0) (x : Datum) (s : Store) → ((v : Datum) → P (Some v)) → IfGives P (draw e f x s)
   draw_gives f P x s h = number_gives P x _ (λ i. bound_gives P i _ (λ n. h _))
 
-  built_gives : (c : Built) (xs : List Datum) (s : Store) → IfGives (BuiltAnswers c) (built e c xs s)
+  built_gives : (c : Built) (xs : List Datum) (s : Store) → IfGives (BuiltAnswers c) (call_built_in e c xs s)
   built_gives b.Swap xs s = two_gives (BuiltAnswers b.Swap) xs (λ x y. exchange x y s) (λ x y. number_gives (BuiltAnswers b.Swap) x _ (λ i. number_gives (BuiltAnswers b.Swap) y _ (λ j. site_gives (BuiltAnswers b.Swap) i _ (λ a. site_gives (BuiltAnswers b.Swap) j _ (λ c. tt)))))
   built_gives b.IsLive xs s = one_gives (BuiltAnswers b.IsLive) xs (λ x. ask live_at x s) (λ x. ask_gives live_at (BuiltAnswers b.IsLive) x s (λ v. tt))
   built_gives b.IsEmpty xs s = one_gives (BuiltAnswers b.IsEmpty) xs (λ x. ask is_empty_at x s) (λ x. ask_gives is_empty_at (BuiltAnswers b.IsEmpty) x s (λ v. tt))
@@ -422,7 +422,7 @@ module _ (e : Event) (hh : Asks) where
 
     pub call_gives : (c : Callee) (args : List (Option NumType) → Outcome (List Datum)) → IfGives (CalleeAnswers z.program c) (call e z.program h c args)
     call_gives (called f) args = then_gives (CalleeAnswers z.program (called f)) (args (casts (function_of z.program f).params)) (λ xs s. h f xs s) (λ xs s. sc.answers f xs s)
-    call_gives (built_in c) args = then_gives (CalleeAnswers z.program (built_in c)) (args (built_casts c)) (λ xs s. built e c xs s) (λ xs s. built_gives c xs s)
+    call_gives (built_in c) args = then_gives (CalleeAnswers z.program (built_in c)) (args (built_casts c)) (λ xs s. call_built_in e c xs s) (λ xs s. built_gives c xs s)
     call_gives no_callee args = tt
 
     pub call_same : (c : Callee) (es : t.Args) (st : List Datum) (s : Store) → ((cs : List (Option NumType)) → run e.acting hh (args_piece z es cs) (at e.seed st s) ≡ args_out e.seed st (arguments e z h es cs s)) → run e.acting hh (call_piece z.program c (args_piece z es)) (at e.seed st s) ≡ call_out e.seed st (call e z.program h c (λ cs. arguments e z h es cs s))
@@ -430,7 +430,7 @@ module _ (e : Event) (hh : Asks) where
         let cs = casts (function_of z.program f).params in
         seq_with (λ xs s. at e.seed (reverse_aux xs st) s) (λ v s. goes (at e.seed (pushed v st) s)) (λ xs. length xs ≡ length cs) (at e.seed st s) (args_piece z es cs) (asks f) (arguments e z h es cs s) (λ xs s. h f xs s) (args_long es cs s) (u cs) (λ xs s l. sc.same f xs st s l)
     call_same (built_in c) es st s u =
-        seq_with (λ xs s. at e.seed (reverse_aux xs st) s) (λ v s. goes (at e.seed (pushed v st) s)) (λ xs. length xs ≡ length (built_casts c)) (at e.seed st s) (args_piece z es (built_casts c)) (plain (built_instr c)) (arguments e z h es (built_casts c) s) (λ xs s. built e c xs s) (args_long es (built_casts c) s) (u (built_casts c)) (λ xs s l. built_same c xs st s l)
+        seq_with (λ xs s. at e.seed (reverse_aux xs st) s) (λ v s. goes (at e.seed (pushed v st) s)) (λ xs. length xs ≡ length (built_casts c)) (at e.seed st s) (args_piece z es (built_casts c)) (plain (built_instr c)) (arguments e z h es (built_casts c) s) (λ xs s. call_built_in e c xs s) (args_long es (built_casts c) s) (u (built_casts c)) (λ xs s l. built_same c xs st s l)
     call_same no_callee es st s u = refl
 
     callee_value : (c : Callee) (v : Option Datum) (st : List Datum) (s : Store) → CalleeAnswers z.program c v → run e.acting hh (if_nothing z.program c nowhere none) (at e.seed (pushed v st) s) ≡ value_out e.seed st (value_given v s)
@@ -464,7 +464,7 @@ module _ (e : Event) (hh : Asks) where
       form_same (t.instance c) ty st s = refl
       form_same (t.group a p) ty st s = expr_same a st s
       form_same (t.cast c a p) ty st s = value_same st (λ x s. goes (at e.seed (x ∷ st) s)) (at e.seed st s) (expr_piece z a) (fit (number_type c.ty)) (eval e z h a s) (λ x s1. m.cast_to (number_type c.ty) x s1) (expr_same a st s) (λ x s1. fit_same (number_type c.ty) x st s1)
-      form_same (t.prefix o a p) ty st s = value_same st (λ x s. goes (at e.seed (x ∷ st) s)) (at e.seed st s) (expr_piece z a) (plain (prefix_instr o ty)) (eval e z h a s) (λ x s1. m.on_number x (λ v. m.gives (Number (prefixed o ty v)) s1)) (expr_same a st s) (λ x s1. one_same (prefix_instr o ty) (prefixed o ty) (prefix_sort o ty) x st s1)
+      form_same (t.prefix o a p) ty st s = value_same st (λ x s. goes (at e.seed (x ∷ st) s)) (at e.seed st s) (expr_piece z a) (plain (prefix_instr o ty)) (eval e z h a s) (λ x s1. m.on_number x (λ v. m.gives (Number (apply_prefix o ty v)) s1)) (expr_same a st s) (λ x s1. one_same (prefix_instr o ty) (apply_prefix o ty) (prefix_sort o ty) x st s1)
       form_same (t.pair op.Both a b p) ty st s = value_same st (λ x s. goes (at e.seed (x ∷ st) s)) (at e.seed st s) (expr_piece z a) (pick (expr_piece z b) (plain (PushNum (pos 0)))) (eval e z h a s) (λ x s1. both x s1 (eval e z h b)) (expr_same a st s) (λ x s1. both_same (expr_piece z b) x st s1 (eval e z h b) (expr_same b st s1))
       form_same (t.pair op.Either a b p) ty st s = value_same st (λ x s. goes (at e.seed (x ∷ st) s)) (at e.seed st s) (expr_piece z a) (seq (plain NotB) (pick (expr_piece z b) (plain (PushNum (pos 1))))) (eval e z h a s) (λ x s1. either x s1 (eval e z h b)) (expr_same a st s) (λ x s1. either_same (expr_piece z b) x st s1 (eval e z h b) (expr_same b st s1))
       form_same (t.pair o a b p) ty st s =

@@ -15,7 +15,7 @@ use Rattle.ulam_tree.specs.declared.op.PairOp.TheVariants as op
 use Rattle.ulam_types.specs.declared.scope.NumClass.{NumClass}
 use Rattle.ulam_types.specs.declared.scope.NumClass.TheVariants.{Int, Unsigned, Bits, Bool as Truth, Other}
 use Rattle.ulam_types.specs.Scopes.{Scope, is_element}
-use Rattle.ulam_types.specs.Rows.{int, unsigned, bits, bool, class_by, class_of, plain_type, wide, arith_type, order_type, equal_type, bits_type, shift_type, truth_type, pair_type, prefix_by, prefix_type, cast_type, is_atom, is_index_class, is_index, is_truth_class, is_truth, is_unsigned_class, is_unsigned, fits_number, same_class, assignable}
+use Rattle.ulam_types.specs.Rows.{int, unsigned_type, bits, bool, class_by, class_of, plain_type, wide, arith_type, order_type, equal_type, bits_type, shift_type, truth_type, pair_type, prefix_by, prefix_type, cast_type, is_atom, is_index_class, is_index, is_truth_class, is_truth, is_unsigned_class, is_unsigned, fits_number, same_class, assignable}
 use Rattle.ulam_meaning.specs.Values.{width_of}
 use Rattle.stack_code.specs.Sorts.{num_type}
 use Rattle.stack_code.specs.Valid.{type_fits, args_fit}
@@ -56,7 +56,7 @@ plain_bits k.Bool m e = cc
 pub plain_wide : (kd : Kind) (ty : Ty) → ty ≡ plain_type kd → BitsWide ty
 plain_wide kd ty e = subst BitsWide (sym e) (plain_bits kd)
 
-pub unsigned_wide : (w : ℕ) (ty : Ty) → ty ≡ unsigned w → BitsWide ty
+pub unsigned_wide : (w : ℕ) (ty : Ty) → ty ≡ unsigned_type w → BitsWide ty
 unsigned_wide w ty e = subst BitsWide (sym e) (λ m f. cc)
 
 pub bool_wide : (ty : Ty) → ty ≡ bool → BitsWide ty
@@ -86,7 +86,7 @@ given_int m n w ty s = record { left = λ e. cc; right = λ e. cc; number = subs
 
 arith_gives : (a b : NumClass) (ty : Ty) → arith_type a b ≡ Some ty → Given a b ty
 arith_gives (Int m) (Int n) ty e = given_int m n (wide m n) ty (cc)
-arith_gives (Unsigned m) (Unsigned n) ty e = let s : unsigned (wide m n) ≡ ty = cc in record { left = λ e. cc; right = λ e. cc; number = subst IsNumber s refl; wide = subst BitsWide s (λ i e. cc) }
+arith_gives (Unsigned m) (Unsigned n) ty e = let s : unsigned_type (wide m n) ≡ ty = cc in record { left = λ e. cc; right = λ e. cc; number = subst IsNumber s refl; wide = subst BitsWide s (λ i e. cc) }
 arith_gives a b ty e = cc
 
 truth_given : (a b : NumClass) (ty : Ty) → bool ≡ ty → (a ≡ Other → ⊥) → (b ≡ Other → ⊥) → Given a b ty

@@ -31,7 +31,7 @@ loop_value g (y.Class k) = refl
 loop_value g (y.Num num) = refl
 loop_value g ty = refl
 
-narrow_value : (g : s.Scope) (n : ℕ) (a ty : Ty) → s.is_value (s.narrowed g n a) ty ≡ s.is_value g ty
+narrow_value : (g : s.Scope) (n : ℕ) (a ty : Ty) → s.is_value (s.scope_as g n a) ty ≡ s.is_value g ty
 narrow_value g n a (y.Class k) = refl
 narrow_value g n a (y.Num num) = refl
 narrow_value g n a ty = refl
@@ -54,7 +54,7 @@ module _ (z : Scene) (c : ℕ) (fields_wide : (k m : ℕ) → IsWide (field_at z
   atom_seen g sees (Local i ∷ []) n e = local_seen g sees i n (slice_get g.slots i) refl e
   atom_seen g sees steps n e = cc
 
-  narrow_sees : (g : s.Scope) → Sees g z c → (n : ℕ) (ty : Ty) → slice_get g.slots n ≡ Some y.Atom → is_element_type g ty ≡ true → Sees (s.narrowed g n ty) z c
+  narrow_sees : (g : s.Scope) → Sees g z c → (n : ℕ) (ty : Ty) → slice_get g.slots n ≡ Some y.Atom → is_element_type g ty ≡ true → Sees (s.scope_as g n ty) z c
   narrow_sees g sees n (y.Class k) f e = record { classes = sees.classes; slots = alike_set g.slots z.slots n k sees.slots f; result = sees.result; wide = sees.wide }
   narrow_sees g sees n ty f e = cc
 

@@ -12,7 +12,7 @@ use Rattle.ulam_tree.specs.Typed as t
 use Rattle.ulam_types.specs.declared.scope.Want.{Want}
 use Rattle.ulam_types.specs.declared.scope.Want.TheVariants.{Value, Site, Bound}
 use Rattle.ulam_types.specs.Scopes as s
-use Rattle.ulam_types.specs.Rows.{unsigned, bool, plain_type, taken, pair_type, is_unsigned, is_species, instance_type, is_void, suits, all_suit, built_result, result_of}
+use Rattle.ulam_types.specs.Rows.{unsigned_type, bool, plain_type, kind_from, pair_type, is_unsigned, is_species, instance_type, is_void, suits, all_suit, built_result, result_of}
 use Rattle.ulam_types.specs.Well.{count, IsNumberType, IsWell, IsWellForm, AreWell, IsWellIndex, IsWellAssigned, IsWellTest, IfSome, IsWellValue, IsWellResult}
 use Rattle.ulam_meaning.specs.Programs.{Program, field_at}
 use Rattle.ulam_meaning.specs.Paths.{Spot, spot, Key, function_of, Callee, called, built_in, no_callee, callee, Scene, spot_type}
@@ -82,7 +82,7 @@ built_bits b.Swap es = λ m f. cc
 built_bits b.IsLive es = bool_wide bool refl
 built_bits b.IsEmpty es = bool_wide bool refl
 built_bits b.OneIn es = bool_wide bool refl
-built_bits b.Create t.no_args = unsigned_wide 32 (unsigned 32) refl
+built_bits b.Create t.no_args = unsigned_wide 32 (unsigned_type 32) refl
 built_bits b.Create (t.arg e es) = unsigned_wide _ _ refl
 
 -- a function of the window or of the random stream that has a value gives a number
@@ -244,15 +244,15 @@ module _ (g : s.Scope) (z : Scene) (c : ℕ) (sees : Sees g z c) (fields_wide : 
       subst (λ at. AssignsKind z (item at (expr_piece z i)) (Some o) w (operand_of (t.ty_of e))) (sym q) (p.right, subst (ReadsAtKind z (spot z.program z.base x.steps)) p.left r.reads, r.writes Number (sym p.left), subst (λ own. args_fit (update_instr o own w) ≡ true) (sym own) (p.update (arith_with ty w)))
 
   -- `++` and `--`
-  pub count_kinded : (i : Option t.Expr) (x : t.Path) (up : Bool) (ty sum : Ty) → IsWellIndex g x i ty → IsNamedLeft z c (record { path = x; index = i }) → pair_type op.Add true ty (plain_type (taken ty)) ≡ Some sum → AssignsKind z (target_at (spot z.program z.base x.steps) (optional_piece z i)) (Some (count_op up)) 32 Number
+  pub count_kinded : (i : Option t.Expr) (x : t.Path) (up : Bool) (ty sum : Ty) → IsWellIndex g x i ty → IsNamedLeft z c (record { path = x; index = i }) → pair_type op.Add true ty (plain_type (kind_from ty)) ≡ Some sum → AssignsKind z (target_at (spot z.program z.base x.steps) (optional_piece z i)) (Some (count_op up)) 32 Number
   count_kinded None x up ty sum h n a =
       let r = path_target g z c sees fields_wide x.steps ty n.0 h in
-      let p = pair_gives op.Add true ty (plain_type (taken ty)) sum a r.wide (plain_wide (taken ty) (plain_type (taken ty)) refl) (λ e. refl) in
+      let p = pair_gives op.Add true ty (plain_type (kind_from ty)) sum a r.wide (plain_wide (kind_from ty) (plain_type (kind_from ty)) refl) (λ e. refl) in
       let own = r.same p.left in
       (refl, subst (ReadsKind z (spot z.program z.base x.steps)) p.left r.reads, r.writes Number (sym p.left), counts_fit up (spot_type z (spot z.program z.base x.steps)))
   count_kinded (Some i) x up ty sum h n a =
       let r = path_item g z c sees fields_wide x.steps ty n.0 h.0 in
-      let p = pair_gives op.Add true ty (plain_type (taken ty)) sum a r.wide (plain_wide (taken ty) (plain_type (taken ty)) refl) (λ e. refl) in
+      let p = pair_gives op.Add true ty (plain_type (kind_from ty)) sum a r.wide (plain_wide (kind_from ty) (plain_type (kind_from ty)) refl) (λ e. refl) in
       (refl, subst (ReadsAtKind z (spot z.program z.base x.steps)) p.left r.reads, r.writes Number (sym p.left), counts_fit up (spot_type z (spot z.program z.base x.steps)))
 
   pub return_kinded : (e : Option t.Expr) → IsWellResult g e → IsWide z.result → (is_void g.result ≡ false → s.is_value g g.result ≡ true) → IfNamed z c e → KindedReturn z c e

@@ -1,6 +1,6 @@
 -- Pieces whose numbers are cut off if an instruction or a key has no room for them. A piece that
 -- fits is left as it is.
-use Rattle.std.specs.Prelude.{ℕ, min, pos}
+use Rattle.std.specs.Prelude.{ℕ, ◌-◌, ◌^◌, min, pos}
 use Rattle.stack_code.specs.declared.instr.Instr.{Instr}
 use Rattle.stack_code.specs.declared.instr.Instr.TheVariants.{PushNum, NotB, LoadLocal, StoreLocal, LoadField, StoreField, LoadPart, StorePart, LoadFieldAt, StoreFieldAt, LoadPartAt, StorePartAt}
 use Rattle.ulam_tree.specs.declared.resolved.Ty.{Ty}
@@ -16,7 +16,7 @@ abbrev pub byte : ℕ → ℕ
 byte n = min n 255
 
 abbrev pub word : ℕ → ℕ
-word n = min n 4294967295
+word n = min n (2 ^ 32 - 1)
 
 abbrev pub clip_key : Key → Key
 clip_key f = record { class = f.class; function = f.function; base = word f.base }

@@ -4,6 +4,7 @@ use Rattle.stack_code.specs.Sorts.{Sort, One, Two, Store, Drop, SetField, SetPar
 use Rattle.stack_code.specs.Valid.{is_nothing}
 use Rattle.code_gen.specs.Pieces.{Piece, none, seq, plain, asks, pick, only, loop, ever, out, next, gives, leaves}
 use Rattle.code_gen.specs.Drafts.{Drafts}
+use Rattle.stack_code.specs.declared.limits.TheConstants.{MOST_OPERANDS}
 
 -- how many operands a plain instruction takes, and how many it gives
 abbrev pub takes : Sort → ℕ
@@ -44,7 +45,7 @@ answer_count false = 1
 
 -- a place may have this many operands
 abbrev pub at_most : ℕ → Option ℕ → Option ℕ
-at_most d o = if nat_le d 512 then o else None
+at_most d o = if nat_le d MOST_OPERANDS then o else None
 
 abbrev pub and_depth : Option ℕ → (ℕ → Option ℕ) → Option ℕ
 and_depth None go = None

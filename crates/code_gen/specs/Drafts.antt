@@ -8,6 +8,8 @@ use Rattle.stack_code.specs.declared.instr.Answer.TheVariants.{Nothing, Number a
 use Rattle.stack_code.specs.declared.instr.Instr.{Instr}
 use Rattle.stack_code.specs.declared.instr.Instr.TheVariants.{PushNum, PushAtom}
 use Rattle.code_gen.specs.Pieces.{Key, Piece, seq, plain, gives, leaves, size, lay, add_calls}
+use Rattle.bit_field.specs.declared.TheConstants.{STATE_BITS}
+use Rattle.stack_code.specs.declared.limits.TheConstants.{MOST_INSTRS}
 
 -- a function before it has a place and a number: its name, the kinds of its parameters and of its other slots, what it gives back, the type of the atom that its end gives, how many state bits its class has, and its body
 pub record Draft : Type 0 where
@@ -54,7 +56,7 @@ reach g (suc n) k ks = on_key (slice_get ks k) ks (λ f. reach g n (suc k) (add_
 -- the functions of an element from its first one on, in the order of their first calls. Each has an
 -- instruction, so that no more are needed than code may have
 unfoldable pub keys : Drafts → Key → List Key
-keys g main = reach g 65537 0 (main ∷ [])
+keys g main = reach g (MOST_INSTRS + 1) 0 (main ∷ [])
 
 -- the instructions of a function at a place: outside of loops, `out` and `next` lead to its end
 abbrev pub function_code : Drafts → List Key → ℕ → Key → List Instr
@@ -84,4 +86,4 @@ total g (f ∷ fs) = size (key_piece g f) + total g fs
 
 -- whether the bits that a function works on lie in an atom's state
 abbrev pub has_room : Drafts → Key → Bool
-has_room g f = nat_le (f.base + (g f).bits) 71
+has_room g f = nat_le (f.base + (g f).bits) STATE_BITS

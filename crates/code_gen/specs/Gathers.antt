@@ -8,6 +8,7 @@ use Rattle.code_gen.specs.Depths.{depth}
 use Rattle.code_gen.specs.Limits.{IsShort}
 use Rattle.code_gen.specs.Views.{key_of, piece_of}
 use Rattle.code_gen.specs.declared.gather.Gathered.{Gathered}
+use Rattle.stack_code.specs.declared.limits.TheConstants.{MOST_INSTRS}
 
 -- the body of a function
 abbrev pub body_at : Drafts → Key → Piece
@@ -15,7 +16,7 @@ body_at g f = (g f).body
 
 -- how many instructions there are with one function more, if the limits let it through
 unfoldable pub longer : Drafts → Key → ℕ → Option ℕ
-longer g f sum = if is_some (depth g (key_piece g f) 0) then (if nat_le (sum + size (key_piece g f)) 65536 then Some (sum + size (key_piece g f)) else None) else None
+longer g f sum = if is_some (depth g (key_piece g f) 0) then (if nat_le (sum + size (key_piece g f)) MOST_INSTRS then Some (sum + size (key_piece g f)) else None) else None
 
 -- a function's body is added, and the functions that it calls
 pub record Adds (g : Drafts) (f : Key) (old new : Gathered) : Type 0 where

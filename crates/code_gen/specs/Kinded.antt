@@ -21,6 +21,7 @@ use Rattle.stack_code.specs.Valid.{Kinds, type_fits, number_fits, args_fit, answ
 use Rattle.stack_code.specs.declared.instr.Operand.{Operand}
 use Rattle.stack_code.specs.declared.instr.Operand.TheVariants.{Number, Atom}
 use Rattle.code_gen.specs.Scheme.{operand_of, answer_of, pair_instr, prefix_instr, update_instr, Target, whole, item, target_spot, left_target, spot_at, callee_at}
+use Rattle.stack_code.specs.declared.limits.TheConstants.{MOST_SLOTS}
 
 abbrev pub IsNumber : Ty → Type 0
 IsNumber ty = operand_of ty ≡ Number
@@ -229,6 +230,6 @@ module _ (scene : Scene) where
 pub record IsKinded (g : Program) (c : ℕ) : Type 0 where
   pub laid : IsLaidOut g
   pub bodies : (f : Key) → KindedBody (scene_of g f) f.class (function_of g f).body
-  pub slots : (f : Key) → length (slot_types (function_of g f)) ≤ 72
+  pub slots : (f : Key) → length (slot_types (function_of g f)) ≤ MOST_SLOTS
   pub no_params : (function_of g (behave_key g c)).params ≡ []
   pub no_result : (function_of g (behave_key g c)).result ≡ y.Nothing

@@ -6,6 +6,7 @@ use Rattle.stack_code.specs.declared.instr.Operand.TheVariants.{Number, Atom}
 use Rattle.stack_code.specs.declared.instr.Answer.{Answer}
 use Rattle.code_gen.specs.Pieces.{Key, Piece, none, seq, plain, asks, pick, only, loop, ever, out, next, gives, leaves}
 use Rattle.code_gen.specs.Drafts.{Draft, Drafts, slots_of, has_room}
+use Rattle.stack_code.specs.declared.limits.TheConstants.{MOST_OPERANDS}
 
 -- the setting of a piece: among these functions, with these slots, in a function that gives this
 -- back
@@ -89,4 +90,4 @@ module _ (setting : Setting) where
 -- no more than 512 operands anywhere
 abbrev pub Shallow : List Kinds → Type 0
 Shallow [] = Unit {0}
-Shallow (ks ∷ kss) = (length ks ≤ 512) × Shallow kss
+Shallow (ks ∷ kss) = (length ks ≤ MOST_OPERANDS) × Shallow kss

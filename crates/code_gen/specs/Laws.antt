@@ -8,13 +8,14 @@ use Rattle.code_gen.specs.Pieces.{Key}
 use Rattle.code_gen.specs.Drafts.{Drafts, slots_of, code_of, has_room}
 use Rattle.code_gen.specs.Kinds.{setting_of, ends, Fits}
 use Rattle.code_gen.specs.Runs.{event, event_over}
+use Rattle.stack_code.specs.declared.limits.TheConstants.{MOST_SLOTS}
 
 -- a function's body finds what it takes and leaves no operands if it comes to its end, and there
 -- are at most 72 slots
 pub record IsGood (g : Drafts) (f : Key) : Type 0 where
   pub fits : Fits (setting_of g f) (g f).body []
   pub stops : ends (setting_of g f) (g f).body [] ≡ []
-  pub slots : length (slots_of (g f)) ≤ 72
+  pub slots : length (slots_of (g f)) ≤ MOST_SLOTS
 
 -- each function that has room for its bits is good, and the first one has room, no parameters and no answer
 pub record IsReady (g : Drafts) (main : Key) : Type 0 where

@@ -12,6 +12,7 @@ use Rattle.ulam_meaning.specs.Events.{behave_key}
 use Rattle.stack_code.specs.Valid.{type_fits, number_fits}
 use Rattle.stack_code.specs.declared.instr.Operand.TheVariants.{Atom}
 use Rattle.code_gen.specs.Kinded.{HasSlot, HasPath, IsLast}
+use Rattle.stack_code.specs.declared.limits.TheConstants.{MOST_SLOTS}
 
 -- a type of numbers has a width that its kind allows
 abbrev pub IsWide : Ty → Type 0
@@ -93,7 +94,7 @@ module _ (scene : Scene) (class : ℕ) where
 pub record IsNamedProgram (g : Program) : Type 0 where
   pub fields : (c m : ℕ) → IsWide (field_at g c m).ty
   pub slots : (f : Key) → AllWide (slot_types (function_of g f))
-  pub few : (f : Key) → length (slot_types (function_of g f)) ≤ 72
+  pub few : (f : Key) → length (slot_types (function_of g f)) ≤ MOST_SLOTS
   pub results : (f : Key) → IsWide (function_of g f).result
   pub bodies : (f : Key) → IsNamedBody (scene_of g f) f.class (function_of g f).body
 

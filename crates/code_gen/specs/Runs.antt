@@ -1,7 +1,7 @@
 -- What a piece does, by big steps: between the meaning of a tree and the machine.
 use Rattle.std.specs.Prelude.{ℕ, zero, suc, nat_le, Bool, true, false, List, [], ◌∷◌, ◌++◌, length, Option, Some, None, reverse, take, drop, if◌then◌else◌}
 use Rattle.sat_math.specs.Operations.{is_zero}
-use Rattle.window_sites.specs.Window.{WindowValue, emptied}
+use Rattle.window_sites.specs.Window.{WindowValue, without_centre}
 use Rattle.draw_stream.specs.Words.{event_state}
 use Rattle.datum.specs.declared.Datum.{Datum}
 use Rattle.datum.specs.declared.Datum.TheVariants.{Number as ANumber, Atom as AnAtom}
@@ -11,6 +11,7 @@ use Rattle.stack_code.specs.Valid.{is_nothing}
 use Rattle.stack_code.specs.declared.instr.Answer.{Answer}
 use Rattle.code_gen.specs.Pieces.{Key, Piece, none, seq, plain, asks, pick, only, loop, ever, out, next, gives, leaves}
 use Rattle.code_gen.specs.Drafts.{Draft, Drafts, slots_of, end_piece}
+use Rattle.feast_base.specs.declared.limits.TheConstants.{MOST_CALLS, MOST_TURNS}
 
 -- what a piece works on: operands, slots, window and random words, and the turns that are left
 pub record Now : Type 0 where
@@ -137,23 +138,23 @@ abbrev pub answers : Answer → List Datum → Bool
 answers r vs = as_many (is_nothing r) vs
 
 -- the caller goes on with its own operands and slots, and with what the function gave
-abbrev pub given : Bool → List Datum → List Datum → List Datum → Now → Out
-given true st sl vs s = goes (record { held = record s.held { stack = vs ++ st; slots = sl }; turns = s.turns })
-given false st sl vs s = lacks
+abbrev pub after_return : Bool → List Datum → List Datum → List Datum → Now → Out
+after_return true st sl vs s = goes (record { held = record s.held { stack = vs ++ st; slots = sl }; turns = s.turns })
+after_return false st sl vs s = lacks
 
 -- what a function's end means to its caller
-abbrev pub handed : Answer → List Datum → List Datum → Out → Out
-handed r st sl (goes s) = lacks
-handed r st sl (leaps s) = lacks
-handed r st sl (nexts s) = lacks
-handed r st sl (hands vs s) = given (answers r vs) st sl vs s
-handed r st sl (fails n) = fails n
-handed r st sl (stops w) = stops w
-handed r st sl lacks = lacks
+abbrev pub after_call : Answer → List Datum → List Datum → Out → Out
+after_call r st sl (goes s) = lacks
+after_call r st sl (leaps s) = lacks
+after_call r st sl (nexts s) = lacks
+after_call r st sl (hands vs s) = after_return (answers r vs) st sl vs s
+after_call r st sl (fails n) = fails n
+after_call r st sl (stops w) = stops w
+after_call r st sl lacks = lacks
 
 -- a function's own operands and slots, with its arguments from the topmost operands
-abbrev pub entered : Draft → Now → ℕ → Now
-entered d s t = record { held = record s.held { stack = []; slots = fresh (reverse (take (length d.takes) s.held.stack)) (slots_of d) }; turns = t }
+abbrev pub function_start : Draft → Now → ℕ → Now
+function_start d s t = record { held = record s.held { stack = []; slots = fresh (reverse (take (length d.takes) s.held.stack)) (slots_of d) }; turns = t }
 
 -- a call takes a turn, if its arguments are there
 abbrev pub ask_turn : Draft → Now → (ℕ → Out) → Out
@@ -162,19 +163,19 @@ ask_turn d s go = if nat_le (length d.takes) (length s.held.stack) then turn_out
 -- the calls of functions, with this many levels of depth left
 unfoldable pub asks_at : Drafts → ℕ → ℕ → Asks
 asks_at g kind zero f s = ask_turn (g f) s (λ t. fails 2)
-asks_at g kind (suc d) f s = ask_turn (g f) s (λ t. handed (g f).answer (drop (length (g f).takes) s.held.stack) s.held.slots (run_function kind (asks_at g kind d) (g f) (entered (g f) s t)))
+asks_at g kind (suc d) f s = ask_turn (g f) s (λ t. after_call (g f).answer (drop (length (g f).takes) s.held.stack) s.held.slots (run_function kind (asks_at g kind d) (g f) (function_start (g f) s t)))
 
 -- what an event begins with
 abbrev pub at_start : Draft → WindowValue → ℕ → Now
-at_start d w seed = record { held = record { stack = []; slots = fresh [] (slots_of d); window = w; words = event_state seed 0 }; turns = 1000 }
+at_start d w seed = record { held = record { stack = []; slots = fresh [] (slots_of d); window = w; words = event_state seed 0 }; turns = MOST_TURNS }
 
 -- an event by its first function
 abbrev pub event : Drafts → ℕ → Key → WindowValue → ℕ → Out
-event g kind main w seed = run_function kind (asks_at g kind 16) (g main) (at_start (g main) w seed)
+event g kind main w seed = run_function kind (asks_at g kind MOST_CALLS) (g main) (at_start (g main) w seed)
 
 -- the window and the ending of an event that began with this window. Its first function comes to an end, so that it doesn't go on
 abbrev pub event_over : WindowValue → Out → Option (WindowValue × Option ℕ)
 event_over w (hands vs s) = Some (s.held.window, None)
-event_over w (fails n) = Some (emptied w, Some n)
+event_over w (fails n) = Some (without_centre w, Some n)
 event_over w (stops w1) = Some (w1, None)
 event_over w o = None

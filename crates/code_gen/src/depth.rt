@@ -7,19 +7,17 @@ ghost use Rattle.code_gen.specs.Drafts.{Drafts, end_by};
 ghost use Rattle.code_gen.specs.Depths.{takes, makes, depth, answer_count, at_most, and_depth};
 ghost use Rattle.code_gen.specs.Pieces.{asks, only};
 ghost use Rattle.code_gen.specs.Views.{piece_of, pieces_of, key_of, IsBelow};
+ghost use Rattle.stack_code.specs.declared.limits.TheConstants.{MOST_OPERANDS};
 
 use crate::piece::{Key, Piece};
 use crate::source::{Head, Source};
-use stack_code::{Answer, Instr};
-
-/// The most operands at a place.
-const MOST_OPERANDS: u32 = 512;
+use stack_code::{Answer, Instr, MOST_OPERANDS};
 
 /// How many operands a plain instruction leaves of d.
 fn after_instr(instr: Instr, d: u32) -> u32
-    requires { d ≤ 512 }
+    requires { d ≤ MOST_OPERANDS }
     ensures value { result ≡ d + makes (sort instr) - takes (sort instr) }
-    ensures bound { result ≤ 513 }
+    ensures bound { result ≤ MOST_OPERANDS + 1 }
 {
     match instr {
         Instr::NegI
@@ -59,16 +57,16 @@ fn after_instr(instr: Instr, d: u32) -> u32
 /// The number of operands, if a place may have this many.
 fn few(d: u32) -> Option<u32>
     ensures value { result ≡ at_most d (Some d) }
-    ensures bound { IsBelow 512 result }
+    ensures bound { IsBelow MOST_OPERANDS result }
 {
     if d <= MOST_OPERANDS { Some(d) } else { None }
 }
 
 /// How many operands a call leaves of d.
 fn after_call(head: Head, d: u32) -> u32
-    requires { d ≤ 512 }
+    requires { d ≤ MOST_OPERANDS }
     ensures value { result ≡ d - head.params + answer_count (is_nothing head.answer) }
-    ensures bound { result ≤ 513 }
+    ensures bound { result ≤ MOST_OPERANDS + 1 }
 {
     let left = d.saturating_sub(head.params);
     match head.answer {
@@ -78,9 +76,9 @@ fn after_call(head: Head, d: u32) -> u32
 }
 
 /// The number of operands without the one on top, if a place may have this many.
-fn taken(d: u32) -> Option<u32>
+fn depth_below(d: u32) -> Option<u32>
     ensures value { result ≡ at_most d (Some (d - 1)) }
-    ensures bound { IsBelow 512 result }
+    ensures bound { IsBelow MOST_OPERANDS result }
 {
     let below = few(d)?;
     Some(below.saturating_sub(1))
@@ -89,7 +87,7 @@ fn taken(d: u32) -> Option<u32>
 /// How many operands there are after a plain instruction.
 fn plain_depth(instr: Instr, d: u32) -> Option<u32>
     ensures value { result ≡ at_most d (Some (d + makes (sort instr) - takes (sort instr))) }
-    ensures bound { IsBelow 513 result }
+    ensures bound { IsBelow (MOST_OPERANDS + 1) result }
 {
     let d = few(d)?;
     Some(after_instr(instr, d))
@@ -98,7 +96,7 @@ fn plain_depth(instr: Instr, d: u32) -> Option<u32>
 /// The same for a call.
 fn call_depth<S: Source>(source: &S, key: Key, d: u32) -> Option<u32>
     ensures value { result ≡ depth (S.drafts source.now) (asks (key_of key)) d }
-    ensures bound { IsBelow 513 result }
+    ensures bound { IsBelow (MOST_OPERANDS + 1) result }
 {
     let d = few(d)?;
     Some(after_call(source.head(key), d))
@@ -107,7 +105,7 @@ fn call_depth<S: Source>(source: &S, key: Key, d: u32) -> Option<u32>
 /// The same for what doesn't go on.
 fn last_depth(d: u32) -> Option<u32>
     ensures value { result ≡ at_most d (Some 0) }
-    ensures bound { IsBelow 513 result }
+    ensures bound { IsBelow (MOST_OPERANDS + 1) result }
 {
     few(d)?;
     Some(0)
@@ -117,9 +115,9 @@ fn last_depth(d: u32) -> Option<u32>
 /// None if some place of it has more than 512.
 #[cycle(depth)]
 pub fn depth<S: Source>(source: &S, piece: &Piece, d: u32) -> Option<u32>
-    requires { d ≤ 513 }
+    requires { d ≤ MOST_OPERANDS + 1 }
     ensures value { result ≡ depth (S.drafts source.now) (piece_of piece.now) d }
-    ensures bound { IsBelow 513 result }
+    ensures bound { IsBelow (MOST_OPERANDS + 1) result }
 {
     match piece {
         Piece::Nothing => Some(d),
@@ -131,7 +129,7 @@ pub fn depth<S: Source>(source: &S, piece: &Piece, d: u32) -> Option<u32>
         Piece::Plain(instr) => plain_depth(*instr, d),
         Piece::Asks(key) => call_depth(source, *key, d),
         Piece::Pick(a, b) => {
-            let below = taken(d)?;
+            let below = depth_below(d)?;
             low_depth(source, a, below)?;
             depth(source, b, below)
         }
@@ -154,9 +152,9 @@ pub fn depth<S: Source>(source: &S, piece: &Piece, d: u32) -> Option<u32>
 /// The same for a piece after which a place may have as many.
 #[cycle(depth)]
 fn low_depth<S: Source>(source: &S, a: &Piece, d: u32) -> Option<u32>
-    requires { d ≤ 513 }
+    requires { d ≤ MOST_OPERANDS + 1 }
     ensures some { IfSome result (λ m. depth (S.drafts source.now) (piece_of a.now) d ≡ Some m) }
-    ensures low { IfSome result (λ m. nat_le m 512 ≡ true) }
+    ensures low { IfSome result (λ m. nat_le m MOST_OPERANDS ≡ true) }
     ensures none { (rest : Option ℕ) → IfNone result (and_depth (depth (S.drafts source.now) (piece_of a.now) d) (λ m. at_most m rest) ≡ None) }
 {
     let left = depth(source, a, d)?;
@@ -166,11 +164,11 @@ fn low_depth<S: Source>(source: &S, a: &Piece, d: u32) -> Option<u32>
 /// The same for a piece that may be left out.
 #[cycle(depth)]
 fn only_depth<S: Source>(source: &S, a: &Piece, d: u32) -> Option<u32>
-    requires { d ≤ 513 }
+    requires { d ≤ MOST_OPERANDS + 1 }
     ensures value { result ≡ depth (S.drafts source.now) (only (piece_of a.now)) d }
-    ensures bound { IsBelow 513 result }
+    ensures bound { IsBelow (MOST_OPERANDS + 1) result }
 {
-    let below = taken(d)?;
+    let below = depth_below(d)?;
     depth(source, a, below)?;
     Some(below)
 }
@@ -178,9 +176,9 @@ fn only_depth<S: Source>(source: &S, a: &Piece, d: u32) -> Option<u32>
 /// The same for pieces one after another.
 #[cycle(depth)]
 fn depth_of_all<S: Source>(source: &S, list: &[Piece], d: u32) -> Option<u32>
-    requires { d ≤ 513 }
+    requires { d ≤ MOST_OPERANDS + 1 }
     ensures value { result ≡ depth (S.drafts source.now) (pieces_of list.now) d }
-    ensures bound { IsBelow 513 result }
+    ensures bound { IsBelow (MOST_OPERANDS + 1) result }
 {
     let mut left = d;
     for piece in list {
@@ -191,7 +189,7 @@ fn depth_of_all<S: Source>(source: &S, list: &[Piece], d: u32) -> Option<u32>
 
 /// The same for the end of a function.
 pub fn end_depth(answer: Answer, d: u32) -> Option<u32>
-    requires { d ≤ 513 }
+    requires { d ≤ MOST_OPERANDS + 1 }
     ensures { (g : Drafts) (blank : ℕ) → result ≡ depth g (end_by answer blank) d }
 {
     few(d)?;

@@ -7,6 +7,7 @@ ghost use Rattle.code_gen.specs.Laws.{IsReady};
 ghost use Rattle.code_gen.specs.Gathers.{IsGathered, Builds};
 ghost use Rattle.code_gen.specs.Laying.{with_function, head_end};
 ghost use Rattle.code_gen.specs.Views.{piece_of, key_of};
+ghost use Rattle.stack_code.specs.declared.limits.TheConstants.{MOST_INSTRS};
 
 use crate::emit::{emit, emit_end};
 use crate::gather::{Gathered, gather};
@@ -25,8 +26,8 @@ fn lay_function(
     head: Head,
     body: &Piece,
 ) -> Result<(), NoMemory>
-    requires few { length keys.now ≤ 65536 }
-    requires fits { length code.old.items + size (seq (piece_of body.now) (head_end head)) ≤ 65536 }
+    requires few { length keys.now ≤ MOST_INSTRS }
+    requires fits { length code.old.items + size (seq (piece_of body.now) (head_end head)) ≤ MOST_INSTRS }
     ensures { OnOk result (code.new.items ≡ with_function code.old.items keys.now head (piece_of body.now)) }
 {
     let end = code.len() as u32 + size_of(body);

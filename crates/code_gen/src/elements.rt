@@ -1,5 +1,5 @@
 //! The codes of the elements of a program.
-ghost use Rattle.std.specs.Prelude.{◌≡◌, ◌<◌, ◌≤◌, ◌∷◌, ◌++◌, [], length, OnOk};
+ghost use Rattle.std.specs.Prelude.{◌≡◌, ◌<◌, ◌≤◌, ◌-◌, ◌^◌, ◌∷◌, ◌++◌, [], length, OnOk};
 ghost use Rattle.ulam_meaning.specs.Events.{behave_key};
 ghost use Rattle.code_gen.specs.Compiling.{program_view, IsCompilable, Compiles, AreCompiled};
 ghost use Rattle.code_gen.specs.Seen.{program_of};
@@ -39,7 +39,7 @@ fn keep(codes: &mut Vec<Code>, code: Code) -> Result<(), NoMemory>
 /// element would have more than 65,536 instructions, or more than 512 operands at some place, at
 /// the name of the first such element; `NoMemory` if the codes can't be made.
 pub fn compile(alloc: Global, typed: &Typed, layout: &Layout) -> Result<Vec<Code>, GenFault>
-    requires few { length typed.now.classes.items ≤ 65535 }
+    requires few { length typed.now.classes.items ≤ 2 ^ 16 - 1 }
     requires compilable { IsCompilable (program_view typed.now layout.now) }
 
     // The codes of the scheme, or the first element that is too long.

@@ -3,10 +3,11 @@
 ghost use Rattle.std.specs.Prelude.{◌≡◌, ◌≤◌, ◌+◌, ◌<◌, [], ◌∷◌, ◌++◌, OnOk, map, length};
 ghost use Rattle.code_gen.specs.Pieces.{size, key_number};
 ghost use Rattle.code_gen.specs.Drafts.{end_by};
-ghost use Rattle.code_gen.specs.Laying.{laid, laid_if, LaysAnywhere};
+ghost use Rattle.code_gen.specs.Laying.{code_and_piece, laid_if, LaysAnywhere};
 ghost use Rattle.code_gen.specs.Views.{piece_of, pieces_of, key_of};
 ghost use Rattle.code_gen.specs.declared.piece.Piece.TheVariants.{Block};
 ghost use Rattle.stack_code.specs.declared.instr.Instr.TheVariants.{Turn, Jump};
+ghost use Rattle.stack_code.specs.declared.limits.TheConstants.{MOST_INSTRS};
 
 use crate::piece::{Key, Piece};
 use crate::size::size_of;
@@ -33,7 +34,7 @@ fn turn_back(code: &mut Vec<Instr>, first: u32) -> Result<(), NoMemory>
 
 /// The number of a function among these: how many come before it.
 fn number(keys: &[Key], key: Key) -> u32
-    requires { length keys.now ≤ 65536 }
+    requires { length keys.now ≤ MOST_INSTRS }
     ensures { result ≡ key_number (map key_of keys.now) (key_of key) }
 {
     let mut n: u32 = 0;
@@ -63,10 +64,10 @@ pub fn emit(
     next: u32,
     piece: &Piece,
 ) -> Result<(), NoMemory>
-    requires few { length keys.now ≤ 65536 }
-    requires fits { length code.old.items + size (piece_of piece.now) ≤ 65536 }
+    requires few { length keys.now ≤ MOST_INSTRS }
+    requires fits { length code.old.items + size (piece_of piece.now) ≤ MOST_INSTRS }
     ensures long { OnOk result (length code.new.items ≡ length code.old.items + size (piece_of piece.now)) }
-    ensures ok { OnOk result (code.new.items ≡ laid code.old.items keys.now out next (piece_of piece.now)) }
+    ensures ok { OnOk result (code.new.items ≡ code_and_piece code.old.items keys.now out next (piece_of piece.now)) }
 {
     let first = code.len() as u32;
     match piece {
@@ -120,8 +121,8 @@ fn emit_if(
     past: u32,
     piece: &Piece,
 ) -> Result<(), NoMemory>
-    requires few { length keys.now ≤ 65536 }
-    requires fits { length code.old.items + (1 + size (piece_of piece.now)) ≤ 65536 }
+    requires few { length keys.now ≤ MOST_INSTRS }
+    requires fits { length code.old.items + (1 + size (piece_of piece.now)) ≤ MOST_INSTRS }
     ensures long { OnOk result (length code.new.items ≡ length code.old.items + (1 + size (piece_of piece.now))) }
     ensures ok { OnOk result (code.new.items ≡ laid_if code.old.items keys.now out next past (piece_of piece.now)) }
 {
@@ -138,10 +139,10 @@ fn emit_all(
     next: u32,
     list: &[Piece],
 ) -> Result<(), NoMemory>
-    requires few { length keys.now ≤ 65536 }
-    requires fits { length code.old.items + size (pieces_of list.now) ≤ 65536 }
+    requires few { length keys.now ≤ MOST_INSTRS }
+    requires fits { length code.old.items + size (pieces_of list.now) ≤ MOST_INSTRS }
     ensures long { OnOk result (length code.new.items ≡ length code.old.items + size (pieces_of list.now)) }
-    ensures ok { OnOk result (code.new.items ≡ laid code.old.items keys.now out next (pieces_of list.now)) }
+    ensures ok { OnOk result (code.new.items ≡ code_and_piece code.old.items keys.now out next (pieces_of list.now)) }
 {
     for piece in list {
         emit(code, keys, out, next, piece)?;

@@ -4,13 +4,15 @@ ghost use Rattle.std.specs.Prelude.{◌≡◌, ◌≤◌, ◌∷◌, ◌++◌, [
 ghost use Rattle.code_gen.specs.Gathers.{Adds, Gathers, body_at, longer};
 ghost use Rattle.code_gen.specs.Laws.{IsGood, IsReady};
 ghost use Rattle.code_gen.specs.Views.{piece_of, key_of};
+ghost use Rattle.stack_code.specs.declared.limits.TheConstants.{MOST_INSTRS};
 
 use crate::calls::add_calls;
 use crate::depth::{depth, end_depth};
 use crate::piece::{Key, Piece};
-use crate::size::{MOST_INSTRS, end_size, size_of};
+use crate::size::{end_size, size_of};
 use crate::source::Source;
 use feast_base::NoMemory;
+use stack_code::MOST_INSTRS;
 use std::alloc::Global;
 
 /// The functions of an element, and the body of each.
@@ -23,7 +25,7 @@ pub struct Gathered {
 /// How many instructions there are with one function more, if the limits let it through.
 #[tactic(auto, unfolding(crate::specs::Gathers::longer))]
 fn longer<S: Source>(source: &S, key: Key, body: &Piece, sum: u32) -> Option<u32>
-    requires sum { sum ≤ 65536 }
+    requires sum { sum ≤ MOST_INSTRS }
     requires body { piece_of body.now ≡ body_at (S.drafts source.now) (key_of key) }
     ensures { result ≡ longer (S.drafts source.now) (key_of key) sum }
 {
@@ -55,7 +57,7 @@ fn add_body<S: Source>(
     found: &mut Gathered,
     sum: u32,
 ) -> Result<Option<u32>, NoMemory>
-    requires sum { sum ≤ 65536 }
+    requires sum { sum ≤ MOST_INSTRS }
     requires good { IsGood (S.drafts source.now) (key_of key) }
     ensures count { IfOk result (λ more. longer (S.drafts source.now) (key_of key) sum ≡ more) }
     ensures added { IfOk result (λ more. IfSome more (λ n. Adds (S.drafts source.now) (key_of key) found.old found.new)) }

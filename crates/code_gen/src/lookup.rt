@@ -1,5 +1,5 @@
 //! What the classes of a program declare: data members, functions and type numbers.
-ghost use Rattle.std.specs.Prelude.{◌≡◌, ◌<◌, ◌+◌, map, length, if◌then◌else◌};
+ghost use Rattle.std.specs.Prelude.{◌≡◌, ◌<◌, ◌+◌, ◌-◌, ◌^◌, map, length, if◌then◌else◌};
 ghost use Rattle.ulam_tree.specs.TypedViews.{typed_class, typed_member};
 ghost use Rattle.atom_layout.specs.Layouts.{first_bit};
 ghost use Rattle.ulam_meaning.specs.Programs.{members_of, fields, field_at, function_at, behave_of, number_of, type_number};
@@ -126,7 +126,7 @@ pub fn behave_of(classes: &Classes, class: u32) -> usize
 
 /// How many elements there are with one more class.
 fn with_class(class: &Class, before: u16) -> u16
-    requires { before < 65535 }
+    requires { before < 2 ^ 16 - 1 }
     ensures { result ≡ (if (typed_class class.now).quark then before else before + 1) }
 {
     if class.quark { before } else { before + 1 }

@@ -11,7 +11,7 @@ use stack_code::Instr;
 use std::alloc::Global;
 
 /// A piece in a box.
-fn boxed(alloc: Global, a: Piece) -> Result<Box<Piece>, NoMemory>
+fn box_piece(alloc: Global, a: Piece) -> Result<Box<Piece>, NoMemory>
     ensures { IfOk result (λ b. box_value b ≡ a) }
 {
     Ok(Box::new(alloc, a)?)
@@ -21,7 +21,7 @@ fn boxed(alloc: Global, a: Piece) -> Result<Box<Piece>, NoMemory>
 pub fn seq(alloc: Global, a: Piece, b: Piece) -> Result<Piece, NoMemory>
     ensures { IfOk result (λ q. piece_of q ≡ seq (piece_of a) (piece_of b)) }
 {
-    Ok(Piece::Seq(boxed(alloc, a)?, boxed(alloc, b)?))
+    Ok(Piece::Seq(box_piece(alloc, a)?, box_piece(alloc, b)?))
 }
 
 /// Three pieces one after another.
@@ -43,26 +43,30 @@ pub fn then_instr(alloc: Global, a: Piece, instr: Instr) -> Result<Piece, NoMemo
 pub fn pick(alloc: Global, a: Piece, b: Piece) -> Result<Piece, NoMemory>
     ensures { IfOk result (λ q. piece_of q ≡ pick (piece_of a) (piece_of b)) }
 {
-    Ok(Piece::Pick(boxed(alloc, a)?, boxed(alloc, b)?))
+    Ok(Piece::Pick(box_piece(alloc, a)?, box_piece(alloc, b)?))
 }
 
 /// The piece if the number on top isn't 0.
 pub fn only(alloc: Global, a: Piece) -> Result<Piece, NoMemory>
     ensures { IfOk result (λ q. piece_of q ≡ only (piece_of a)) }
 {
-    Ok(Piece::Only(boxed(alloc, a)?))
+    Ok(Piece::Only(box_piece(alloc, a)?))
 }
 
 /// A loop with a test, a body and a step.
 pub fn test_loop(alloc: Global, t: Piece, a: Piece, b: Piece) -> Result<Piece, NoMemory>
     ensures { IfOk result (λ q. piece_of q ≡ loop (piece_of t) (piece_of a) (piece_of b)) }
 {
-    Ok(Piece::Loop(boxed(alloc, t)?, boxed(alloc, a)?, boxed(alloc, b)?))
+    Ok(Piece::Loop(
+        box_piece(alloc, t)?,
+        box_piece(alloc, a)?,
+        box_piece(alloc, b)?,
+    ))
 }
 
 /// A loop with a body and a step, without a test.
 pub fn ever(alloc: Global, a: Piece, b: Piece) -> Result<Piece, NoMemory>
     ensures { IfOk result (λ q. piece_of q ≡ ever (piece_of a) (piece_of b)) }
 {
-    Ok(Piece::Ever(boxed(alloc, a)?, boxed(alloc, b)?))
+    Ok(Piece::Ever(box_piece(alloc, a)?, box_piece(alloc, b)?))
 }

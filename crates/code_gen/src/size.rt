@@ -4,18 +4,16 @@ ghost use Rattle.std.specs.Prelude.{◌≡◌, ◌≤◌, ◌+◌, ℕ, min};
 ghost use Rattle.code_gen.specs.Pieces.{size};
 ghost use Rattle.code_gen.specs.Drafts.{end_by};
 ghost use Rattle.code_gen.specs.Views.{piece_of, pieces_of};
+ghost use Rattle.stack_code.specs.declared.limits.TheConstants.{MOST_INSTRS};
 
 use crate::piece::Piece;
-use stack_code::Answer;
-
-/// The most instructions of a code.
-pub const MOST_INSTRS: u32 = 65_536;
+use stack_code::{Answer, MOST_INSTRS};
 
 /// The sum of two sizes, up to a limit: 65,537 stands for everything above the most.
-pub fn capped(a: u32, b: u32) -> u32
-    requires left { a ≤ 65537 }
-    requires right { b ≤ 65537 }
-    ensures { result ≡ min (a + b) 65537 }
+pub fn capped_sum(a: u32, b: u32) -> u32
+    requires left { a ≤ MOST_INSTRS + 1 }
+    requires right { b ≤ MOST_INSTRS + 1 }
+    ensures { result ≡ min (a + b) (MOST_INSTRS + 1) }
 {
     let sum = a + b;
     if sum > MOST_INSTRS {
@@ -29,19 +27,19 @@ pub fn capped(a: u32, b: u32) -> u32
 /// that.
 #[cycle(size)]
 pub fn size_of(piece: &Piece) -> u32
-    ensures { result ≡ min (size (piece_of piece.now)) 65537 }
+    ensures { result ≡ min (size (piece_of piece.now)) (MOST_INSTRS + 1) }
 {
     match piece {
         Piece::Nothing => 0,
-        Piece::Seq(a, b) => capped(size_of(a), size_of(b)),
+        Piece::Seq(a, b) => capped_sum(size_of(a), size_of(b)),
         Piece::Block(list) => size_of_all(list.as_slice()),
-        Piece::Pick(a, b) => capped(capped(1, size_of(a)), capped(1, size_of(b))),
-        Piece::Only(a) => capped(1, size_of(a)),
-        Piece::Loop(t, a, b) => capped(
-            capped(size_of(t), 1),
-            capped(size_of(a), capped(size_of(b), 2)),
+        Piece::Pick(a, b) => capped_sum(capped_sum(1, size_of(a)), capped_sum(1, size_of(b))),
+        Piece::Only(a) => capped_sum(1, size_of(a)),
+        Piece::Loop(t, a, b) => capped_sum(
+            capped_sum(size_of(t), 1),
+            capped_sum(size_of(a), capped_sum(size_of(b), 2)),
         ),
-        Piece::Ever(a, b) => capped(size_of(a), capped(size_of(b), 2)),
+        Piece::Ever(a, b) => capped_sum(size_of(a), capped_sum(size_of(b), 2)),
         Piece::Plain(_)
         | Piece::Asks(_)
         | Piece::Out
@@ -54,11 +52,11 @@ pub fn size_of(piece: &Piece) -> u32
 /// The same for pieces one after another.
 #[cycle(size)]
 fn size_of_all(list: &[Piece]) -> u32
-    ensures { result ≡ min (size (pieces_of list.now)) 65537 }
+    ensures { result ≡ min (size (pieces_of list.now)) (MOST_INSTRS + 1) }
 {
     let mut sum: u32 = 0;
     for piece in list {
-        sum = capped(sum, size_of(piece));
+        sum = capped_sum(sum, size_of(piece));
     }
     sum
 }

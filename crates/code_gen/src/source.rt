@@ -19,6 +19,7 @@ pub struct Head {
 /// A program of functions, each of which can be asked for by its key.
 pub trait Source {
     ghost use Rattle.std.specs.Prelude.{◌≡◌, ◌≤◌, IfOk};
+    ghost use Rattle.bit_field.specs.declared.TheConstants.{STATE_BITS};
     ghost use Rattle.code_gen.specs.Drafts.{Drafts, value_at};
     ghost use Rattle.code_gen.specs.Laws.{IsGood};
     ghost use Rattle.code_gen.specs.Views.{piece_of, key_of, IsHead};
@@ -37,6 +38,6 @@ pub trait Source {
     /// A function as the code has it, with its first instruction at a place. `NoMemory` if its name
     /// and its slots can't be kept.
     fn function(&self, alloc: Global, key: Key, first: u32) -> Result<RawFunction, NoMemory>
-        requires { key.base ≤ 71 }
+        requires { key.base ≤ STATE_BITS }
         ensures { IfOk result (λ f. f ≡ value_at (drafts self.now) first (key_of key)) };
 }

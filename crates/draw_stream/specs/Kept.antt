@@ -7,11 +7,12 @@ use Rattle.draw_stream.specs.declared.attempts.Rest.{Rest}
 use Rattle.draw_stream.specs.declared.attempts.Rest.TheVariants.{Drawn, Listed}
 use Rattle.draw_stream.specs.Attempts.{next_attempts}
 use Rattle.draw_stream.specs.Plans.{PlanValue, IsPlan, seeded, scripted}
+use Rattle.feast_base.specs.declared.limits.TheConstants.{MOST_SITES}
 
 -- a tile may have this many sites
 pub record IsSites (sites : ℕ) : Type 0 where
   pub some : 1 ≤ sites
-  pub most : sites ≤ 4096
+  pub most : sites ≤ MOST_SITES
 
 abbrev pub plan_of : Plan → PlanValue
 plan_of (Seeded o) = seeded o.seed o.count o.off.items o.sites

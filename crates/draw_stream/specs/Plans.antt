@@ -3,6 +3,7 @@ use Rattle.std.specs.Prelude.{ℕ, ◌≡◌, ◌≤◌, Bool, true, not, if◌t
 use Rattle.std.specs.List.{range_with_len}
 use Rattle.draw_stream.specs.declared.attempt.Attempt.{Attempt}
 use Rattle.draw_stream.specs.Attempts.{seeded_attempts}
+use Rattle.feast_base.specs.declared.limits.TheConstants.{MOST_ATTEMPTS, MOST_TILES}
 
 -- the attempts of each tile; for a seeded plan also its seed and how many attempts each tile that
 -- is on draws
@@ -36,8 +37,8 @@ scripted lists = record { lists = lists; origin = None }
 -- 1 to 64 tiles, and at most 1,000,000 attempts in total
 pub record IsPlan (plan : PlanValue) : Type 0 where
   pub some : 1 ≤ length plan.lists
-  pub most : length plan.lists ≤ 64
-  pub few : sum_by length plan.lists ≤ 1000000
+  pub most : length plan.lists ≤ MOST_TILES
+  pub few : sum_by length plan.lists ≤ MOST_ATTEMPTS
 
 -- what is taken from a list of attempts: the first, if there is one
 abbrev pub TakesNext : List Attempt → Option Attempt → List Attempt → Type 0

@@ -2,6 +2,7 @@
 
 ghost use Rattle.std.specs.Prelude.{◌≡◌, ◌≤◌, ◌<◌, ◌*◌, length, IfOk, IsOk, IsSome};
 ghost use Rattle.draw_stream.specs.Plans.{IsPlan, attempts, tiles_on, count_of, seeded, scripted};
+ghost use Rattle.feast_base.specs.declared.limits.TheConstants.{MOST_ATTEMPTS, MOST_SITES, MOST_TILES};
 
 use crate::attempts::{Attempts, Rest};
 use crate::{Attempt, TileStream};
@@ -104,10 +105,10 @@ impl AttemptPlan {
         sites: u64,
     ) -> Result<AttemptPlan, NoMemory>
         requires some_tiles { 1 ≤ length off.now }
-        requires most_tiles { length off.now ≤ 64 }
+        requires most_tiles { length off.now ≤ MOST_TILES }
         requires some_sites { 1 ≤ sites }
-        requires most_sites { sites ≤ 4096 }
-        requires few { count * tiles_on off.now ≤ 1000000 }
+        requires most_sites { sites ≤ MOST_SITES }
+        requires few { count * tiles_on off.now ≤ MOST_ATTEMPTS }
         ensures value { IfOk result (λ p. p ≡ seeded seed count off.now sites) }
         ensures lists { IfOk result (λ p. length p.lists ≡ length off.now) }
     {
@@ -150,7 +151,7 @@ impl AttemptPlan {
     pub fn count(&self, tile: u32) -> u64
         requires { tile < length self.now.lists }
         ensures value { result ≡ length (attempts self.now tile) }
-        ensures bound { result ≤ 1000000 }
+        ensures bound { result ≤ MOST_ATTEMPTS }
         ensures plan { IsPlan self.now }
     {
         match &self.plan {
@@ -165,7 +166,7 @@ impl AttemptPlan {
     pub fn of_tile(&self, alloc: Global, tile: u32) -> Result<Attempts, NoMemory>
         requires { tile < length self.now.lists }
         ensures value { IfOk result (λ a. a ≡ attempts self.now tile) }
-        ensures bound { IfOk result (λ a. length a ≤ 1000000) }
+        ensures bound { IfOk result (λ a. length a ≤ MOST_ATTEMPTS) }
         ensures drawn { IsSome self.now.origin → IsOk result }
     {
         match &self.plan {
@@ -176,13 +177,13 @@ impl AttemptPlan {
                     left: origin.count_of(tile),
                 },
             }),
-            Plan::Scripted(scripts) => listed(alloc, scripts[tile as usize].attempts.as_slice()),
+            Plan::Scripted(scripts) => from_list(alloc, scripts[tile as usize].attempts.as_slice()),
         }
     }
 }
 
 /// The attempts of a list.
-fn listed(alloc: Global, attempts: &[Attempt]) -> Result<Attempts, NoMemory>
+fn from_list(alloc: Global, attempts: &[Attempt]) -> Result<Attempts, NoMemory>
     ensures { IfOk result (λ a. a ≡ attempts.now) }
 {
     let list = Vec::from_slice(alloc, attempts)?;

@@ -3,6 +3,7 @@
 ghost use Rattle.std.specs.Prelude.{◌≡◌, ℕ, List, ◌+◌, ◌*◌, ◌%◌, ◌<◌, ◌≤◌};
 ghost use Rattle.draw_stream.specs.Words.{tile_step, tile_state};
 ghost use Rattle.draw_stream.specs.Attempts.{stream_seed, attempt_at, next_attempt, state_after};
+ghost use Rattle.feast_base.specs.declared.limits.TheConstants.{MOST_SITES};
 
 use crate::Attempt;
 use rand_core::SeedableRng;
@@ -49,7 +50,7 @@ impl TileStream {
     #[tactic(auto, using(crate::proofs::Places::attempt_in_place, crate::proofs::Places::state_in_place))]
     pub fn attempt(&mut self, sites: u64) -> Attempt
         requires some { 1 ≤ sites }
-        requires most { sites ≤ 4096 }
+        requires most { sites ≤ MOST_SITES }
         ensures value { result ≡ next_attempt self.old sites }
         ensures moved { self.new ≡ state_after self.old }
         ensures place { (stream i : ℕ) → self.old ≡ tile_state stream (2 * i) → result ≡ attempt_at stream sites i }

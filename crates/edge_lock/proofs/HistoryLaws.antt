@@ -8,7 +8,7 @@ use native.Mathlib.Decide.{ℕ_discrete}
 use Rattle.edge_lock.specs.declared.history.Access.{Access}
 use Rattle.edge_lock.specs.declared.history.Access.TheVariants.{Read, Write}
 use Rattle.edge_lock.specs.declared.history.Hold.{Hold}
-use Rattle.edge_lock.specs.History.{own, trace, written, register_value, value_after, found_value, open_hold, IsHistory}
+use Rattle.edge_lock.specs.History.{own, trace, last_value, register_value, value_after, found_value, open_hold, IsHistory}
 use Rattle.edge_lock.specs.EndLists.{is_last_open, last_shown}
 use Rattle.edge_lock.proofs.LastHolds.{written-append, open_hold-snoc}
 use Rattle.edge_lock.proofs.SharedHolds.{holder}
@@ -19,10 +19,10 @@ NoWriteOf r [] = Unit {0}
 NoWriteOf r (Read q v ∷ xs) = NoWriteOf r xs
 NoWriteOf r (Write q v ∷ xs) = (r ≢ q) × NoWriteOf r xs
 
-unwritten : (r : ℕ) (xs : List Access) (x : ℕ) → NoWriteOf r xs → written xs r x ≡ x
+unwritten : (r : ℕ) (xs : List Access) (x : ℕ) → NoWriteOf r xs → last_value xs r x ≡ x
 unwritten r [] x n = refl
 unwritten r (Read q v ∷ xs) x n = unwritten r xs x n
-unwritten r (Write q v ∷ xs) x n = ap (λ b. written xs r (cond b v x)) (ne_eqb r q n.0) ∙ unwritten r xs x n.1
+unwritten r (Write q v ∷ xs) x n = ap (λ b. last_value xs r (cond b v x)) (ne_eqb r q n.0) ∙ unwritten r xs x n.1
 
 -- the read that finds the value of a register
 record FirstRead (xs : List Access) (r v : ℕ) : Type 0 where

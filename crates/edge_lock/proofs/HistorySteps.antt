@@ -9,7 +9,7 @@ use Rattle.edge_lock.specs.declared.history.Access.{Access}
 use Rattle.edge_lock.specs.declared.history.Access.TheVariants.{Read, Write}
 use Rattle.edge_lock.specs.declared.history.Hold.{Hold}
 use Rattle.edge_lock.specs.declared.history.Refusal.{Refusal}
-use Rattle.edge_lock.specs.History.{own, trace, written, register_value, ReadsTrue, IsAllowedAccess, open_hold, key, keys, attempts_of, IsRising, refused_attempt, IsBefore, IsAfter, NamesHold, IsSide, IsHistory, IsEnd}
+use Rattle.edge_lock.specs.History.{own, trace, last_value, register_value, ReadsTrue, IsAllowedAccess, open_hold, key, keys, attempts_of, IsRising, refused_attempt, IsBefore, IsAfter, NamesHold, IsSide, IsHistory, IsEnd}
 use Rattle.edge_lock.specs.EndLists.{new_hold, refusal_of, with_access, closed_hold, IsHoldBelow, IsRefusalBelow}
 use Rattle.edge_lock.proofs.LastHolds.{trace-snoc, written-append, reads-snoc, only_last-change, only_last-more, keys-snoc, attempts-append, rising-snoc}
 
@@ -127,16 +127,16 @@ history_ends {n} past h i = let same : trace (past ++ closed_hold h ∷ []) ≡ 
 
 -- a register after one more access
 pub register_value-read : (past : List Hold) (h : Hold) (q v r : ℕ) → register_value (past ++ with_access (Read q v) h ∷ []) r ≡ register_value (past ++ h ∷ []) r
-register_value-read past h q v r = ap (λ t. written t r 0) (trace-accessed past h (Read q v)) ∙ written-append (trace (past ++ h ∷ [])) (Read q v ∷ []) r 0
+register_value-read past h q v r = ap (λ t. last_value t r 0) (trace-accessed past h (Read q v)) ∙ written-append (trace (past ++ h ∷ [])) (Read q v ∷ []) r 0
 
 pub register_value-write : (past : List Hold) (h : Hold) (q v r : ℕ) → register_value (past ++ with_access (Write q v) h ∷ []) r ≡ cond (eqb r q) v (register_value (past ++ h ∷ []) r)
-register_value-write past h q v r = ap (λ t. written t r 0) (trace-accessed past h (Write q v)) ∙ written-append (trace (past ++ h ∷ [])) (Write q v ∷ []) r 0
+register_value-write past h q v r = ap (λ t. last_value t r 0) (trace-accessed past h (Write q v)) ∙ written-append (trace (past ++ h ∷ [])) (Write q v ∷ []) r 0
 
 pub register_value-ended : (past : List Hold) (h : Hold) (r : ℕ) → register_value (past ++ closed_hold h ∷ []) r ≡ register_value (past ++ h ∷ []) r
-register_value-ended past h r = ap (λ t. written t r 0) (trace-snoc past (closed_hold h) ∙ sym (trace-snoc past h))
+register_value-ended past h r = ap (λ t. last_value t r 0) (trace-snoc past (closed_hold h) ∙ sym (trace-snoc past h))
 
 pub register_value-opened : (hs : List Hold) (e a r : ℕ) → register_value (hs ++ new_hold e a ∷ []) r ≡ register_value hs r
-register_value-opened hs e a r = ap (λ t. written t r 0) (trace-snoc hs (new_hold e a) ∙ append-nil (trace hs))
+register_value-opened hs e a r = ap (λ t. last_value t r 0) (trace-snoc hs (new_hold e a) ∙ append-nil (trace hs))
 
 -- the holds of one end after a change of the last one
 pub own-here : (e : ℕ) (hs : List Hold) (h : Hold) → h.end ≡ e → own e (hs ++ h ∷ []) ≡ own e hs ++ h ∷ []

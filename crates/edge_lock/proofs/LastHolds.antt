@@ -7,7 +7,7 @@ use Rattle.std.proofs.lemmas.Option.{none-some, same_Some}
 use Rattle.edge_lock.specs.declared.history.Access.{Access}
 use Rattle.edge_lock.specs.declared.history.Access.TheVariants.{Read, Write}
 use Rattle.edge_lock.specs.declared.history.Hold.{Hold}
-use Rattle.edge_lock.specs.History.{trace, written, ReadsTrue, OnlyLastOpen, open_hold, key, keys, attempts_of, IsRising}
+use Rattle.edge_lock.specs.History.{trace, last_value, ReadsTrue, OnlyLastOpen, open_hold, key, keys, attempts_of, IsRising}
 use Rattle.edge_lock.specs.declared.board.Take.TheVariants.{Got}
 use Rattle.edge_lock.specs.EndLists.{EndLists, change_last, is_last_open, last_accesses, writes_nothing, new_hold, replace_at, after_try, IsHeld, HasNoWrite}
 
@@ -72,7 +72,7 @@ pub trace-snoc : (hs : List Hold) (h : Hold) → trace (hs ++ h ∷ []) ≡ trac
 trace-snoc [] h = append-nil h.accesses
 trace-snoc (x ∷ hs) h = ap (λ l. x.accesses ++ l) (trace-snoc hs h) ∙ sym (append_assoc x.accesses (trace hs) h.accesses)
 
-pub written-append : (xs ys : List Access) (r x : ℕ) → written (xs ++ ys) r x ≡ written ys r (written xs r x)
+pub written-append : (xs ys : List Access) (r x : ℕ) → last_value (xs ++ ys) r x ≡ last_value ys r (last_value xs r x)
 written-append [] ys r x = refl
 written-append (Read q v ∷ xs) ys r x = written-append xs ys r x
 written-append (Write q v ∷ xs) ys r x = written-append xs ys r (cond (eqb r q) v x)
@@ -92,10 +92,10 @@ module _ {A : Type 0} where
       let h : x' ≡ y' = cc in let t : xs ++ x ∷ [] ≡ ys ++ y ∷ zs = cc in
       ⊎_elim (λ (p : (xs ≡ ys) × (x ≡ y)). inl ((λ i. h i ∷ p.0 i), p.1)) (λ (p : (ws : List A) × (xs ≡ ys ++ y ∷ ws)). inr (p.0, λ i. h i ∷ p.1 i)) (split_snoc xs x ys y zs t)
 
-pub reads-snoc : (xs : List Access) (x : Access) → ReadsTrue xs → ((r v : ℕ) → x ≡ Read r v → v ≡ written xs r 0) → ReadsTrue (xs ++ x ∷ [])
+pub reads-snoc : (xs : List Access) (x : Access) → ReadsTrue xs → ((r v : ℕ) → x ≡ Read r v → v ≡ last_value xs r 0) → ReadsTrue (xs ++ x ∷ [])
 reads-snoc xs x h new before r v rest e =
     ⊎_elim
-    (λ (p : (xs ≡ before) × (x ≡ Read r v)). subst (λ (l : List Access). v ≡ written l r 0) p.0 (new r v p.1))
+    (λ (p : (xs ≡ before) × (x ≡ Read r v)). subst (λ (l : List Access). v ≡ last_value l r 0) p.0 (new r v p.1))
     (λ (p : (ws : List Access) × (xs ≡ before ++ Read r v ∷ ws)). h before r v p.0 p.1)
     (split_snoc xs x before (Read r v) rest e)
 

@@ -16,7 +16,7 @@ use Rattle.edge_lock.specs.declared.history.Access.TheVariants.{Read, Write}
 use Rattle.edge_lock.specs.declared.history.Hold.{Hold}
 use Rattle.edge_lock.specs.declared.history.Refusal.{Refusal}
 use Rattle.edge_lock.specs.declared.plain_steps.PlainView.{PlainView}
-use Rattle.edge_lock.specs.History.{own, trace, written, register_value, ReadsTrue, IsAllowed, IsAllowedAccess, open_hold, key, keys, site_count, IsEnd, IsSide, IsHistory}
+use Rattle.edge_lock.specs.History.{own, trace, last_value, register_value, ReadsTrue, IsAllowed, IsAllowedAccess, open_hold, key, keys, site_count, IsEnd, IsSide, IsHistory}
 use Rattle.edge_lock.specs.EndLists.{end_lists, new_hold, refusal_of, with_access, closed_hold, change_last, is_last_open, IsHoldBelow, IsRefusalBelow, last_accesses, last_shown, Shows, known_value, after_try, IsFree, IsHeld}
 use Rattle.edge_lock.specs.SharedRule.{lock_word, attempt_in}
 use Rattle.edge_lock.specs.PlainEdges.{plain_view, IsKept, Agrees, IsPlain, with_refusal, end_in, PlainTries, plain_view_after_change, PlainReads, PlainWrites, PlainGives, PlainTells, PlainEdgeValue, view_of, own_lists, edge_after_try, with_view, IsAnswer}
@@ -204,7 +204,7 @@ module _ (size slots id e : ℕ) (me : M) (bare : me.1 ≡ []) (held : is_last_o
   shows_known q n rs k is =
       let has = holder v.holds (own e v.holds) e k.holds refl held in let all = trace-snoc has.past has.h in
       let old : IsHistory (site_count v.registers) (has.past ++ has.h ∷ []) = subst (IsHistory (site_count v.registers)) has.is k.holds in
-      let found : n ≡ written (trace has.past ++ has.h.accesses) q 0 = is ∙ (ap (λ l. register_value l q) has.is ∙ ap (λ t. written t q 0) all) in
+      let found : n ≡ last_value (trace has.past ++ has.h.accesses) q 0 = is ∙ (ap (λ l. register_value l q) has.is ∙ ap (λ t. last_value t q 0) all) in
       let mine_last : last_accesses (own e v.holds) ≡ has.h.accesses = ap last_accesses has.mine_is ∙ last_accesses-snoc (own e has.past) has.h in (
         subst (λ (x : List Access × ℕ). Shows (last_shown x.0 q None) x.1) (λ i. (sym mine_last i, sym found i)) (shows_value (trace has.past) has.h.accesses q None (subst ReadsTrue all old.reads) tt),
         subst (IsAllowed (site_count v.registers) q) (sym found) (allowed_value (site_count v.registers) q (trace has.past ++ has.h.accesses) 0 (subst (All (IsAllowedAccess (site_count v.registers))) all old.writes) (λ k _ _. refl)),

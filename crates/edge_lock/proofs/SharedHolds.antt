@@ -14,7 +14,7 @@ use Rattle.edge_lock.specs.declared.history.Access.TheVariants.{Read, Write}
 use Rattle.edge_lock.specs.declared.history.Hold.{Hold}
 use Rattle.edge_lock.specs.declared.history.Refusal.{Refusal}
 use Rattle.edge_lock.specs.declared.edge_steps.View.TheVariants.{Paired}
-use Rattle.edge_lock.specs.History.{own, trace, written, register_value, ReadsTrue, IsAllowed, IsAllowedAccess, OnlyLastOpen, open_hold, key, keys, site_count, IsSide, IsHistory}
+use Rattle.edge_lock.specs.History.{own, trace, last_value, register_value, ReadsTrue, IsAllowed, IsAllowedAccess, OnlyLastOpen, open_hold, key, keys, site_count, IsSide, IsHistory}
 use Rattle.edge_lock.specs.EndLists.{end_lists, is_last_open, change_last, with_access, closed_hold, last_accesses, last_shown, Shows, known_value, IsHeld}
 use Rattle.edge_lock.specs.SharedRule.{lock_word, IsPart, IsShared, lists_in, Reads, Writes, GivesBack}
 use Rattle.edge_lock.proofs.LastHolds.{open_hold-snoc, ends_open, change_last-snoc, last_accesses-snoc, none_or_held, trace-snoc, written-append}
@@ -80,7 +80,7 @@ same_word past h x = ap lock_word (open_hold-snoc past (with_access x h)) ∙ (e
     either_way true = refl
     either_way false = refl
 
-pub allowed_value : (n : ℕ) (r : ℕ) (xs : List Access) (x : ℕ) → All (IsAllowedAccess n) xs → IsAllowed n r x → IsAllowed n r (written xs r x)
+pub allowed_value : (n : ℕ) (r : ℕ) (xs : List Access) (x : ℕ) → All (IsAllowedAccess n) xs → IsAllowed n r x → IsAllowed n r (last_value xs r x)
 allowed_value n r [] x a i = i
 allowed_value n r (Read q v ∷ xs) x a i = allowed_value n r xs x (all-tail (IsAllowedAccess n) (Read q v) xs a) i
 allowed_value n r (Write q v ∷ xs) x a i = allowed_value n r xs (cond (eqb r q) v x) (all-tail (IsAllowedAccess n) (Write q v) xs a)
@@ -93,21 +93,21 @@ shows_cond true o v x s = refl
 shows_cond false o v x s = s
 
 -- what the last read or write of a hold showed is what the register has
-pub shows_value : (before xs : List Access) (r : ℕ) (o : Option ℕ) → ReadsTrue (before ++ xs) → Shows o (written before r 0) → Shows (last_shown xs r o) (written (before ++ xs) r 0)
-shows_value before [] r o t s = subst (λ l. Shows o (written l r 0)) (sym (append-nil before)) s
+pub shows_value : (before xs : List Access) (r : ℕ) (o : Option ℕ) → ReadsTrue (before ++ xs) → Shows o (last_value before r 0) → Shows (last_shown xs r o) (last_value (before ++ xs) r 0)
+shows_value before [] r o t s = subst (λ l. Shows o (last_value l r 0)) (sym (append-nil before)) s
 shows_value before (Read q v ∷ xs) r o t s =
     let now = append_assoc before (Read q v ∷ []) xs in
-    subst (λ l. Shows (last_shown xs r (cond (eqb r q) (Some v) o)) (written l r 0)) now
+    subst (λ l. Shows (last_shown xs r (cond (eqb r q) (Some v) o)) (last_value l r 0)) now
     (shows_value (before ++ Read q v ∷ []) xs r (cond (eqb r q) (Some v) o) (subst ReadsTrue (sym now) t)
     (subst (λ x. Shows (cond (eqb r q) (Some v) o) x) (sym (written-append before (Read q v ∷ []) r 0))
     (dite (ℕ_discrete r q)
-    (λ same. subst (λ b. Shows (cond b (Some v) o) (written before r 0)) (sym (eq-eqb r q same)) (ap (λ y. written before y 0) same ∙ sym (t before q v xs refl)))
-    (λ apart. subst (λ b. Shows (cond b (Some v) o) (written before r 0)) (sym (ne_eqb r q apart)) s))))
+    (λ same. subst (λ b. Shows (cond b (Some v) o) (last_value before r 0)) (sym (eq-eqb r q same)) (ap (λ y. last_value before y 0) same ∙ sym (t before q v xs refl)))
+    (λ apart. subst (λ b. Shows (cond b (Some v) o) (last_value before r 0)) (sym (ne_eqb r q apart)) s))))
 shows_value before (Write q v ∷ xs) r o t s =
     let now = append_assoc before (Write q v ∷ []) xs in
-    subst (λ l. Shows (last_shown xs r (cond (eqb r q) (Some v) o)) (written l r 0)) now
+    subst (λ l. Shows (last_shown xs r (cond (eqb r q) (Some v) o)) (last_value l r 0)) now
     (shows_value (before ++ Write q v ∷ []) xs r (cond (eqb r q) (Some v) o) (subst ReadsTrue (sym now) t)
-    (subst (λ x. Shows (cond (eqb r q) (Some v) o) x) (sym (written-append before (Write q v ∷ []) r 0)) (shows_cond (eqb r q) o v (written before r 0) s)))
+    (subst (λ x. Shows (cond (eqb r q) (Some v) o) x) (sym (written-append before (Write q v ∷ []) r 0)) (shows_cond (eqb r q) o v (last_value before r 0) s)))
 
 module _ (e : ℕ) (mine : List Hold) (rs : List Refusal) (held : is_last_open mine ≡ true) (size : ℕ) (s : S) (r : IsShared size s) (id : ℕ) (at : get_elem? s.views id ≡ some (Paired size e mine rs)) where
   abbrev mine_is : IsPart r.joined r.hs (length s.views) id (Paired size e mine rs)
@@ -159,7 +159,7 @@ module _ (e : ℕ) (mine : List Hold) (rs : List Refusal) (held : is_last_open m
   shows_one : (q : ℕ) → q < size → Shows (known_value (end_lists mine rs) q) (get_or s.words (3 + q) 0) × IsAllowed (site_count size) q (get_or s.words (3 + q) 0)
   shows_one q inside =
       let all = trace-snoc has.past has.h in
-      let found : get_or s.words (3 + q) 0 ≡ written (trace has.past ++ has.h.accesses) q 0 = r.registers q inside ∙ (ap (λ l. register_value l q) has.is ∙ ap (λ t. written t q 0) all) in
+      let found : get_or s.words (3 + q) 0 ≡ last_value (trace has.past ++ has.h.accesses) q 0 = r.registers q inside ∙ (ap (λ l. register_value l q) has.is ∙ ap (λ t. last_value t q 0) all) in
       let mine_last : last_accesses mine ≡ has.h.accesses = ap last_accesses has.mine_is ∙ last_accesses-snoc (own e has.past) has.h in (
         subst (λ (x : List Access × ℕ). Shows (last_shown x.0 q None) x.1) (λ i. (sym mine_last i, sym found i)) (shows_value (trace has.past) has.h.accesses q None (subst ReadsTrue all history.reads) tt),
         subst (IsAllowed (site_count size) q) (sym found) (allowed_value (site_count size) q (trace has.past ++ has.h.accesses) 0 (subst (All (IsAllowedAccess (site_count size))) all history.writes) (λ k _ _. refl)),

@@ -17,14 +17,14 @@ trace [] = []
 trace (hold ∷ holds) = hold.accesses ++ trace holds
 
 -- what a register has after these accesses, if it had `start` before
-abbrev pub written : List Access → ℕ → ℕ → ℕ
-written [] register start = start
-written (Read at value ∷ accesses) register start = written accesses register start
-written (Write at value ∷ accesses) register start = written accesses register (if register == at then value else start)
+abbrev pub last_value : List Access → ℕ → ℕ → ℕ
+last_value [] register start = start
+last_value (Read at value ∷ accesses) register start = last_value accesses register start
+last_value (Write at value ∷ accesses) register start = last_value accesses register (if register == at then value else start)
 
 -- a register after these holds; each is 0 at first
 abbrev pub register_value : List Hold → ℕ → ℕ
-register_value holds register = written (trace holds) register 0
+register_value holds register = last_value (trace holds) register 0
 
 -- a register after the first n holds
 abbrev pub value_after : List Hold → ℕ → ℕ → ℕ
@@ -32,7 +32,7 @@ value_after holds count register = register_value (take count holds) register
 
 -- each read gives the last value written to its register before it, or else 0
 abbrev pub ReadsTrue : List Access → Type 0
-ReadsTrue accesses = (before : List Access) (register value : ℕ) (rest : List Access) → accesses ≡ before ++ Read register value ∷ rest → value ≡ written before register 0
+ReadsTrue accesses = (before : List Access) (register value : ℕ) (rest : List Access) → accesses ≡ before ++ Read register value ∷ rest → value ≡ last_value before register 0
 
 -- what a hold finds in a register: the value of its first read of it, made before any write to it
 abbrev pub found_value : List Access → ℕ → Option ℕ

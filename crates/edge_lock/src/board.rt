@@ -1,6 +1,7 @@
 //! What a tile sees of its edges, whether it has them alone or with tiles of other threads.
 ghost use Rattle.std.specs.Prelude.{◌<◌};
 ghost use Rattle.edge_lock.specs.declared.history.Access.TheVariants.{Read, Write};
+ghost use Rattle.feast_base.specs.declared.limits.TheConstants.{MOST_ATTEMPTS};
 
 /// The answer to a try to take an edge.
 #[derive(Clone, Copy, PartialEq, Eq, Debug)]
@@ -36,7 +37,7 @@ pub trait Board {
     fn try_take(&mut self, edge: u32, attempt: u64) -> Take
         requires edge { 0 < (end self.old).registers edge }
         requires free { IsFree ((end self.old).lists edge) }
-        requires attempt { attempt < 1000000 }
+        requires attempt { attempt < MOST_ATTEMPTS }
         requires is_new { IsNew attempt ((end self.old).lists edge) }
         ensures end { (end self.old).end_of edge < 2 }
         ensures change { HasTried edge attempt result (end self.old) (end self.new) }

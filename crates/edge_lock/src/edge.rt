@@ -5,6 +5,7 @@ ghost use Rattle.edge_lock.specs.declared.history.Access.TheVariants.{Read, Writ
 ghost use Rattle.edge_lock.specs.History.{register_value, site_count, IsAllowed};
 ghost use Rattle.edge_lock.specs.EndLists.{IsNew, IsFree, IsHeld, after_try, after_access, after_give, known_value, Shows};
 ghost use Rattle.edge_lock.specs.Passes.{with_lists, IsFresh, IsClosed};
+ghost use Rattle.feast_base.specs.declared.limits.TheConstants.{MOST_ATTEMPTS};
 
 use crate::board::Take;
 use crate::edge_steps::{
@@ -167,7 +168,7 @@ impl Edge {
     pub(crate) fn try_take(&self, pass: &mut Pass, attempt: u64) -> Take
         requires edge { pass.old.of ≡ self.now }
         requires free { IsFree pass.old.lists }
-        requires attempt { attempt < 1000000 }
+        requires attempt { attempt < MOST_ATTEMPTS }
         requires is_new { IsNew attempt pass.old.lists }
         ensures pass { pass.new ≡ with_lists pass.old (after_try pass.old.end attempt result pass.old.lists) }
         ensures end { pass.old.end < 2 }

@@ -6,6 +6,7 @@ ghost use Rattle.edge_lock.specs.EndLists.{IsFree, IsHeld, IsNew, HasNoWrite, Sh
 ghost use Rattle.edge_lock.specs.EndValues.{ChangesAt, HasTried};
 ghost use Rattle.edge_lock.specs.PlainEdges.{IsAnswer};
 ghost use Rattle.edge_lock.specs.PlainBoard.{edge_at, registers_on, end_on, lists_on, acting_end, other_lists_on, tries, reads, writes, gives, IsCall, Moved, untouched_edge, sizes_of_board, IsKeptEdge};
+ghost use Rattle.feast_base.specs.declared.limits.TheConstants.{MOST_ATTEMPTS};
 
 use crate::board::{Board, Take};
 use crate::edge_sizes::EdgeSizes;
@@ -85,7 +86,7 @@ impl Board for PlainBoard {
     fn try_take(&mut self, edge: u32, attempt: u64) -> Take
         requires edge { 0 < registers_on self.old edge }
         requires free { IsFree (lists_on self.old edge) }
-        requires attempt { attempt < 1000000 }
+        requires attempt { attempt < MOST_ATTEMPTS }
         requires is_new { IsNew attempt (lists_on self.old edge) }
         ensures end { end_on self.old edge < 2 }
         ensures answer { IsAnswer (end_on self.old edge) (edge_at self.old edge) result }

@@ -4,6 +4,7 @@ ghost use Rattle.edge_lock.specs.declared.history.Access.TheVariants.{Read, Writ
 ghost use Rattle.edge_lock.specs.History.{register_value, site_count, IsAllowed};
 ghost use Rattle.edge_lock.specs.EndLists.{IsNew, IsFree, IsHeld, known_value, Shows, after_try, after_access, after_give};
 ghost use Rattle.edge_lock.specs.PlainEdges.{own_lists, edge_after_try, edge_after_access, edge_after_give, IsUntouched, IsAnswer, IsKept, view_of};
+ghost use Rattle.feast_base.specs.declared.limits.TheConstants.{MOST_ATTEMPTS};
 
 use crate::board::Take;
 use crate::edge_steps::{FIRST_REGISTER, LOCK};
@@ -70,7 +71,7 @@ impl PlainEdge {
     pub(crate) fn try_take(&mut self, end: u32, attempt: u64) -> Take
         requires end { end < 2 }
         requires free { IsFree (own_lists end self.old) }
-        requires attempt { attempt < 1000000 }
+        requires attempt { attempt < MOST_ATTEMPTS }
         requires is_new { IsNew attempt (own_lists end self.old) }
         ensures answer { IsAnswer end self.old result }
         ensures edge { self.new ≡ edge_after_try end attempt result self.old }

@@ -4,7 +4,7 @@ use Rattle.std.specs.Prelude.{if◌then◌else◌}
 use Rattle.std.proofs.lemmas.List.{get_or-map, length-map}
 use Rattle.ulam_tree.specs.Statements.{Class}
 use Rattle.ulam_tree.specs.Typed as t
-use Rattle.ulam_names.specs.Scopes.{most_members}
+use Rattle.ulam_names.specs.declared.limits.TheConstants.{MOST_MEMBERS}
 use Rattle.ulam_meaning.specs.Programs.{element_classes, count_elements}
 use Rattle.element_set.specs.Kept.{Fits}
 use Rattle.element_set.specs.Names.{element_name, names_in, field_count, counts}
@@ -33,7 +33,7 @@ elements_next (d ∷ cs) (suc k) c lt at =
     omega (arith, rest, length-append (element_name d) (names_in (take (suc k) cs)), length-append (element_name d) (names_in (take k cs)))
 
 -- a class and its row of a layout that fits
-pub fits_at : (cs : List t.Class) (ls : List (List ℕ)) (k : ℕ) (c : t.Class) → Fits cs ls → k < length cs → get_or cs k c ≡ c → (k < length ls) × (length (get_or ls k []) ≡ field_count c.members) × (length (get_or ls k []) ≤ most_members)
+pub fits_at : (cs : List t.Class) (ls : List (List ℕ)) (k : ℕ) (c : t.Class) → Fits cs ls → k < length cs → get_or cs k c ≡ c → (k < length ls) × (length (get_or ls k []) ≡ field_count c.members) × (length (get_or ls k []) ≤ MOST_MEMBERS)
 fits_at cs ls k c h lt at =
     let count = λ (d : t.Class). field_count d.members in
     let within : k < length ls = omega (arith, lt, ap length h.rows, length-map ls (length {A = ℕ}), length-map cs count) in

@@ -21,7 +21,8 @@ use Rattle.ulam_tree.specs.declared.raw.File.{File}
 use Rattle.element_set.specs.Told.{flat_row}
 use Rattle.element_set.proofs.Telling.{joined as row_of}
 use Rattle.ulam_names.specs.Faults.{Fault, Found}
-use Rattle.ulam_names.specs.Scopes.{Names, most_classes, no_names, small_names}
+use Rattle.ulam_names.specs.Scopes.{Names, no_names, small_names}
+use Rattle.ulam_names.specs.declared.limits.TheConstants.{MOST_CLASSES}
 use Rattle.ulam_names.specs.Classes.{Known, Half, HalfClass, new_class, class_names, members, item, items, all_behave, none_cyclic, whole_classes, head_of, member, program}
 use Rattle.ulam_names.specs.ClassRelation.{AreKnown, IsMember, AreMembers, AreItems}
 use Rattle.ulam_names.proofs.ClassMeans.{known_means, items_mean}
@@ -249,7 +250,7 @@ cut_row : (fs : List (List Item)) → in_row (cut_files (Some enough_members) fs
 cut_row [] = refl
 cut_row (f ∷ fs) = ap (λ (xs : List Item). cut_items (Some enough_members) f ++ xs) (cut_row fs) ∙ sym (map-append (cut_item (Some enough_members)) f (in_row fs))
 
-enough_by : (fs : List (List Item)) (hs : List Heads) → length fs ≡ length hs → (plain many : Bool) → list_all is_plain hs ≡ plain → are_above most_classes fs ≡ many →
+enough_by : (fs : List (List Item)) (hs : List Heads) → length fs ≡ length hs → (plain many : Bool) → list_all is_plain hs ≡ plain → are_above MOST_CLASSES fs ≡ many →
     program (in_row (cond (plain || many) fs (cut_files (Some enough_members) (flat_files fs hs)))) ≡ program (in_row (flat_files fs hs))
 enough_by fs hs long true many p m = ap (λ (gs : List (List Item)). program (in_row gs)) (sym (plain_same fs hs long p).1)
 enough_by fs hs long false true p m =
@@ -258,8 +259,8 @@ enough_by fs hs long false true p m =
     program_many (in_row fs) (in_row (flat_files fs hs)) (all_names (all_heirs fs hs) 0 fs) (omega (arith, more, same))
 enough_by fs hs long false false p m = ap program (cut_row (flat_files fs hs)) ∙ program_cut (in_row (flat_files fs hs))
 
-pub enough : (fs : List (List Item)) (hs : List Heads) → length fs ≡ length hs → program (in_row (files_within most_classes enough_members fs hs)) ≡ program (in_row (flat_files fs hs))
-enough fs hs long = enough_by fs hs long (list_all is_plain hs) (are_above most_classes fs) refl refl
+pub enough : (fs : List (List Item)) (hs : List Heads) → length fs ≡ length hs → program (in_row (files_within MOST_CLASSES enough_members fs hs)) ≡ program (in_row (flat_files fs hs))
+enough fs hs long = enough_by fs hs long (list_all is_plain hs) (are_above MOST_CLASSES fs) refl refl
 
 -- so in what the calls give that make flat files, whole and within bounds
 
@@ -268,7 +269,7 @@ pub found_whole : (fs : List (List Item)) (hs : List Heads) (r : Result (Vec Fil
 found_whole fs hs (Ok v) e = ap program (row_of v.items ∙ ap in_row e)
 found_whole fs hs (Err f) e = e
 
-pub found_within : (fs : List (List Item)) (hs : List Heads) (r : Result (Vec File) HeirsFault) → length fs ≡ length hs → IfOk r (λ v. files_of v.items ≡ files_within most_classes enough_members fs hs) →
+pub found_within : (fs : List (List Item)) (hs : List Heads) (r : Result (Vec File) HeirsFault) → length fs ≡ length hs → IfOk r (λ v. files_of v.items ≡ files_within MOST_CLASSES enough_members fs hs) →
     IfOk r (λ v. program (all_items v.items) ≡ program (flat_row fs hs))
 found_within fs hs (Ok v) long e = ap program (row_of v.items ∙ ap in_row e) ∙ enough fs hs long
 found_within fs hs (Err f) long e = e

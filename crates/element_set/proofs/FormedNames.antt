@@ -30,7 +30,7 @@ use Rattle.ulam_names.specs.Classes.{HalfClass, Known}
 use Rattle.ulam_names.specs.ClassRelation.{AreItems as AreDeclared}
 use Rattle.element_set.specs.Names.{class_names, names_in}
 use Rattle.element_set.specs.Sets.{SetValue, AcceptsFiles, element_names}
-use Rattle.element_set.specs.Stages.{Tree, lexed, parsed, tree_of, more_trees, no_trees, flat_set, named_set, laid_set, typed_set, coded}
+use Rattle.element_set.specs.Stages.{Tree, lex_stage, parse_stage, tree_of, more_trees, no_trees, flat_set, named_set, laid_set, typed_set, limit_stage}
 use Rattle.element_set.proofs.Named.{classes_half, half_names, typed_names}
 use Rattle.element_set.proofs.FormedTokens.{IsSpelled, left_formed, order_formed, toks_formed}
 use Rattle.element_set.proofs.TreesHold.{EachFile, trees_hold}
@@ -137,7 +137,7 @@ file_formed xs us h all = items_formed xs us h.0 h.1 all
 
 tree_formed : (file : ℕ) (bytes : List ℕ) (x : Tree) → tree_of file bytes (Ok x) → Formed (item_names x.items)
 tree_formed file bytes x h =
-    let p = went (lexed file bytes) (parsed bytes) x h in
+    let p = went (lex_stage file bytes) (parse_stage bytes) x h in
     file_formed x.items (toks bytes (tokens_left bytes p.value)) p.rest.0.0 (text_formed bytes p.value (in_order file bytes p.value p.passed.0))
 
 abbrev FilesFormed : List (List Item) → Type 0
@@ -185,7 +185,7 @@ names_formed files set h =
     let flat = went _ named_set set trees.rest in
     let named = went _ laid_set set flat.rest in
     let laid = went _ (typed_set named.value) set named.rest in
-    let typed = went _ (λ (us : List t.Class). coded (record { classes = us; layout = laid.value })) set laid.rest in
+    let typed = went _ (λ (us : List t.Class). limit_stage (record { classes = us; layout = laid.value })) set laid.rest in
     let items = subst (λ (xs : List Item). Formed (item_names xs)) (sym flat.passed.1) (flat_formed _ 0 trees.value.files (trees_hold (λ (f : List Item). Formed (item_names f)) tree_formed no_trees files trees.value trees.passed tt)) in
     let resolved = named.passed in
     let halves = halves_formed resolved.known flat.value resolved.halves resolved.declared items in

@@ -5,7 +5,8 @@ use Rattle.ulam_tree.specs.Statements.{Class, field, function}
 use Rattle.ulam_tree.specs.Raw as raw
 use Rattle.ulam_tree.specs.Resolved as r
 use Rattle.ulam_tree.specs.Typed as t
-use Rattle.ulam_names.specs.Scopes.{Head, Names, no_names, is_among, names_of, most_classes, most_members}
+use Rattle.ulam_names.specs.Scopes.{Head, Names, no_names, is_among, names_of}
+use Rattle.ulam_names.specs.declared.limits.TheConstants.{MOST_CLASSES, MOST_MEMBERS}
 use Rattle.ulam_names.specs.Classes.{Known, Half, half_field, half_function, HalfClass}
 use Rattle.ulam_names.specs.ClassRelation.{IsMember, AreMembers, AreKnown, AreItems, own_class, AreWhole, AreClasses, IsResolved}
 use Rattle.ulam_types.specs.Scopes.{ClassSig}
@@ -22,7 +23,7 @@ names_end [] p = refl
 names_end (d ∷ done) p = ap (λ xs. d.0 ∷ xs) (names_end done p)
 
 abbrev Apart : Known → List HalfClass → Type 0
-Apart done hs = (length done + length hs ≤ most_classes) × AreNew (names_of done) (half_names hs)
+Apart done hs = (length done + length hs ≤ MOST_CLASSES) × AreNew (names_of done) (half_names hs)
 
 apart_more : (done : Known) (p : List ℕ × Bool) (h : HalfClass) (more : List HalfClass) → h.word.name ≡ p.0 → is_among p.0 (names_of done) ≡ false → Apart (done ++ p ∷ []) more → Apart done (h ∷ more)
 apart_more done p h more e new rest = (
@@ -30,13 +31,13 @@ apart_more done p h more e new rest = (
   (ap (λ n. is_among n (names_of done)) e ∙ new, subst (λ d. AreNew d (half_names more)) (names_end done p ∙ ap (λ n. names_of done ++ n ∷ []) (sym e)) rest.1),
 )
 
-items_apart : (done : Known) (xs : List raw.Item) (known full : Known) (hs : List HalfClass) → length done ≤ most_classes → AreKnown done xs known → AreItems full xs hs → Apart done hs
+items_apart : (done : Known) (xs : List raw.Item) (known full : Known) (hs : List HalfClass) → length done ≤ MOST_CLASSES → AreKnown done xs known → AreItems full xs hs → Apart done hs
 items_apart done [] known full hs few k i = subst (Apart done) (sym i) (omega arith, tt)
 items_apart done (raw.ulam n ∷ xs) known full hs few k i = items_apart done xs known full hs few k i
 items_apart done (raw.uses w ∷ xs) known full hs few k i = items_apart done xs known full hs few k i.1
 items_apart done (raw.class c ∷ xs) known full hs few k i =
     let p : List ℕ × Bool = (c.word.name, c.quark) in
-    let room : length done < most_classes = k.0 in
+    let room : length done < MOST_CLASSES = k.0 in
     let long = length-append done (p ∷ []) in
     let rest = items_apart (done ++ p ∷ []) xs known full i.1 (omega arith) k.3 i.3 in
     let half : HalfClass = record { quark = c.quark; word = c.word; names = i.0.0; members = i.0.1 } in
@@ -67,18 +68,18 @@ half_append (half_function f ∷ ms) us = half_append ms us
 
 -- what was declared and what was found since are as many, and not too many
 abbrev Slim : Names → Names × List Half → Type 0
-Slim d x = (length x.0.fields ≤ most_members) × (length d.fields + half_fields x.1 ≡ length x.0.fields)
+Slim d x = (length x.0.fields ≤ MOST_MEMBERS) × (length d.fields + half_fields x.1 ≡ length x.0.fields)
 
-member_slim : (known : Known) (d : Names) (m : raw.Member) (x : Names × List Half) → IsMember known d m x → length d.fields ≤ most_members → Slim d x
+member_slim : (known : Known) (d : Names) (m : raw.Member) (x : Names × List Half) → IsMember known d m x → length d.fields ≤ MOST_MEMBERS → Slim d x
 member_slim known d (raw.typedef ty w) x h few = subst (Slim d) (sym h.6) (few, omega arith)
 member_slim known d (raw.constant ty w k) x h few = subst (Slim d) (sym h.8) (few, omega arith)
 member_slim known d (raw.field ty w k) x h few =
-    let room : length d.fields < most_members = h.4.0 in
+    let room : length d.fields < MOST_MEMBERS = h.4.0 in
     let long = length-append d.fields ((w.name, h.0.ty) ∷ []) in
     subst (Slim d) (sym h.6) (omega arith, omega arith)
 member_slim known d (raw.function ty w ps b) x h few = subst (Slim d) (sym h.5) (few, omega arith)
 
-members_slim : (known : Known) (d : Names) (ms : List raw.Member) (x : Names × List Half) → AreMembers known d ms x → length d.fields ≤ most_members → Slim d x
+members_slim : (known : Known) (d : Names) (ms : List raw.Member) (x : Names × List Half) → AreMembers known d ms x → length d.fields ≤ MOST_MEMBERS → Slim d x
 members_slim known d [] x h few = subst (Slim d) (sym h) (few, omega arith)
 members_slim known d (m ∷ ms) x h few =
     let a = member_slim known d m h.0 h.2 few in
@@ -87,7 +88,7 @@ members_slim known d (m ∷ ms) x h few =
 
 abbrev HalvesSlim : List HalfClass → Type 0
 HalvesSlim [] = Unit {0}
-HalvesSlim (h ∷ hs) = (half_fields h.members ≤ most_members) × HalvesSlim hs
+HalvesSlim (h ∷ hs) = (half_fields h.members ≤ MOST_MEMBERS) × HalvesSlim hs
 
 items_slim : (known : Known) (xs : List raw.Item) (hs : List HalfClass) → AreItems known xs hs → HalvesSlim hs
 items_slim known [] hs h = subst HalvesSlim (sym h) tt
@@ -104,7 +105,7 @@ whole_count known heads k d (half_field n w l ∷ ms) us h =
 whole_count known heads k d (half_function f ∷ ms) us h =
     ap field_count h.4 ∙ ap (λ (u : r.Member). field_count (u ∷ h.1)) h.2.2 ∙ whole_count known heads k d ms h.1 h.3
 
-slim_more : {E A : Type 0} (c : Class E A) (cs : List (Class E A)) → field_count c.members ≤ most_members → AreSlim cs → AreSlim (c ∷ cs)
+slim_more : {E A : Type 0} (c : Class E A) (cs : List (Class E A)) → field_count c.members ≤ MOST_MEMBERS → AreSlim cs → AreSlim (c ∷ cs)
 slim_more c cs h rest zero = h
 slim_more c cs h rest (suc k) = rest k
 
@@ -146,5 +147,5 @@ typed_named cs us h a =
     record {
       few = omega (arith, a.few, class_count cs, class_count us, ap length e);
       new = subst (AreNew []) (sym e) a.new;
-      slim = subst (λ ns. (k : ℕ) → get_or ns k 0 ≤ most_members) (sym (typed_counts (map class_sig cs) 0 cs us h)) a.slim;
+      slim = subst (λ ns. (k : ℕ) → get_or ns k 0 ≤ MOST_MEMBERS) (sym (typed_counts (map class_sig cs) 0 cs us h)) a.slim;
     }

@@ -41,14 +41,14 @@ use Rattle.ulam_names.specs.Faults.{Fault as NameFault}
 use Rattle.ulam_names.proofs.ClassMeans.{some_resolution}
 use Rattle.atom_layout.specs.declared.fault.LayoutFault.{LayoutFault}
 use Rattle.atom_layout.specs.declared.fault.LayoutFault.TheVariants as l
-use Rattle.atom_layout.specs.Layouts.{fault_in, first_of, first_wide, layout_of, told, total}
+use Rattle.atom_layout.specs.Layouts.{fault_in, first_of, first_wide, layout_of, capped_bits, total}
 use Rattle.ulam_types.specs.Programs.{first_fault as first_type_fault}
 use Rattle.ulam_types.specs.Faults.{Fault as TypeFault}
 use Rattle.code_gen.proofs.ElementCodes.{all_or_first}
 use Rattle.ulam_types.proofs.Classes.{some_typed}
 use Rattle.code_gen.specs.Compiling.{AreShort, IsFirstLong, long_place}
-use Rattle.element_set.specs.Faults.{refusal, counted, name_refusal, type_refusal}
-use Rattle.element_set.specs.Stages.{lexed, Tree, parsed, tree_of, Trees, no_trees, with_tree, more_trees, flat, named, laid, typed, coded, typed_set, laid_set, named_set, flat_set, set_of}
+use Rattle.element_set.specs.Faults.{refusal, refusal_with_value, name_refusal, type_refusal}
+use Rattle.element_set.specs.Stages.{lex_stage, Tree, parse_stage, tree_of, Trees, no_trees, with_tree, more_trees, flat, name_stage, layout_stage, type_stage, limit_stage, typed_set, laid_set, named_set, flat_set, set_of}
 use Rattle.element_set.specs.Value.{SetValue, program_of}
 
 -- an outcome of a stage
@@ -64,14 +64,14 @@ then_some S T s f = then_by S T s.0 s.1 f
 
 -- Each file by itself
 
-lexed_fault : (file : ℕ) (bytes : List ℕ) (f : LexFault) → lex.IsFaultOf file bytes f → SomeOf (lexed file bytes)
+lexed_fault : (file : ℕ) (bytes : List ℕ) (f : LexFault) → lex.IsFaultOf file bytes f → SomeOf (lex_stage file bytes)
 lexed_fault file bytes (x.BadByte at) s = (Err (refusal 10 at), (x.BadByte at, s, refl))
 lexed_fault file bytes (x.OpenComment at) s = (Err (refusal 11 at), (x.OpenComment at, s, refl))
 lexed_fault file bytes (x.NumberTooLarge at) s = (Err (refusal 12 at), (x.NumberTooLarge at, s, refl))
 lexed_fault file bytes (x.TooManyTokens at) s = (Err (refusal 13 at), (x.TooManyTokens at, s, refl))
 lexed_fault file bytes x.NoMemory s = absurd s.5
 
-lexed_some : (file : ℕ) (bytes : List ℕ) → SomeOf (lexed file bytes)
+lexed_some : (file : ℕ) (bytes : List ℕ) → SomeOf (lex_stage file bytes)
 lexed_some file bytes = elim (each_text file bytes) [ inl t ↦ (Ok t.0, (t.1, t.2)) | inr f ↦ lexed_fault file bytes f.0 f.1 ]
 
 -- the token of a number, and those behind it
@@ -111,7 +111,7 @@ judged_by ts ends (Some k) d =
     let t = token_at ts k within in
     deep_by ts (take (k + 1) ts) (drop (k + 1) ts) k t.0 t.1 ends d (sym (take-append-drop (k + 1) ts)) (omega (arith, within, length-take (k + 1) ts)) t.2 (whole_file (take (k + 1) ts)) refl
 
-parsed_some : (file : ℕ) (bytes : List ℕ) (ts : List Token) → IsTokensOf file bytes ts → SomeOf (parsed bytes ts)
+parsed_some : (file : ℕ) (bytes : List ℕ) (ts : List Token) → IsTokensOf file bytes ts → SomeOf (parse_stage bytes ts)
 parsed_some file bytes ts is =
     let left = tokens_left bytes ts in
     let ends = order_ends bytes 0 left (left_in_order bytes ts left refl (in_order file bytes ts is)) in
@@ -124,7 +124,7 @@ parsed_some file bytes ts is =
     ]
 
 tree_some : (file : ℕ) (bytes : List ℕ) → SomeOf (tree_of file bytes)
-tree_some file bytes = then_some (lexed file bytes) (parsed bytes) (lexed_some file bytes) (λ ts is. parsed_some file bytes ts is.0)
+tree_some file bytes = then_some (lex_stage file bytes) (parse_stage bytes) (lexed_some file bytes) (λ ts is. parsed_some file bytes ts is.0)
 
 more_some : (done : Trees) (fs : List File) → SomeOf (more_trees done fs)
 more_some done [] = (Ok done, refl)
@@ -176,7 +176,7 @@ flat_by y (Some (h.OwnBase at)) e s = (Err (refusal 38 at), (h.OwnBase at, e, re
 flat_by y (Some (h.BadOverride at)) e s = (Err (refusal 39 at), (h.BadOverride at, e, refl))
 flat_by y (Some h.NoMemory) e s = absurd s
 
-named_by : (xs : List Item) (o : Option NameFault) → first_name_fault xs ≡ o → SomeOf (named xs)
+named_by : (xs : List Item) (o : Option NameFault) → first_name_fault xs ≡ o → SomeOf (name_stage xs)
 named_by xs None e = let s = some_resolution xs e in (Ok s.0, s.1)
 named_by xs (Some f) e = (Err (name_refusal f), (f, e, refl))
 
@@ -201,30 +201,30 @@ wide_or (Some f) b s t = s
 
 wide_told : (all cs : List r.Class) → IsLayoutFault (first_of (fault_in all) cs)
 wide_told all [] = tt
-wide_told all (c ∷ cs) = wide_or (fault_in all c) (first_of (fault_in all) cs) (wide_either c.quark (nat_lt 32 (total all c)) (nat_lt 71 (total all c)) (l.QuarkTooWide c.word.place (told (total all c))) (l.ElementTooWide c.word.place (told (total all c))) tt tt) (wide_told all cs)
+wide_told all (c ∷ cs) = wide_or (fault_in all c) (first_of (fault_in all) cs) (wide_either c.quark (nat_lt 32 (total all c)) (nat_lt 71 (total all c)) (l.QuarkTooWide c.word.place (capped_bits (total all c))) (l.ElementTooWide c.word.place (capped_bits (total all c))) tt tt) (wide_told all cs)
 
-laid_by : (cs : List r.Class) (o : Option LayoutFault) → first_wide cs ≡ o → IsLayoutFault o → SomeOf (laid cs)
+laid_by : (cs : List r.Class) (o : Option LayoutFault) → first_wide cs ≡ o → IsLayoutFault o → SomeOf (layout_stage cs)
 laid_by cs None e s = (Ok (layout_of cs), (e, refl))
-laid_by cs (Some (l.QuarkTooWide at bits)) e s = (Err (counted 40 at bits), (l.QuarkTooWide at bits, e, refl))
-laid_by cs (Some (l.ElementTooWide at bits)) e s = (Err (counted 41 at bits), (l.ElementTooWide at bits, e, refl))
+laid_by cs (Some (l.QuarkTooWide at bits)) e s = (Err (refusal_with_value 40 at bits), (l.QuarkTooWide at bits, e, refl))
+laid_by cs (Some (l.ElementTooWide at bits)) e s = (Err (refusal_with_value 41 at bits), (l.ElementTooWide at bits, e, refl))
 laid_by cs (Some l.NoMemory) e s = absurd s
 
-typed_by : (cs : List r.Class) (o : Option TypeFault) → first_type_fault cs ≡ o → SomeOf (typed cs)
+typed_by : (cs : List r.Class) (o : Option TypeFault) → first_type_fault cs ≡ o → SomeOf (type_stage cs)
 typed_by cs None e = let s = some_typed cs e in (Ok s.0, s.1)
 typed_by cs (Some f) e = (Err (type_refusal f), (f, e, refl))
 
-coded_by : (s : SetValue) → AreShort (program_of s) ⊎ ((c : ℕ) × IsFirstLong (program_of s) c) → SomeOf (coded s)
+coded_by : (s : SetValue) → AreShort (program_of s) ⊎ ((c : ℕ) × IsFirstLong (program_of s) c) → SomeOf (limit_stage s)
 coded_by s (inl h) = (Ok s, (h, refl))
 coded_by s (inr f) = (Err (refusal 60 (long_place s.classes f.0)), (f.0, f.1, refl))
 
 typed_set_some : (cs : List r.Class) (w : List (List ℕ)) → SomeOf (typed_set cs w)
-typed_set_some cs w = then_some (typed cs) _ (typed_by cs (first_type_fault cs) refl) (λ us is. coded_by (record { classes = us; layout = w }) (all_or_first (record { classes = us; layout = w })))
+typed_set_some cs w = then_some (type_stage cs) _ (typed_by cs (first_type_fault cs) refl) (λ us is. coded_by (record { classes = us; layout = w }) (all_or_first (record { classes = us; layout = w })))
 
 laid_set_some : (cs : List r.Class) → SomeOf (laid_set cs)
-laid_set_some cs = then_some (laid cs) (typed_set cs) (laid_by cs (first_wide cs) refl (wide_told cs cs)) (λ w is. typed_set_some cs w)
+laid_set_some cs = then_some (layout_stage cs) (typed_set cs) (laid_by cs (first_wide cs) refl (wide_told cs cs)) (λ w is. typed_set_some cs w)
 
 named_set_some : (xs : List Item) → SomeOf (named_set xs)
-named_set_some xs = then_some (named xs) laid_set (named_by xs (first_name_fault xs) refl) (λ cs is. laid_set_some cs)
+named_set_some xs = then_some (name_stage xs) laid_set (named_by xs (first_name_fault xs) refl) (λ cs is. laid_set_some cs)
 
 flat_set_some : (y : Trees) → SomeOf (flat_set y)
 flat_set_some y = then_some (flat y) named_set (flat_by y (first_fault (all_heirs y.files y.heads)) refl (heirs_told (all_heirs y.files y.heads))) (λ xs is. named_set_some xs)

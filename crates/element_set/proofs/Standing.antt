@@ -43,9 +43,9 @@ use Rattle.fault_places.proofs.Layouts.{layout_fault_placed}
 use Rattle.fault_places.proofs.Typed.{types_fault_placed, typed_placed}
 use Rattle.fault_places.proofs.Standing.{stands_in}
 use Rattle.element_set.specs.declared.fault.BuildFault.TheVariants.{Refused}
-use Rattle.element_set.specs.Faults.{refusal, counted, lex_fault, parse_fault, heirs_fault, name_refusal, layout_fault, type_refusal}
+use Rattle.element_set.specs.Faults.{refusal, refusal_with_value, lex_fault, parse_fault, heirs_fault, name_refusal, layout_fault, type_refusal}
 use Rattle.element_set.specs.Sets.{RefusesFiles}
-use Rattle.element_set.specs.Stages.{lexed, Tree, parsed, tree_of, Trees, no_trees, with_tree, more_trees, flat, named, laid, typed, coded, typed_set, laid_set, named_set, flat_set, set_of}
+use Rattle.element_set.specs.Stages.{lex_stage, Tree, parse_stage, tree_of, Trees, no_trees, with_tree, more_trees, flat, name_stage, layout_stage, type_stage, limit_stage, typed_set, laid_set, named_set, flat_set, set_of}
 use Rattle.element_set.specs.Value.{SetValue}
 
 -- P holds of the place of a refusal
@@ -91,8 +91,8 @@ names_told P (too_many at) h = h
 names_told P (bad_width at) h = h
 
 layout_told : (P : OfPlace) (f : LayoutFault) (e : Refusal) → layout_fault f ≡ Refused e → LayoutPlace P f → P e.place
-layout_told P (l.QuarkTooWide at bits) e is h = told_as P (counted 40 at bits) e is h
-layout_told P (l.ElementTooWide at bits) e is h = told_as P (counted 41 at bits) e is h
+layout_told P (l.QuarkTooWide at bits) e is h = told_as P (refusal_with_value 40 at bits) e is h
+layout_told P (l.ElementTooWide at bits) e is h = told_as P (refusal_with_value 41 at bits) e is h
 layout_told P l.NoMemory e is h = cc
 
 types_told : (P : OfPlace) (f : y.Fault) → TypesPlace P f → P (type_refusal f).place
@@ -111,11 +111,11 @@ long_told P (Some k) c is h = h
 
 -- Stage by stage
 
-lexed_ends : (P : OfPlace) (file : ℕ) (bytes : List ℕ) → HoldsIn P file bytes → StageEnds (RefusalPlace P) (TokenPlaces P) (lexed file bytes)
+lexed_ends : (P : OfPlace) (file : ℕ) (bytes : List ℕ) → HoldsIn P file bytes → StageEnds (RefusalPlace P) (TokenPlaces P) (lex_stage file bytes)
 lexed_ends P file bytes all (Ok ts) k = tokens_placed P file bytes ts all k.0
 lexed_ends P file bytes all (Err e) k = lex_told P k.0 e k.2 (lex_fault_placed P file bytes k.0 all k.1)
 
-parsed_ends : (P : OfPlace) (bytes : List ℕ) (ts : List Token) → TokenPlaces P ts → StageEnds (RefusalPlace P) (TreePlaces P) (parsed bytes ts)
+parsed_ends : (P : OfPlace) (bytes : List ℕ) (ts : List Token) → TokenPlaces P ts → StageEnds (RefusalPlace P) (TreePlaces P) (parse_stage bytes ts)
 parsed_ends P bytes ts ht (Ok tree) k =
     let left = tokens_left bytes ts in
     (tree_placed P (toks bytes left) tree.items (toks_placed P bytes left (left_placed P bytes ts ht)) k.0.0, subst (HeadsPlaces P) (sym k.1) (heads_placed P bytes ts ht))
@@ -124,7 +124,7 @@ parsed_ends P bytes ts ht (Err e) k =
     parse_told P k.0 e k.2 (parse_fault_placed P (toks bytes left) k.0 (toks_placed P bytes left (left_placed P bytes ts ht)) k.1)
 
 tree_ends : (P : OfPlace) (file : ℕ) (bytes : List ℕ) → HoldsIn P file bytes → StageEnds (RefusalPlace P) (TreePlaces P) (tree_of file bytes)
-tree_ends P file bytes all = stage_then (RefusalPlace P) (TokenPlaces P) (TreePlaces P) (lexed file bytes) (parsed bytes) (lexed_ends P file bytes all) (parsed_ends P bytes)
+tree_ends P file bytes all = stage_then (RefusalPlace P) (TokenPlaces P) (TreePlaces P) (lex_stage file bytes) (parse_stage bytes) (lexed_ends P file bytes all) (parsed_ends P bytes)
 
 -- the files that are left, after a front whose trees are done
 trees_end : (files front : List File) (done : Trees) (fs : List File) → files ≡ front ++ fs → length front ≡ length done.files → TreesPlaces (StandsIn files) done →
@@ -142,19 +142,19 @@ flat_ends : (P : OfPlace) (trees : Trees) → TreesPlaces P trees → StageEnds 
 flat_ends P trees ht (Ok xs) k = subst (FilePlaces P) (sym k.1) (flat_placed P trees.files trees.heads ht.0 ht.1)
 flat_ends P trees ht (Err e) k = heirs_told P k.0 e k.2 (heirs_fault_placed P (all_heirs trees.files trees.heads) k.0 (heirs_placed P trees.files trees.heads ht.0 ht.1) k.1)
 
-named_ends : (P : OfPlace) (xs : List Item) → FilePlaces P xs → StageEnds (RefusalPlace P) (ProgramPlaces P) (named xs)
+named_ends : (P : OfPlace) (xs : List Item) → FilePlaces P xs → StageEnds (RefusalPlace P) (ProgramPlaces P) (name_stage xs)
 named_ends P xs hx (Ok cs) k = resolved_placed P xs cs hx k
 named_ends P xs hx (Err e) k = subst (RefusalPlace P) (sym k.2) (names_told P k.0 (names_fault_placed P xs k.0 hx k.1))
 
-laid_ends : (P : OfPlace) (cs : List r.Class) → ProgramPlaces P cs → StageEnds (RefusalPlace P) Any (laid cs)
+laid_ends : (P : OfPlace) (cs : List r.Class) → ProgramPlaces P cs → StageEnds (RefusalPlace P) Any (layout_stage cs)
 laid_ends P cs hc (Ok layout) k = tt
 laid_ends P cs hc (Err e) k = layout_told P k.0 e k.2 (layout_fault_placed P cs k.0 hc k.1)
 
-typed_ends : (P : OfPlace) (cs : List r.Class) → ProgramPlaces P cs → StageEnds (RefusalPlace P) (Each (NamePlace P)) (typed cs)
+typed_ends : (P : OfPlace) (cs : List r.Class) → ProgramPlaces P cs → StageEnds (RefusalPlace P) (Each (NamePlace P)) (type_stage cs)
 typed_ends P cs hc (Ok us) k = typed_placed P cs us hc k
 typed_ends P cs hc (Err e) k = subst (RefusalPlace P) (sym k.2) (types_told P k.0 (types_fault_placed P cs k.0 hc k.1))
 
-coded_ends : (P : OfPlace) (s : SetValue) → Each (NamePlace P) s.classes → StageEnds (RefusalPlace P) Any (coded s)
+coded_ends : (P : OfPlace) (s : SetValue) → Each (NamePlace P) s.classes → StageEnds (RefusalPlace P) Any (limit_stage s)
 coded_ends P s hs (Ok u) k = tt
 coded_ends P s hs (Err e) k =
     subst (RefusalPlace P) (sym k.2) (long_told P (slice_get s.classes k.0) k.1.element k.1.stands (each_get (NamePlace P) s.classes k.0 hs))
@@ -163,14 +163,14 @@ coded_ends P s hs (Err e) k =
 
 typed_set_ends : (P : OfPlace) (cs : List r.Class) (layout : List (List ℕ)) → ProgramPlaces P cs → StageEnds (RefusalPlace P) Any (typed_set cs layout)
 typed_set_ends P cs layout hc =
-    stage_then (RefusalPlace P) (Each (NamePlace P)) Any (typed cs) (λ (us : List t.Class). coded (record { classes = us; layout = layout })) (typed_ends P cs hc)
+    stage_then (RefusalPlace P) (Each (NamePlace P)) Any (type_stage cs) (λ (us : List t.Class). limit_stage (record { classes = us; layout = layout })) (typed_ends P cs hc)
     (λ us hu. coded_ends P (record { classes = us; layout = layout }) hu)
 
 laid_set_ends : (P : OfPlace) (cs : List r.Class) → ProgramPlaces P cs → StageEnds (RefusalPlace P) Any (laid_set cs)
-laid_set_ends P cs hc = stage_then (RefusalPlace P) Any Any (laid cs) (typed_set cs) (laid_ends P cs hc) (λ layout hl. typed_set_ends P cs layout hc)
+laid_set_ends P cs hc = stage_then (RefusalPlace P) Any Any (layout_stage cs) (typed_set cs) (laid_ends P cs hc) (λ layout hl. typed_set_ends P cs layout hc)
 
 named_set_ends : (P : OfPlace) (xs : List Item) → FilePlaces P xs → StageEnds (RefusalPlace P) Any (named_set xs)
-named_set_ends P xs hx = stage_then (RefusalPlace P) (ProgramPlaces P) Any (named xs) laid_set (named_ends P xs hx) (laid_set_ends P)
+named_set_ends P xs hx = stage_then (RefusalPlace P) (ProgramPlaces P) Any (name_stage xs) laid_set (named_ends P xs hx) (laid_set_ends P)
 
 flat_set_ends : (P : OfPlace) (trees : Trees) → TreesPlaces P trees → StageEnds (RefusalPlace P) Any (flat_set trees)
 flat_set_ends P trees ht = stage_then (RefusalPlace P) (FilePlaces P) Any (flat trees) named_set (flat_ends P trees ht) (named_set_ends P)

@@ -30,7 +30,7 @@ use Rattle.code_gen.specs.Compiling.{Compiles}
 use Rattle.code_gen.specs.declared.fault.GenFault.{GenFault}
 use Rattle.code_gen.specs.declared.fault.GenFault.TheVariants as g
 use Rattle.element_set.specs.Faults.{refusal, lex_fault, name_fault, type_fault, gen_fault}
-use Rattle.element_set.specs.Stages.{lexed, named, named_set, typed, coded}
+use Rattle.element_set.specs.Stages.{lex_stage, name_stage, named_set, type_stage, limit_stage}
 use Rattle.element_set.specs.Value.{SetValue, program_of}
 use Rattle.element_set.specs.Told.{Tells}
 
@@ -55,7 +55,7 @@ pub tells_exit : {X B : Type 0} (value : X → B) (S : Stage B Refusal) (e : Bui
 tells_exit value S e (Ok x) failed t = absurd failed
 tells_exit {X = X} value S e (Err d) failed t = subst (λ f. Tells {X = X} value S (Err f)) (sym failed) t
 
-pub lex_told : (X : Type 0) {B : Type 0} (value : X → B) (file : ℕ) (bytes : List ℕ) (T : _ → Stage B Refusal) (f : LexFault) → (f ≡ x.NoMemory) ⊎ lex.IsFaultOf file bytes f → Tells {X = X} value (and_then (lexed file bytes) T) (Err (lex_fault f))
+pub lex_told : (X : Type 0) {B : Type 0} (value : X → B) (file : ℕ) (bytes : List ℕ) (T : _ → Stage B Refusal) (f : LexFault) → (f ≡ x.NoMemory) ⊎ lex.IsFaultOf file bytes f → Tells {X = X} value (and_then (lex_stage file bytes) T) (Err (lex_fault f))
 lex_told X value file bytes T (x.BadByte p) (inl e) = absurd cc
 lex_told X value file bytes T (x.BadByte p) (inr h) = (inl (x.BadByte p, h, refl), record { is_code = refl })
 lex_told X value file bytes T (x.OpenComment p) (inl e) = absurd cc
@@ -66,7 +66,7 @@ lex_told X value file bytes T (x.TooManyTokens p) (inl e) = absurd cc
 lex_told X value file bytes T (x.TooManyTokens p) (inr h) = (inl (x.TooManyTokens p, h, refl), record { is_code = refl })
 lex_told X value file bytes T x.NoMemory h = tt
 
-pub name_told : (X : Type 0) {B : Type 0} (value : X → B) (xs : List Item) (T : List r.Class → Stage B Refusal) (f : NameFault) → NameFails f (names.program xs) → Tells {X = X} value (and_then (named xs) T) (Err (name_fault f))
+pub name_told : (X : Type 0) {B : Type 0} (value : X → B) (xs : List Item) (T : List r.Class → Stage B Refusal) (f : NameFault) → NameFails f (names.program xs) → Tells {X = X} value (and_then (name_stage xs) T) (Err (name_fault f))
 name_told X value xs T (n.DuplicateName p) h = (inl (_, ap fault_of h, refl), record { is_code = refl })
 name_told X value xs T (n.UnknownName p) h = (inl (_, ap fault_of h, refl), record { is_code = refl })
 name_told X value xs T (n.CyclicQuark p) h = (inl (_, ap fault_of h, refl), record { is_code = refl })
@@ -76,7 +76,7 @@ name_told X value xs T (n.TooMany p) h = (inl (_, ap fault_of h, refl), record {
 name_told X value xs T (n.BadWidth p) h = (inl (_, ap fault_of h, refl), record { is_code = refl })
 name_told X value xs T n.NoMemory h = tt
 
-pub type_told : (X : Type 0) {B : Type 0} (value : X → B) (cs : List r.Class) (T : _ → Stage B Refusal) (f : TypeFault) → TypeFails f (types.program cs) → Tells {X = X} value (and_then (typed cs) T) (Err (type_fault f))
+pub type_told : (X : Type 0) {B : Type 0} (value : X → B) (cs : List r.Class) (T : _ → Stage B Refusal) (f : TypeFault) → TypeFails f (types.program cs) → Tells {X = X} value (and_then (type_stage cs) T) (Err (type_fault f))
 type_told X value cs T (t.WrongType p) h = (inl (_, ap fault_of h, refl), record { is_code = refl })
 type_told X value cs T (t.MixedSigns p) h = (inl (_, ap fault_of h, refl), record { is_code = refl })
 type_told X value cs T (t.NotAssignable p) h = (inl (_, ap fault_of h, refl), record { is_code = refl })
@@ -86,7 +86,7 @@ type_told X value cs T (t.BreakOutside p) h = (inl (_, ap fault_of h, refl), rec
 type_told X value cs T (t.MissingReturn p) h = (inl (_, ap fault_of h, refl), record { is_code = refl })
 type_told X value cs T t.NoMemory h = tt
 
-pub gen_told : (X : Type 0) (value : X → SetValue) (s : SetValue) (f : GenFault) → Compiles (program_of s) (Err f) → Tells {X = X} value (coded s) (Err (gen_fault f))
+pub gen_told : (X : Type 0) (value : X → SetValue) (s : SetValue) (f : GenFault) → Compiles (program_of s) (Err f) → Tells {X = X} value (limit_stage s) (Err (gen_fault f))
 gen_told X value s (g.CodeTooLong p) h = ((h.0, h.1, ap (refusal 60) h.2), record { is_code = refl })
 gen_told X value s g.NoMemory h = tt
 
@@ -100,7 +100,7 @@ joined (f ∷ fs) = ap (λ xs. file_of f ++ xs) (joined fs)
 abbrev SameProgram : List Item → List Item → Type 0
 SameProgram xs ys = names.program xs ≡ names.program ys
 
-named_like : (xs ys : List Item) → SameProgram xs ys → (o : Result (List r.Class) Refusal) → named xs o → named ys o
+named_like : (xs ys : List Item) → SameProgram xs ys → (o : Result (List r.Class) Refusal) → name_stage xs o → name_stage ys o
 named_like xs ys e (Ok cs) h = means_at (IsResolved ys) (names.program ys) cs (program_means ys) (sym e ∙ program_fits xs cs h)
 named_like xs ys e (Err s) h = (h.0, sym (ap fault_of e) ∙ h.1, h.2)
 

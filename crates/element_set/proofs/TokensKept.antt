@@ -5,7 +5,7 @@ use Rattle.ulam_tree.specs.Raw.{Word, Width, wide, wide_as, TypeRef, Path, Expr,
 use Rattle.ulam_parse.specs.Tokens.{Tok, tok}
 use Rattle.ulam_parse.specs.declared.symbol.Symbol.{Symbol}
 use Rattle.ulam_parse.specs.declared.symbol.Symbol.TheVariants as s
-use Rattle.ulam_parse.specs.Grammar.{Span, ◌⟫◌, Here, Takes, TakesAt, TakesWord, IsWidth, IsSize, IsType, AreDotted, IsPathOf, IsPath, IsExpr, AreArgs, AreMoreArgs, IsCond, IsIndex, IsLeft, IsMaybe, IsStart, IsSimple, IsDeclare, IsFirst, IsStep, IsStatement, IsElse, IsBody, IsParam, AreMoreParams, AreParams, IsConst, IsLength, IsMember, AreMembers, IsItem, ends_open}
+use Rattle.ulam_parse.specs.Grammar.{Span, ◌⟫◌, Here, Takes, TakesAt, TakesWord, IsWidth, IsSize, IsType, AreDotted, IsPathOf, IsPath, IsExpr, AreArgs, AreMoreArgs, IsCond, IsIndex, IsLeftSide, IsMaybe, IsStart, IsSimple, IsDeclare, IsFirst, IsStep, IsStatement, IsElse, IsBody, IsParam, AreMoreParams, AreParams, IsConst, IsLength, IsMember, AreMembers, IsItem, ends_open}
 
 module _ (P : Tok → Type 0) where
   -- it holds of each token
@@ -88,7 +88,7 @@ module _ (P : Tok → Type 0) where
   index_keeps None = here_keeps
   index_keeps (Some e) = both_keep _ _ (takes_keeps s.OpenBracket) (both_keep _ _ (expr_keeps 1 e) (takes_keeps s.CloseBracket))
 
-  left_keeps : (l : Left) → Keeps (IsLeft l)
+  left_keeps : (l : Left) → Keeps (IsLeftSide l)
   left_keeps l = both_keep _ _ (path_keeps l.path) (index_keeps l.index)
 
   maybe_keeps : (o : Option Expr) → Keeps (IsMaybe o)

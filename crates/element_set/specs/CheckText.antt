@@ -12,8 +12,8 @@ use Rattle.element_set.specs.Names.{names_in}
 use Rattle.element_set.specs.Value.{SetValue}
 
 -- a word and a space
-abbrev pub spaced : List ℕ → List ℕ
-spaced word = word ++ codes " "
+abbrev pub word_and_space : List ℕ → List ℕ
+word_and_space word = word ++ codes " "
 
 -- a number in brackets
 abbrev pub in_parens : ℕ → List ℕ
@@ -48,7 +48,7 @@ whole_type cs ty n = type_text cs ty ++ length_text n
 
 -- member NAME TYPE FIRST WIDTH
 abbrev pub member_line : List ℕ → List ℕ → ℕ → ℕ → List ℕ
-member_line name ty first width = codes "member " ++ (spaced name ++ (spaced ty ++ (spaced (decimal first) ++ (decimal width ++ codes "\n"))))
+member_line name ty first width = codes "member " ++ (word_and_space name ++ (word_and_space ty ++ (word_and_space (decimal first) ++ (decimal width ++ codes "\n"))))
 
 -- a data member that takes bits
 abbrev pub member_text : List ℕ → List ℕ → ℕ → ℕ → List ℕ
@@ -62,11 +62,11 @@ members_text s k i (function of w ps b ∷ ms) = members_text s k i ms
 
 -- quark NAME BITS
 abbrev pub quark_line : List ℕ → ℕ → List ℕ
-quark_line name bits = codes "quark " ++ (spaced name ++ (decimal bits ++ codes "\n"))
+quark_line name bits = codes "quark " ++ (word_and_space name ++ (decimal bits ++ codes "\n"))
 
 -- element NAME NUMBER BITS
 abbrev pub element_line : List ℕ → ℕ → ℕ → List ℕ
-element_line name number bits = codes "element " ++ (spaced name ++ (spaced (decimal number) ++ (decimal bits ++ codes "\n")))
+element_line name number bits = codes "element " ++ (word_and_space name ++ (word_and_space (decimal number) ++ (decimal bits ++ codes "\n")))
 
 -- a class of this many bits, with this many elements before it
 abbrev pub class_line : t.Class → ℕ → ℕ → List ℕ

@@ -29,11 +29,11 @@ pub record Coded (code : ℕ) : Type 0 where
   pub is_code : IsCode code
 
 -- a refusal whose text shows a number
-abbrev pub counted : ℕ → Place → ℕ → Refusal
-counted code place value = record { code = code; place = place; value = value }
+abbrev pub refusal_with_value : ℕ → Place → ℕ → Refusal
+refusal_with_value code place value = record { code = code; place = place; value = value }
 
 abbrev pub refusal : ℕ → Place → Refusal
-refusal code place = counted code place 0
+refusal code place = refusal_with_value code place 0
 
 -- The codes of each stage. Running out of memory is not a refusal.
 
@@ -65,8 +65,8 @@ name_refusal (too_many at) = refusal 35 at
 name_refusal (bad_width at) = refusal 36 at
 
 abbrev pub layout_fault : LayoutFault → BuildFault
-layout_fault (l.QuarkTooWide at bits) = Refused (counted 40 at bits)
-layout_fault (l.ElementTooWide at bits) = Refused (counted 41 at bits)
+layout_fault (l.QuarkTooWide at bits) = Refused (refusal_with_value 40 at bits)
+layout_fault (l.ElementTooWide at bits) = Refused (refusal_with_value 41 at bits)
 layout_fault l.NoMemory = NoMemory
 
 abbrev pub type_refusal : t.Fault → Refusal

@@ -4,7 +4,7 @@ use Rattle.ulam_tree.specs.Typed as t
 use Rattle.ulam_tree.specs.TypedViews.{typed_class, typed_program}
 use Rattle.ulam_tree.specs.declared.typed.Class.{Class}
 use Rattle.ulam_tree.specs.declared.typed.Typed.{Typed}
-use Rattle.ulam_names.specs.Scopes.{most_classes}
+use Rattle.ulam_names.specs.declared.limits.TheConstants.{MOST_CLASSES}
 use Rattle.element_set.specs.Names.{names_in, counts, AreSlim}
 use Rattle.element_set.specs.Value.{SetValue, program_of}
 use Rattle.code_gen.specs.Compiling.{IsCompilable, AreShort}
@@ -24,7 +24,7 @@ pub record Fits (cs : List t.Class) (ls : List (List ℕ)) : Type 0 where
 pub record IsKept (s : SetValue) (names numbers : List (List ℕ)) : Type 0 where
   pub names_is : names ≡ names_in s.classes
   pub numbers_is : numbers ≡ names_in s.classes
-  pub few : length s.classes ≤ most_classes
+  pub few : length s.classes ≤ MOST_CLASSES
   pub fits : Fits s.classes s.layout
 
 -- a set's program is what the compiler needs, and the limits let the code of each element through

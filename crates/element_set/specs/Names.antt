@@ -5,7 +5,8 @@ use Rattle.ulam_tree.specs.Statements.{Class, Member, field, function}
 use Rattle.ulam_tree.specs.Raw.{Item}
 use Rattle.ulam_tree.specs.Resolved as r
 use Rattle.ulam_names.specs.ClassRelation.{IsResolved}
-use Rattle.ulam_names.specs.Scopes.{is_among, most_classes, most_members}
+use Rattle.ulam_names.specs.Scopes.{is_among}
+use Rattle.ulam_names.specs.declared.limits.TheConstants.{MOST_CLASSES, MOST_MEMBERS}
 
 -- the name that a key of a set of names is
 abbrev pub key_name : Vec ℕ Global → List ℕ
@@ -40,11 +41,11 @@ counts {E = E} {A = A} cs = map (λ (c : Class E A). field_count c.members) cs
 
 -- no class has more data members than it may have
 abbrev pub AreSlim : {E A : Type 0} → List (Class E A) → Type 0
-AreSlim cs = (k : ℕ) → get_or (counts cs) k 0 ≤ most_members
+AreSlim cs = (k : ℕ) → get_or (counts cs) k 0 ≤ MOST_MEMBERS
 
 -- No more classes than there may be, each with a name of its own, and no more data members in each than there may be.
 pub record AreNamed {E A : Type 0} (cs : List (Class E A)) : Type 0 where
-  pub few : length cs ≤ most_classes
+  pub few : length cs ≤ MOST_CLASSES
   pub new : AreNew [] (class_names cs)
   pub slim : AreSlim cs
 

@@ -41,5 +41,5 @@ abbrev pub element_names : SetValue → List (List ℕ)
 element_names s = names_in s.classes
 
 -- the number of the element of a name
-abbrev pub number_of : SetValue → List ℕ → Option ℕ
-number_of s name = option_map suc (position (bytes_eq name) (element_names s))
+abbrev pub element_number : SetValue → List ℕ → Option ℕ
+element_number s name = option_map suc (position (bytes_eq name) (element_names s))

@@ -5,7 +5,8 @@ use Rattle.feast_base.specs.Stages.{Stage, and_then, gives}
 use Rattle.feast_base.specs.declared.place.Refusal.{Refusal}
 use Rattle.ulam_lex.specs.declared.token.Token.{Token}
 use Rattle.ulam_lex.specs.declared.token.LexFault.{LexFault}
-use Rattle.ulam_lex.specs.Texts.{IsTokensOf, most_tokens}
+use Rattle.ulam_lex.specs.Texts.{IsTokensOf}
+use Rattle.ulam_lex.specs.declared.lexer.TheConstants.{MOST_TOKENS}
 use Rattle.ulam_lex.specs.Texts as lex
 use Rattle.ulam_parse.specs.declared.fault.ParseFault.{ParseFault}
 use Rattle.ulam_parse.specs.Tokens.{toks}
@@ -34,9 +35,9 @@ use Rattle.element_set.specs.Faults.{refusal, lex_fault, parse_fault, heirs_faul
 -- Each file by itself
 
 -- the tokens of a file, by its number and its bytes
-abbrev pub lexed : ℕ → List ℕ → Stage (List Token) Refusal
-lexed file bytes (Ok ts) = IsTokensOf file bytes ts × (length ts ≤ most_tokens + 1)
-lexed file bytes (Err e) = (f : LexFault) × lex.IsFaultOf file bytes f × (lex_fault f ≡ Refused e)
+abbrev pub lex_stage : ℕ → List ℕ → Stage (List Token) Refusal
+lex_stage file bytes (Ok ts) = IsTokensOf file bytes ts × (length ts ≤ MOST_TOKENS + 1)
+lex_stage file bytes (Err e) = (f : LexFault) × lex.IsFaultOf file bytes f × (lex_fault f ≡ Refused e)
 
 -- the items of a file, and what its heads say of bases
 pub record Tree : Type 0 where
@@ -44,12 +45,12 @@ pub record Tree : Type 0 where
   pub heads : Heads
 
 -- The tokens of a file without what is said of bases and virtual functions are a sentence.
-abbrev pub parsed : List ℕ → List Token → Stage Tree Refusal
-parsed bytes ts (Ok x) = IsSentence x.items (toks bytes (tokens_left bytes ts)) × (x.heads ≡ heads_of bytes ts)
-parsed bytes ts (Err e) = (f : ParseFault) × parse.IsFaultOf (toks bytes (tokens_left bytes ts)) f × (parse_fault f ≡ Refused e)
+abbrev pub parse_stage : List ℕ → List Token → Stage Tree Refusal
+parse_stage bytes ts (Ok x) = IsSentence x.items (toks bytes (tokens_left bytes ts)) × (x.heads ≡ heads_of bytes ts)
+parse_stage bytes ts (Err e) = (f : ParseFault) × parse.IsFaultOf (toks bytes (tokens_left bytes ts)) f × (parse_fault f ≡ Refused e)
 
 abbrev pub tree_of : ℕ → List ℕ → Stage Tree Refusal
-tree_of file bytes = and_then (lexed file bytes) (parsed bytes)
+tree_of file bytes = and_then (lex_stage file bytes) (parse_stage bytes)
 
 -- the items of files in order, and what their heads say
 pub record Trees : Type 0 where
@@ -76,35 +77,35 @@ flat x (Ok xs) = (first_heirs_fault (all_heirs x.files x.heads) ≡ None) × (xs
 flat x (Err e) = (f : HeirsFault) × (first_heirs_fault (all_heirs x.files x.heads) ≡ Some f) × (heirs_fault f ≡ Refused e)
 
 -- what names mean
-abbrev pub named : List Item → Stage (List r.Class) Refusal
-named xs (Ok cs) = IsResolved xs cs
-named xs (Err e) = (f : NameFault) × (first_name_fault xs ≡ Some f) × (e ≡ name_refusal f)
+abbrev pub name_stage : List Item → Stage (List r.Class) Refusal
+name_stage xs (Ok cs) = IsResolved xs cs
+name_stage xs (Err e) = (f : NameFault) × (first_name_fault xs ≡ Some f) × (e ≡ name_refusal f)
 
 -- where data members lie
-abbrev pub laid : List r.Class → Stage (List (List ℕ)) Refusal
-laid cs (Ok l) = (first_wide cs ≡ None) × (l ≡ layout_of cs)
-laid cs (Err e) = (f : LayoutFault) × (first_wide cs ≡ Some f) × (layout_fault f ≡ Refused e)
+abbrev pub layout_stage : List r.Class → Stage (List (List ℕ)) Refusal
+layout_stage cs (Ok l) = (first_wide cs ≡ None) × (l ≡ layout_of cs)
+layout_stage cs (Err e) = (f : LayoutFault) × (first_wide cs ≡ Some f) × (layout_fault f ≡ Refused e)
 
 -- the types of expressions
-abbrev pub typed : List r.Class → Stage (List t.Class) Refusal
-typed cs (Ok us) = IsTypedProgram cs us
-typed cs (Err e) = (f : TypeFault) × (first_type_fault cs ≡ Some f) × (e ≡ type_refusal f)
+abbrev pub type_stage : List r.Class → Stage (List t.Class) Refusal
+type_stage cs (Ok us) = IsTypedProgram cs us
+type_stage cs (Err e) = (f : TypeFault) × (first_type_fault cs ≡ Some f) × (e ≡ type_refusal f)
 
 -- the limits of code, which let each element through or not
-abbrev pub coded : SetValue → Stage SetValue Refusal
-coded s (Ok u) = AreShort (program_of s) × (u ≡ s)
-coded s (Err e) = (c : ℕ) × IsFirstLong (program_of s) c × (e ≡ refusal 60 (long_place s.classes c))
+abbrev pub limit_stage : SetValue → Stage SetValue Refusal
+limit_stage s (Ok u) = AreShort (program_of s) × (u ≡ s)
+limit_stage s (Err e) = (c : ℕ) × IsFirstLong (program_of s) c × (e ≡ refusal 60 (long_place s.classes c))
 
 -- The stages in their order, from the last to the first
 
 abbrev pub typed_set : List r.Class → List (List ℕ) → Stage SetValue Refusal
-typed_set cs l = and_then (typed cs) (λ (us : List t.Class). coded (record { classes = us; layout = l }))
+typed_set cs l = and_then (type_stage cs) (λ (us : List t.Class). limit_stage (record { classes = us; layout = l }))
 
 abbrev pub laid_set : List r.Class → Stage SetValue Refusal
-laid_set cs = and_then (laid cs) (typed_set cs)
+laid_set cs = and_then (layout_stage cs) (typed_set cs)
 
 abbrev pub named_set : List Item → Stage SetValue Refusal
-named_set xs = and_then (named xs) laid_set
+named_set xs = and_then (name_stage xs) laid_set
 
 abbrev pub flat_set : Trees → Stage SetValue Refusal
 flat_set x = and_then (flat x) named_set

@@ -31,7 +31,7 @@ fn coded_set(alloc: Global, typed: Typed, layout: Layout) -> Result<ElementSet, 
     requires named { AreNamed (typed_program typed) }
     requires fits { Fits (typed_program typed) layout }
     requires compilable { IsCompilable (program_of (set_view typed layout)) }
-    ensures { Tells set_value (stage.coded (set_view typed layout)) result }
+    ensures { Tells set_value (stage.limit_stage (set_view typed layout)) result }
 {
     let codes = compile(alloc, &typed, &layout)?;
     let set = ElementSet::of(alloc, typed, layout, codes)?;

@@ -1,17 +1,19 @@
 //! The elements of a set by their numbers.
 ghost use Rattle.std.specs.Prelude.{◌≡◌, ◌≤◌, length};
 ghost use Rattle.code_gen.specs.Compiling.{element_codes};
-ghost use Rattle.element_set.specs.Sets.{element_names, number_of, program_of, set_value};
+ghost use Rattle.ulam_names.specs.declared.limits.TheConstants.{MOST_CLASSES};
+ghost use Rattle.element_set.specs.Sets.{element_names, element_number, program_of, set_value};
 
 use crate::set::ElementSet;
 use feast_base::Name;
 use stack_code::Code;
 
 impl ElementSet {
-    /// The names of the elements, of which there are at most 256. The first element has the number 1.
+    /// The names of the elements, at most as many as there may be classes. The first element has the
+    /// number 1.
     pub fn names(&self) -> &[Name]
         ensures value { result.now ≡ element_names (set_value self.now) }
-        ensures few { length result.now ≤ 256 }
+        ensures few { length result.now ≤ MOST_CLASSES }
     {
         self.names.as_slice()
     }
@@ -26,7 +28,7 @@ impl ElementSet {
 
     /// The number of the element of a name, None exactly when no element has it.
     pub fn number(&self, name: &[u8]) -> Option<u16>
-        ensures { result ≡ number_of (set_value self.now) name.now }
+        ensures { result ≡ element_number (set_value self.now) name.now }
     {
         self.numbers.number(name)
     }

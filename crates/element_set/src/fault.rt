@@ -27,17 +27,17 @@ pub enum BuildFault {
 }
 
 /// A refusal whose text shows a number.
-fn counted(code: u8, place: Place, value: u64) -> BuildFault
-    ensures { result ≡ fault.Refused (spec.counted code place value) }
+fn refusal_with_value(code: u8, place: Place, value: u64) -> BuildFault
+    ensures { result ≡ fault.Refused (spec.refusal_with_value code place value) }
 {
     BuildFault::Refused(Refusal { code, place, value })
 }
 
 /// A refusal whose text shows none.
-fn refused(code: u8, place: Place) -> BuildFault
+fn refusal(code: u8, place: Place) -> BuildFault
     ensures { result ≡ fault.Refused (spec.refusal code place) }
 {
-    counted(code, place, 0)
+    refusal_with_value(code, place, 0)
 }
 
 impl From<LexFault> for BuildFault {
@@ -48,10 +48,10 @@ impl From<LexFault> for BuildFault {
 
     fn from(fault: LexFault) -> BuildFault {
         match fault {
-            LexFault::BadByte(at) => refused(10, at),
-            LexFault::OpenComment(at) => refused(11, at),
-            LexFault::NumberTooLarge(at) => refused(12, at),
-            LexFault::TooManyTokens(at) => refused(13, at),
+            LexFault::BadByte(at) => refusal(10, at),
+            LexFault::OpenComment(at) => refusal(11, at),
+            LexFault::NumberTooLarge(at) => refusal(12, at),
+            LexFault::TooManyTokens(at) => refusal(13, at),
             LexFault::NoMemory => BuildFault::NoMemory,
         }
     }
@@ -65,8 +65,8 @@ impl From<ParseFault> for BuildFault {
 
     fn from(fault: ParseFault) -> BuildFault {
         match fault {
-            ParseFault::Syntax(at) => refused(20, at),
-            ParseFault::TooDeep(at) => refused(21, at),
+            ParseFault::Syntax(at) => refusal(20, at),
+            ParseFault::TooDeep(at) => refusal(21, at),
             ParseFault::NoMemory => BuildFault::NoMemory,
         }
     }
@@ -80,9 +80,9 @@ impl From<HeirsFault> for BuildFault {
 
     fn from(fault: HeirsFault) -> BuildFault {
         match fault {
-            HeirsFault::NotQuark(at) => refused(37, at),
-            HeirsFault::OwnBase(at) => refused(38, at),
-            HeirsFault::BadOverride(at) => refused(39, at),
+            HeirsFault::NotQuark(at) => refusal(37, at),
+            HeirsFault::OwnBase(at) => refusal(38, at),
+            HeirsFault::BadOverride(at) => refusal(39, at),
             HeirsFault::NoMemory => BuildFault::NoMemory,
         }
     }
@@ -96,13 +96,13 @@ impl From<NameFault> for BuildFault {
 
     fn from(fault: NameFault) -> BuildFault {
         match fault {
-            NameFault::DuplicateName(at) => refused(30, at),
-            NameFault::UnknownName(at) => refused(31, at),
-            NameFault::CyclicQuark(at) => refused(32, at),
-            NameFault::NoBehave(at) => refused(33, at),
-            NameFault::BadConstant(at) => refused(34, at),
-            NameFault::TooMany(at) => refused(35, at),
-            NameFault::BadWidth(at) => refused(36, at),
+            NameFault::DuplicateName(at) => refusal(30, at),
+            NameFault::UnknownName(at) => refusal(31, at),
+            NameFault::CyclicQuark(at) => refusal(32, at),
+            NameFault::NoBehave(at) => refusal(33, at),
+            NameFault::BadConstant(at) => refusal(34, at),
+            NameFault::TooMany(at) => refusal(35, at),
+            NameFault::BadWidth(at) => refusal(36, at),
             NameFault::NoMemory => BuildFault::NoMemory,
         }
     }
@@ -116,8 +116,8 @@ impl From<LayoutFault> for BuildFault {
 
     fn from(fault: LayoutFault) -> BuildFault {
         match fault {
-            LayoutFault::QuarkTooWide(at, bits) => counted(40, at, bits),
-            LayoutFault::ElementTooWide(at, bits) => counted(41, at, bits),
+            LayoutFault::QuarkTooWide(at, bits) => refusal_with_value(40, at, bits),
+            LayoutFault::ElementTooWide(at, bits) => refusal_with_value(41, at, bits),
             LayoutFault::NoMemory => BuildFault::NoMemory,
         }
     }
@@ -131,13 +131,13 @@ impl From<TypeFault> for BuildFault {
 
     fn from(fault: TypeFault) -> BuildFault {
         match fault {
-            TypeFault::WrongType(at) => refused(50, at),
-            TypeFault::MixedSigns(at) => refused(51, at),
-            TypeFault::NotAssignable(at) => refused(52, at),
-            TypeFault::WrongCount(at) => refused(53, at),
-            TypeFault::BadAs(at) => refused(54, at),
-            TypeFault::BreakOutside(at) => refused(55, at),
-            TypeFault::MissingReturn(at) => refused(56, at),
+            TypeFault::WrongType(at) => refusal(50, at),
+            TypeFault::MixedSigns(at) => refusal(51, at),
+            TypeFault::NotAssignable(at) => refusal(52, at),
+            TypeFault::WrongCount(at) => refusal(53, at),
+            TypeFault::BadAs(at) => refusal(54, at),
+            TypeFault::BreakOutside(at) => refusal(55, at),
+            TypeFault::MissingReturn(at) => refusal(56, at),
             TypeFault::NoMemory => BuildFault::NoMemory,
         }
     }
@@ -151,7 +151,7 @@ impl From<GenFault> for BuildFault {
 
     fn from(fault: GenFault) -> BuildFault {
         match fault {
-            GenFault::CodeTooLong(at) => refused(60, at),
+            GenFault::CodeTooLong(at) => refusal(60, at),
             GenFault::NoMemory => BuildFault::NoMemory,
         }
     }

@@ -9,13 +9,12 @@ ghost use Rattle.element_set.specs.Told.{flat_row};
 
 use std::alloc::Global;
 use ulam_heirs::{Heads, HeirsFault, flatten, flatten_within};
+use ulam_names::{MOST_CLASSES, MOST_MEMBERS};
 use ulam_tree::{File, Item};
 
-/// The most classes that names let there be.
-const MOST_CLASSES: usize = 256;
-
-/// The most members that names let a class have, 64 of each sort, and one more.
-const ENOUGH_MEMBERS: usize = 193;
+/// The least number of members that is too many for any class: of one of the three sorts there are
+/// too many.
+const ENOUGH_MEMBERS: usize = 3 * MOST_MEMBERS + 1;
 
 /// How many classes some items have, and how many members these have together.
 fn sizes(items: &[Item]) -> (usize, usize) {
@@ -30,8 +29,8 @@ fn sizes(items: &[Item]) -> (usize, usize) {
     (classes, members)
 }
 
-/// Whether files have no more classes than names let there be, and all of these together fewer
-/// members than are too many for one: then no flat class is too large.
+/// Whether files have no more classes than there may be, and all of these together fewer members
+/// than are too many for one: then no flat class is too large.
 fn are_few(files: &[File]) -> bool {
     let mut classes = 0usize;
     let mut members = 0usize;

@@ -3,6 +3,7 @@
 //! itself and counted, in memory that the next one uses again.
 ghost use Rattle.std.specs.Prelude.{◌≡◌, ◌≤◌, length, map};
 ghost use Rattle.ulam_tree.specs.TypedViews.{typed_class};
+ghost use Rattle.ulam_names.specs.declared.limits.TheConstants.{MOST_CLASSES};
 ghost use Rattle.element_set.specs.CodeText.{codes_text};
 ghost use Rattle.element_set.specs.Kept.{Fits, set_of_lists};
 ghost use Rattle.element_set.specs.Printing.{HasLength};
@@ -21,7 +22,7 @@ pub(crate) fn classes_len(
     classes: &[Class],
     layout: &Layout,
 ) -> Result<usize, NoMemory>
-    requires few { length classes.now ≤ 256 }
+    requires few { length classes.now ≤ MOST_CLASSES }
     requires fits { Fits (map typed_class classes.now) layout.now }
     ensures { HasLength result (check_text (set_of_lists classes.now layout.now)) }
 {

@@ -2,6 +2,7 @@
 ghost use Rattle.std.specs.Prelude.{◌≡◌, ◌<◌, ◌≤◌, ◌+◌, ◌++◌, codes, decimal, length, map, OnOk, OnErr};
 ghost use Rattle.atom_layout.specs.Layouts.{class_at};
 ghost use Rattle.ulam_tree.specs.TypedViews.{typed_class, typed_member};
+ghost use Rattle.ulam_names.specs.declared.limits.TheConstants.{MOST_CLASSES, MOST_MEMBERS};
 ghost use Rattle.element_set.specs.CheckText as text;
 ghost use Rattle.element_set.specs.Kept.{Fits, set_of_lists};
 ghost use Rattle.element_set.specs.Names.{element_name, field_count};
@@ -18,7 +19,7 @@ use ulam_tree::typed::{Class, Member, Ty};
 
 /// Appends a word and a space.
 fn push_spaced(out: &mut Vec<u8>, word: &[u8]) -> Result<(), NoMemory>
-    ensures { Adds result out.old out.new (text.spaced word.now) }
+    ensures { Adds result out.old out.new (text.word_and_space word.now) }
 {
     push(out, word)?;
     push(out, b" ")
@@ -26,7 +27,7 @@ fn push_spaced(out: &mut Vec<u8>, word: &[u8]) -> Result<(), NoMemory>
 
 /// Appends a number and a space.
 fn push_number_spaced(out: &mut Vec<u8>, n: u32) -> Result<(), NoMemory>
-    ensures { Adds result out.old out.new (text.spaced (decimal n)) }
+    ensures { Adds result out.old out.new (text.word_and_space (decimal n)) }
 {
     push_number(out, u64::from(n))?;
     push(out, b" ")
@@ -103,7 +104,7 @@ fn push_whole_type(
     ty: Ty,
     length: u32,
 ) -> Result<(), NoMemory>
-    ensures { Adds result out.old out.new (text.spaced (text.whole_type (map typed_class classes.now) ty length)) }
+    ensures { Adds result out.old out.new (text.word_and_space (text.whole_type (map typed_class classes.now) ty length)) }
 {
     push_type(out, classes, ty)?;
     push_length(out, length)?;
@@ -148,7 +149,7 @@ fn push_members(
 ) -> Result<(), NoMemory>
     requires class { own < length layout.now }
     requires fits { field_count (map typed_member members.now) ≤ length (class_at layout.now own) }
-    requires few { field_count (map typed_member members.now) ≤ 64 }
+    requires few { field_count (map typed_member members.now) ≤ MOST_MEMBERS }
     ensures { Adds result out.old out.new (fields_text classes.now layout.now own members.now) }
 {
     let mut at: u32 = 0;
@@ -186,7 +187,7 @@ fn push_element(out: &mut Vec<u8>, name: &[u8], number: u32, bits: u32) -> Resul
 
 /// Appends the line of a class, with this many elements before it.
 fn push_head(out: &mut Vec<u8>, class: &Class, before: u32, bits: u32) -> Result<(), NoMemory>
-    requires { before ≤ 256 }
+    requires { before ≤ MOST_CLASSES }
     ensures { Adds result out.old out.new (text.class_line (typed_class class.now) before bits) }
 {
     let name = class.word.name.bytes();
@@ -208,8 +209,8 @@ pub(crate) fn push_class(
 ) -> Result<(), NoMemory>
     requires class { own < length layout.now }
     requires fits { field_count (typed_class class.now).members ≤ length (class_at layout.now own) }
-    requires few { field_count (typed_class class.now).members ≤ 64 }
-    requires before { before ≤ 256 }
+    requires few { field_count (typed_class class.now).members ≤ MOST_MEMBERS }
+    requires before { before ≤ MOST_CLASSES }
     ensures { Adds result out.old out.new (class_with_fields classes.now layout.now own before class.now) }
 {
     push_head(out, class, before, layout.bits(own))?;
@@ -218,7 +219,7 @@ pub(crate) fn push_class(
 
 /// How many elements there are with one more class.
 pub(crate) fn with_class(class: &Class, before: u32) -> u32
-    requires { before ≤ 256 }
+    requires { before ≤ MOST_CLASSES }
     ensures { result ≡ before + length (element_name (typed_class class.now)) }
 {
     if class.quark { before } else { before + 1 }
@@ -226,7 +227,7 @@ pub(crate) fn with_class(class: &Class, before: u32) -> u32
 
 /// Appends all classes.
 fn push_classes(out: &mut Vec<u8>, classes: &[Class], layout: &Layout) -> Result<(), NoMemory>
-    requires few { length classes.now ≤ 256 }
+    requires few { length classes.now ≤ MOST_CLASSES }
     requires fits { Fits (map typed_class classes.now) layout.now }
     ensures { Adds result out.old out.new (check_text (set_of_lists classes.now layout.now)) }
 {

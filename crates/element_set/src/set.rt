@@ -7,7 +7,7 @@ ghost use Rattle.element_set.specs.Names.{AreNamed};
 ghost use Rattle.element_set.specs.Value.{program_of};
 
 use crate::names::element_names;
-use crate::numbers::{Numbers, numbered};
+use crate::numbers::{Numbers, numbers_of};
 use atom_layout::Layout;
 use feast_base::{Name, NoMemory};
 use stack_code::Code;
@@ -55,7 +55,7 @@ impl ElementSet {
         ensures { IfOk result (λ s. set_view s.typed s.layout ≡ set_view typed layout) }
     {
         let names = element_names(alloc, typed.classes.as_slice())?;
-        let numbers = numbered(alloc, names.as_slice())?;
+        let numbers = numbers_of(alloc, names.as_slice())?;
         Ok(ElementSet {
             typed,
             layout,

@@ -28,9 +28,9 @@ pub struct Trees {
 }
 
 /// The tree of tokens without what they say of bases and virtual functions.
-fn parsed(alloc: Global, bytes: &[u8], tokens: Vec<Token>) -> Result<Tree, BuildFault>
+fn parse_tokens(alloc: Global, bytes: &[u8], tokens: Vec<Token>) -> Result<Tree, BuildFault>
     requires { AreInOrder bytes.now 0 tokens.items }
-    ensures { Tells tree_value (stage.parsed bytes.now tokens.items) result }
+    ensures { Tells tree_value (stage.parse_stage bytes.now tokens.items) result }
 {
     let (left, heads) = heads(alloc, bytes, tokens)?.into_parts();
     let file = parse(alloc, bytes, left.as_slice())?;
@@ -43,7 +43,7 @@ fn read_tree(alloc: Global, bytes: &[u8], file: u32) -> Result<Tree, BuildFault>
     ensures { Tells tree_value (stage.tree_of file bytes.now) result }
 {
     let tokens = lex(alloc, bytes, file)?;
-    parsed(alloc, bytes, tokens)
+    parse_tokens(alloc, bytes, tokens)
 }
 
 /// Adds the tree of one more file.

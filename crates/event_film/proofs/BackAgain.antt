@@ -6,7 +6,7 @@ use Rattle.window_sites.specs.Window.{WindowValue}
 use Rattle.cell_grid.specs.Grid.{ArePlanesAlike, GridValue, IsLive, event, window_of}
 use Rattle.cell_grid.specs.Records.{replay}
 use Rattle.cell_grid.specs.declared.record.Record.{Record}
-use Rattle.event_film.specs.Films.{CanUndo, FilmValue, Undoes, film_of, film_value, kept_of, restored}
+use Rattle.event_film.specs.Films.{CanUndo, FilmValue, Undoes, film_of, film_value, kept_of, restore}
 use Rattle.event_film.specs.declared.kept.Kept.{Kept}
 use Rattle.event_film.proofs.Undoing.{put_twice}
 use Rattle.event_film.specs.Rewinding.{IsAt, reel}
@@ -68,7 +68,7 @@ module _ (after : WindowValue → ℕ → WindowValue) where
       record {
         kept = same.0;
         spare = omega (arith, u.2, at.spare);
-        grid_is = u.3 ∙ (λ i. restored (at.grid_is i) (same.1 i)) ∙ ap (λ (h : GridValue). restored h (kept_of g r)) (replay_more start records k lt)
+        grid_is = u.3 ∙ (λ i. restore (at.grid_is i) (same.1 i)) ∙ ap (λ (h : GridValue). restore h (kept_of g r)) (replay_more start records k lt)
             ∙ put_twice g r.x r.y (after (window_of g r.x r.y) r.seed);
       }
 

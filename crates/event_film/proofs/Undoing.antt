@@ -9,8 +9,8 @@ use Rattle.bit_field.specs.Atom.{empty_atom}
 use Rattle.window_sites.specs.Inner.{site_numbers}
 use Rattle.window_sites.specs.Window.{WindowValue}
 use Rattle.list_laws.proofs.Members.{In, filter_in, range_in}
-use Rattle.cell_grid.specs.Grid.{GridValue, atom_left, event, is_place, place_of, put_window, seen, sites_at, window_of}
-use Rattle.event_film.specs.Films.{kept_of, restored, UndoesAll}
+use Rattle.cell_grid.specs.Grid.{GridValue, atom_left, event, is_place, place_of, put_window, atom_at_place, sites_at, window_of}
+use Rattle.event_film.specs.Films.{kept_of, restore, UndoesAll}
 
 -- a place that a site lies at
 placed_at : (p : Option ℕ) (i : ℕ) → is_place p i ≡ true → p ≡ Some i
@@ -46,7 +46,7 @@ back_at g x y w i lt = go (sites_at g x y i site_numbers) refl
     go [] is = untouched is
     go (n ∷ ns) is =
         let mine : In n (sites_at g x y i site_numbers) = subst (In n) (sym is) (inl refl) in
-        seen-at g x y n (numbers n mine) ∙ ap (seen g) (placed_at (place_of g x y n) i (here n mine))
+        seen-at g x y n (numbers n mine) ∙ ap (atom_at_place g) (placed_at (place_of g x y n) i (here n mine))
 
 -- a window that is written, and then the one before it, leave the grid as it was
 pub put_twice : (g : GridValue) (x y : ℕ) (w : WindowValue) → put_window (put_window g x y w) x y (window_of g x y) ≡ g
@@ -68,4 +68,4 @@ pub undone_all : UndoesAll
 undone_all after g [] = refl
 undone_all after g (r ∷ rs) =
     let next = event after g r.x r.y r.seed in
-    ap (λ h. restored h (kept_of g r)) (undone_all after next rs) ∙ put_twice g r.x r.y (after (window_of g r.x r.y) r.seed)
+    ap (λ h. restore h (kept_of g r)) (undone_all after next rs) ∙ put_twice g r.x r.y (after (window_of g r.x r.y) r.seed)

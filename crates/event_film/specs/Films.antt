@@ -24,17 +24,17 @@ film_of after g [] = []
 film_of after g (r ∷ rs) = kept_of g r ∷ film_of after (event after g r.x r.y r.seed) rs
 
 -- the grid in which each live site of a kept window has its atom again
-abbrev pub restored : GridValue → Kept → GridValue
-restored g k = put_window g k.x k.y k.window
+abbrev pub restore : GridValue → Kept → GridValue
+restore g k = put_window g k.x k.y k.window
 
 -- the grid once all kept events are undone, the last of them first
-abbrev pub undone : GridValue → List Kept → GridValue
-undone g [] = g
-undone g (k ∷ ks) = restored (undone g ks) k
+abbrev pub undo_all : GridValue → List Kept → GridValue
+undo_all g [] = g
+undo_all g (k ∷ ks) = restore (undo_all g ks) k
 
 -- whatever events are made and then undone, the grid is what it was
 abbrev pub UndoesAll : Type 0
-UndoesAll = (after : WindowValue → ℕ → WindowValue) (g : GridValue) (records : List Record) → undone (replay after g records) (film_of after g records) ≡ g
+UndoesAll = (after : WindowValue → ℕ → WindowValue) (g : GridValue) (records : List Record) → undo_all (replay after g records) (film_of after g records) ≡ g
 
 -- the last event that is kept, if there is one, was at a live site
 abbrev pub CanUndo : FilmValue → GridValue → Type 0
@@ -42,5 +42,5 @@ CanUndo film g = (kept : List Kept) (k : Kept) → film.kept ≡ kept ++ k ∷ [
 
 -- the result of undoing the last event: true if one was kept, and false if none was
 abbrev pub Undoes : FilmValue → FilmValue → GridValue → GridValue → Bool → Type 0
-Undoes old new g h true = (k : Kept) × (old.kept ≡ new.kept ++ k ∷ []) × (new.spare ≡ old.spare + 1) × (h ≡ restored g k)
+Undoes old new g h true = (k : Kept) × (old.kept ≡ new.kept ++ k ∷ []) × (new.spare ≡ old.spare + 1) × (h ≡ restore g k)
 Undoes old new g h false = (old.kept ≡ []) × (new ≡ old) × (h ≡ g)

@@ -1,5 +1,6 @@
 //! What a film keeps of an event.
 
+use feast_base::MOST_ATTEMPTS;
 use std::mem::size_of;
 use window_sites::Window;
 
@@ -15,4 +16,4 @@ pub struct Kept {
 }
 
 /// A million events take less than 1,100,000,000 bytes.
-const _: () = prove!(size_of::<Kept>() * 1_000_000 < 1_100_000_000);
+const _: () = prove!(size_of::<Kept>() * MOST_ATTEMPTS < 1_100_000_000);

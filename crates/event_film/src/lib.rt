@@ -13,4 +13,4 @@ mod rewinding;
 pub use film::Film;
 pub use kept::Kept;
 pub use law::films;
-pub use rewinding::rewound;
+pub use rewinding::rewind;

@@ -25,7 +25,7 @@ fn run<B: Behave>(film: &mut Film, grid: &mut Grid, records: &[Record], behave: 
 /// The grid that the first `count` of some events, all at live sites, make of a start: all events
 /// are made, and then all but the first `count` are undone, the last one first. `NoMemory` if there
 /// is none for the film.
-pub fn rewound<B: Behave>(
+pub fn rewind<B: Behave>(
     alloc: Global,
     start: Grid,
     records: &[Record],

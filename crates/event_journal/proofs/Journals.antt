@@ -11,7 +11,7 @@ use Rattle.list_laws.proofs.Tests.{both}
 use Rattle.cell_grid.specs.declared.record.Record.{Record}
 use Rattle.cell_grid.specs.Records.{Precedes}
 use Rattle.event_journal.specs.declared.abandoned.Abandoned.{Abandoned}
-use Rattle.event_journal.specs.Merged.{joined, merged}
+use Rattle.event_journal.specs.Merged.{concat, merged}
 use Rattle.event_journal.specs.Logs.{LogValue, IsLog, AreLogs, IsJournal, RisesTo, ComesBefore, tile_of, records_of, abandoned_of, abandoned_in, is_before, records_in}
 use Rattle.event_journal.proofs.Merging.{RisesBy, AllRise, AreApart, merged_permutes, merged_rises, one_order}
 use Rattle.event_journal.proofs.WalkSteps.{before_order}
@@ -44,7 +44,7 @@ pairs_of {A = A} lt R xs so rises = order-pairs R xs (go xs rises)
     go (y ∷ ys) r = (λ z i. so y z (r.0 z i), go ys r.1)
 
 -- the lists of all logs, one after another
-pub joined-map : {L A : Type 0} (f : L → List A) (ls : List L) → joined (map f ls) ≡ flat_map f ls
+pub joined-map : {L A : Type 0} (f : L → List A) (ls : List L) → concat (map f ls) ≡ flat_map f ls
 joined-map f [] = refl
 joined-map f (l ∷ ls) = ap (λ z. f l ++ z) (joined-map f ls)
 
@@ -126,7 +126,7 @@ journal_of ls logs all =
 -- how many records a journal has
 pub length-records_in : (ls : List LogValue) → length (records_in ls) ≡ length (flat_map records_of ls)
 unfolding records_in
-length-records_in ls = length_permutation (joined (map records_of ls)) (merged is_before (map records_of ls)) (merged_permutes is_before before_order (map records_of ls)) ∙ ap length (joined-map records_of ls)
+length-records_in ls = length_permutation (concat (map records_of ls)) (merged is_before (map records_of ls)) (merged_permutes is_before before_order (map records_of ls)) ∙ ap length (joined-map records_of ls)
 
 -- a stand-in for an event that does not exist
 abbrev pub no_record : Record

@@ -8,9 +8,9 @@ use Rattle.std.proofs.lemmas.Nat.{mod-mul-add}
 use Rattle.std.proofs.lemmas.List.{append_assoc, drop_more, map-append, length-set, get_or-set_same, get_or-set_other}
 use Rattle.std.proofs.lemmas.List.Elements.{All-head, All-tail}
 use Rattle.cell_grid.specs.declared.record.Record.{Record}
-use Rattle.event_journal.specs.Keys.{AreKeys, AreOwn, IsKey, closed, lists_behind}
+use Rattle.event_journal.specs.Keys.{AreKeys, AreOwn, IsKey, end_key, lists_behind}
 use Rattle.event_journal.specs.Logs.{LogValue, IsLog, AreLogs, is_before, records_of, tile_of}
-use Rattle.event_journal.specs.Merged.{joined, least_from, merged, without}
+use Rattle.event_journal.specs.Merged.{concat, least_from, merged, without}
 use Rattle.event_journal.specs.Tournaments.{IsLeast}
 use Rattle.event_journal.proofs.Merging.{least_is, next_some, none_left}
 use Rattle.event_journal.proofs.Journals.{before_of}
@@ -39,16 +39,16 @@ logs_own ls logs all = record {
         let e : n + 1 + t ≡ n + suc t = omega arith in
         subst (λ k. All (λ (r : Record). r.tile ≡ k) (get_or (map records_of ls) t [])) e (own (n + 1) ls t rest (All-tail IsLog l ls all) (omega (arith, lt)))
 
-all_empty : (ls : List (List Record)) → ((k : ℕ) → k < length ls → get_or ls k [] ≡ []) → joined ls ≡ []
+all_empty : (ls : List (List Record)) → ((k : ℕ) → k < length ls → get_or ls k [] ≡ []) → concat ls ≡ []
 all_empty [] e = refl
 all_empty ([] ∷ ls) e = all_empty ls (λ k lt. e (suc k) (omega (arith, lt)))
 all_empty ((r ∷ rs) ∷ ls) e = absurd (cc (e 0 (omega arith)))
 
 -- where the least key is that of a list without records, no list has any
-pub nothing_left : (ls : List (List Record)) (keys : List ℕ) → AreKeys ls keys → IsLeast closed keys → merged is_before ls ≡ []
+pub nothing_left : (ls : List (List Record)) (keys : List ℕ) → AreKeys ls keys → IsLeast end_key keys → merged is_before ls ≡ []
 nothing_left ls keys are least = none_left is_before before_order ls (all_empty ls (λ k lt. let same = are.count in let le = least.none_less k (omega (arith, lt, same)) in empty k (get_or ls k []) (get_or keys k 0) (are.each k lt) le))
   where
-    empty : (k : ℕ) (xs : List Record) (key : ℕ) → IsKey k xs key → closed ≤ key → xs ≡ []
+    empty : (k : ℕ) (xs : List Record) (key : ℕ) → IsKey k xs key → end_key ≤ key → xs ≡ []
     empty k [] key is le = refl
     empty k (r ∷ rs) key is le = let low = is.1 in absurd (omega (arith, low, le))
 
@@ -89,7 +89,7 @@ lesser_before r s k j r_is s_is k_lt j_lt apart le = go (nat_lt r.stamp s.stamp)
         before_of r s (inr (same, omega (arith, less, r_is, s_is)))
 
 -- the least key that is not that of an empty list
-pub front : (ls : List (List Record)) (keys : List ℕ) (least : ℕ) → AreOwn ls → AreKeys ls keys → IsLeast least keys → least ≢ closed → IsFront ls least
+pub front : (ls : List (List Record)) (keys : List ℕ) (least : ℕ) → AreOwn ls → AreKeys ls keys → IsLeast least keys → least ≢ end_key → IsFront ls least
 front ls keys least own are is some =
     let k = is.one.0 in
     let lt : k < length ls = let a = is.one.1 in let b = are.count in omega (arith, a, b) in

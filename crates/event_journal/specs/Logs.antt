@@ -5,6 +5,7 @@ use Rattle.cell_grid.specs.declared.record.Record.{Record}
 use Rattle.cell_grid.specs.Records.{Precedes}
 use Rattle.event_journal.specs.declared.abandoned.Abandoned.{Abandoned}
 use Rattle.event_journal.specs.Merged.{merged}
+use Rattle.feast_base.specs.declared.limits.TheConstants.{MOST_ATTEMPTS, MOST_TILES}
 
 -- a tile's log: its events and its abandoned attempts
 pub record LogValue : Type 0 where
@@ -42,8 +43,8 @@ abandoned_in logs = flat_map abandoned_of logs
 -- log t is of tile t, there are at most 64 logs, and at most 1,000,000 entries in total
 pub record AreLogs (logs : List LogValue) : Type 0 where
   pub tiles : map tile_of logs ≡ range_with_len 0 (length logs)
-  pub most : length logs ≤ 64
-  pub few : length (flat_map records_of logs) + length (abandoned_in logs) ≤ 1000000
+  pub most : length logs ≤ MOST_TILES
+  pub few : length (flat_map records_of logs) + length (abandoned_in logs) ≤ MOST_ATTEMPTS
 
 -- whether an event comes before another in a journal: by stamp, and then by tile
 abbrev pub is_before : Record → Record → Bool

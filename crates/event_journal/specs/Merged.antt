@@ -30,9 +30,9 @@ merged_few lt zero ls = []
 merged_few lt (suc n) ls = found_then (least_from lt None 0 ls) (λ k. merged_few lt n (without ls k))
 
 -- all elements of some lists, list by list
-abbrev pub joined : {A : Type 0} → List (List A) → List A
-joined ls = flat_map (λ xs. xs) ls
+abbrev pub concat : {A : Type 0} → List (List A) → List A
+concat ls = flat_map (λ xs. xs) ls
 
 -- the elements of some lists: repeatedly the least of the first ones
 unfoldable pub merged : {A : Type 0} → (A → A → Bool) → List (List A) → List A
-merged lt ls = merged_few lt (length (joined ls)) ls
+merged lt ls = merged_few lt (length (concat ls)) ls

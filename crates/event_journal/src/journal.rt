@@ -2,6 +2,7 @@
 ghost use Rattle.std.specs.Prelude.{◌≡◌, ◌≤◌, ◌<◌, [], All, IfOk, length, slice_index_or};
 ghost use Rattle.event_journal.specs.Logs.{AreLogs, IsJournal, IsLog, abandoned_in, log_of, records_in};
 ghost use Rattle.event_journal.specs.Walks.{rest_of};
+ghost use Rattle.feast_base.specs.declared.limits.TheConstants.{MOST_ATTEMPTS};
 
 use crate::log::TileLog;
 use crate::walk::Walk;
@@ -69,7 +70,7 @@ impl Journal {
     /// How many records there are, at most 1,000,000.
     pub fn len(&self) -> u64
         ensures value { result ≡ length (records_in self.now) }
-        ensures bound { result ≤ 1000000 }
+        ensures bound { result ≤ MOST_ATTEMPTS }
     {
         count_records(self.logs.as_slice())
     }
@@ -77,7 +78,7 @@ impl Journal {
     /// How many attempts were given up, at most 1,000,000.
     pub fn abandoned_len(&self) -> u64
         ensures value { result ≡ length (abandoned_in self.now) }
-        ensures bound { result ≤ 1000000 }
+        ensures bound { result ≤ MOST_ATTEMPTS }
     {
         count_abandoned(self.logs.as_slice())
     }
@@ -115,7 +116,7 @@ fn all_laws(logs: &[TileLog])
 fn count_records(logs: &[TileLog]) -> u64
     requires { AreLogs logs.now }
     ensures value { result ≡ length (records_in logs.now) }
-    ensures bound { result ≤ 1000000 }
+    ensures bound { result ≤ MOST_ATTEMPTS }
 {
     let mut count = 0u64;
     for log in logs {
@@ -128,7 +129,7 @@ fn count_records(logs: &[TileLog]) -> u64
 fn count_abandoned(logs: &[TileLog]) -> u64
     requires { AreLogs logs.now }
     ensures value { result ≡ length (abandoned_in logs.now) }
-    ensures bound { result ≤ 1000000 }
+    ensures bound { result ≤ MOST_ATTEMPTS }
 {
     let mut count = 0u64;
     for log in logs {

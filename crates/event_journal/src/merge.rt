@@ -1,20 +1,21 @@
 //! What is left of the logs of a journal, and which first record comes first.
 ghost use Rattle.std.specs.Prelude.{◌≡◌, ◌≤◌, ◌<◌, ◌+◌, ◌*◌, IfOk, length, map};
-ghost use Rattle.event_journal.specs.Keys.{AreKeys, AreOwn, IsKey, closed, lists_behind, merged_behind};
+ghost use Rattle.event_journal.specs.Keys.{AreKeys, AreOwn, IsKey, end_key, lists_behind, merged_behind};
 ghost use Rattle.event_journal.specs.Logs.{is_before, records_of};
 ghost use Rattle.event_journal.specs.Merged.{merged};
 ghost use Rattle.event_journal.specs.Tournaments.{IsLeast};
 ghost use Rattle.event_journal.specs.Walks.{TakesFirst};
+ghost use Rattle.feast_base.specs.declared.limits.TheConstants.{MOST_TILES};
 
 use crate::log::TileLog;
 use crate::tournament::Tournament;
 use cell_grid::Record;
-use feast_base::NoMemory;
+use feast_base::{MOST_TILES, NoMemory};
 use std::alloc::Global;
 use std::marker::Model;
 
 /// The key of a log that has no record left. It is greater than that of any other.
-const CLOSED: u64 = 1 << 38;
+const CLOSED: u64 = (MOST_TILES as u64) << 32;
 
 /// The records that are left of each log, log t of tile t, and a tournament of the logs' keys.
 /// Contracts see the records.
@@ -68,16 +69,16 @@ fn records_of_all<'a>(alloc: Global, logs: &'a [TileLog]) -> Result<Vec<&'a [Rec
 
 /// The key of log `k` with a record left: that record's stamp, and then the log's number.
 fn open_key(k: usize, stamp: u32) -> u64
-    requires { k < 64 }
-    ensures value { result ≡ stamp * 64 + k }
-    ensures open { result < closed }
+    requires { k < MOST_TILES }
+    ensures value { result ≡ stamp * MOST_TILES + k }
+    ensures open { result < end_key }
 {
-    u64::from(stamp) * 64 + k as u64
+    u64::from(stamp) * MOST_TILES as u64 + k as u64
 }
 
 /// The key of log `k`, by which it is compared with others.
 fn key(k: usize, left: &[Record]) -> u64
-    requires { k < 64 }
+    requires { k < MOST_TILES }
     ensures { IsKey k left.now result }
 {
     match left.first() {
@@ -88,7 +89,7 @@ fn key(k: usize, left: &[Record]) -> u64
 
 /// The tournament of the keys.
 fn tournament(alloc: Global, lefts: &[&[Record]]) -> Result<Tournament, NoMemory>
-    requires { length lefts.now ≤ 64 }
+    requires { length lefts.now ≤ MOST_TILES }
     ensures { IfOk result (λ t. AreKeys (lists_behind lefts.now) t) }
 {
     let mut keys = Vec::new(alloc);
@@ -124,7 +125,7 @@ fn take_least(lefts: &mut [&[Record]], keys: &mut Tournament, least: u64) -> Opt
     if least == CLOSED {
         return None;
     }
-    let k = (least % 64) as usize;
+    let k = (least % MOST_TILES as u64) as usize;
     match lefts[k].split_first() {
         None => None,
         Some((first, rest)) => {

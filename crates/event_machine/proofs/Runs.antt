@@ -3,7 +3,7 @@ use Rattle.std.proofs.Common.{◌≡◌, ℕ, zero, suc, ◌+◌, ◌-◌, ◌*�
 use Rattle.std.specs.Prelude.{Bool, true, slice_get, min, if◌then◌else◌}
 use Rattle.datum.specs.Failures.{IsFailure}
 use Rattle.bit_field.specs.Atom.{empty_atom}
-use Rattle.window_sites.specs.Window.{WindowValue, live_at, put_at, emptied}
+use Rattle.window_sites.specs.Window.{WindowValue, live_at, put_at, without_centre}
 use Rattle.stack_code.specs.Machine.{CodeValue, FunctionValue, State, start_with, start, Led, Goes, Ends, Fails, Lacks, step, iter, count, one_more, ending, runs}
 use Rattle.stack_code.specs.Laws.{IsOver}
 use Rattle.stack_code.specs.Valid.{valid}
@@ -12,12 +12,12 @@ use Rattle.stack_code.proofs.Kept.{Kept, KeptState, iter_kept, emptied_kept}
 use Rattle.event_machine.specs.Counting.{Counted}
 use Rattle.event_machine.specs.Ticks.{Ticks}
 use Rattle.event_machine.specs.Works.{counting, Ran, FunctionsFit, window_after}
-use Rattle.event_machine.specs.Endings.{number_of, IsEnding}
+use Rattle.event_machine.specs.Endings.{ending_number, IsEnding}
 use Rattle.event_machine.specs.declared.ending.Ended.{Ended}
 use Rattle.event_machine.specs.declared.ending.Ended.TheVariants.{Done as DoneEnd, Failed}
 
-pub put_emptied : (w : WindowValue) → live_at w 0 ≡ true → put_at w 0 empty_atom ≡ emptied w
-put_emptied w live = ap (λ (b : Bool). if b then emptied w else w) live
+pub put_emptied : (w : WindowValue) → live_at w 0 ≡ true → put_at w 0 empty_atom ≡ without_centre w
+put_emptied w live = ap (λ (b : Bool). if b then without_centre w else w) live
 
 -- so many ticks, one at least, add so many to a count of 64 bits
 counted : {L : Type 0} (noted : L → L → Type 0) (k : ℕ) (n m : Counted L) → Ticks noted (suc k) n m → m.count ≡ min (n.count + suc k) (2 ^ 64 - 1)
@@ -51,7 +51,7 @@ start_window w seed None = refl
 start_window w seed (Some g) = refl
 
 module _ {L : Type 0} (noted : L → L → Type 0) (c : CodeValue) (w : WindowValue) (seed : ℕ) (s new : State) (n m : Counted L) where
-  pub over_is : (r : Ended) → s ≡ start c w seed → Ran noted c (counting s n) (counting new m) r → (runs c w seed).over ≡ Some (window_after w new r, number_of r)
+  pub over_is : (r : Ended) → s ≡ start c w seed → Ran noted c (counting s n) (counting new m) r → (runs c w seed).over ≡ Some (window_after w new r, ending_number r)
   unfolding runs
   over_is DoneEnd e h = ap (ending w) (ap (iter c (1001 * length c.instrs)) (sym e) ∙ h.0)
   over_is (Failed k) e h = ap (ending w) (ap (iter c (1001 * length c.instrs)) (sym e) ∙ h.0)

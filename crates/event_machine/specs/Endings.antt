@@ -4,9 +4,9 @@ use Rattle.event_machine.specs.declared.ending.Ended.{Ended}
 use Rattle.event_machine.specs.declared.ending.Ended.TheVariants.{Done, Failed}
 
 -- the number of an ending: None, or a failure's number
-abbrev pub number_of : Ended → Option ℕ
-number_of Done = None
-number_of (Failed n) = Some n
+abbrev pub ending_number : Ended → Option ℕ
+ending_number Done = None
+ending_number (Failed n) = Some n
 
 -- the end, or a failure that has a number from 1 to 7
 abbrev pub IsEnding : Ended → Type 0

@@ -1,7 +1,7 @@
 -- What the calls of the machine do, beside the definition of the stack machine.
 use Rattle.std.specs.Prelude.{◌≡◌, ℕ, ◌+◌, ◌*◌, ◌≤◌, ◌<◌, true, ℤ, List, [], ◌∷◌, length, Option, Some, None, slice_get}
 use Rattle.bit_field.specs.Atom.{AtomValue}
-use Rattle.window_sites.specs.Window.{WindowValue, emptied}
+use Rattle.window_sites.specs.Window.{WindowValue, without_centre}
 use Rattle.sat_math.specs.declared.NumType.{NumType}
 use Rattle.sat_math.specs.Numbers.{IsNumType}
 use Rattle.event_machine.specs.Counting.{Counted}
@@ -14,6 +14,9 @@ use Rattle.event_machine.specs.declared.ending.Leads.TheVariants.{On, Fail, Done
 use Rattle.stack_code.specs.declared.instr.Instr.{Instr}
 use Rattle.event_machine.specs.declared.ending.Ended.{Ended}
 use Rattle.event_machine.specs.declared.ending.Ended.TheVariants.{Done as DoneEnd, Failed}
+use Rattle.bit_field.specs.declared.TheConstants.{STATE_BITS}
+use Rattle.stack_code.specs.declared.limits.TheConstants.{MOST_INSTRS, MOST_OPERANDS, MOST_SLOTS}
+use Rattle.feast_base.specs.declared.limits.TheConstants.{MOST_TURNS}
 
 -- The code's answer and the new values are those of the definition: it goes on, fails with the same number, or lacks an operand.
 abbrev pub Works : Led Held → Held → Leads → Type 0
@@ -80,14 +83,14 @@ with_place m (Some n) go = go n
 pub record FieldFits (f : ℕ) (t : NumType) (n : ℕ) : Type 0 where
   pub type : IsNumType t
   pub some : 1 ≤ n
-  pub within : f + n * t.width ≤ 71
+  pub within : f + n * t.width ≤ STATE_BITS
 
 -- what the code promises of the place at which a machine stands
 pub record Ready (c : CodeValue) (s : State) : Type 0 where
-  pub room : length s.held.stack ≤ 512
+  pub room : length s.held.stack ≤ MOST_OPERANDS
   pub args : (i : Instr) → slice_get c.instrs s.place ≡ Some i → args_fit i ≡ true
-  pub functions : (f : ℕ) (g : FunctionValue) → slice_get c.functions f ≡ Some g → (g.params ≤ length g.slots) × (length g.slots ≤ 72)
-  pub place : s.place < 65536
+  pub functions : (f : ℕ) (g : FunctionValue) → slice_get c.functions f ≡ Some g → (g.params ≤ length g.slots) × (length g.slots ≤ MOST_SLOTS)
+  pub place : s.place < MOST_INSTRS
 
 -- the datum in a list, if there is one
 abbrev pub as_list : Option Datum → List Datum
@@ -96,7 +99,7 @@ as_list (Some x) = x ∷ []
 
 -- the functions of a code have no more parameters than slots, and few slots
 abbrev pub FunctionsFit : CodeValue → Type 0
-FunctionsFit c = (f : ℕ) (g : FunctionValue) → slice_get c.functions f ≡ Some g → (g.params ≤ length g.slots) × (length g.slots ≤ 72)
+FunctionsFit c = (f : ℕ) (g : FunctionValue) → slice_get c.functions f ≡ Some g → (g.params ≤ length g.slots) × (length g.slots ≤ MOST_SLOTS)
 
 -- a machine, and the steps that were counted so far
 pub record Counting (L : Type 0) : Type 0 where
@@ -113,7 +116,7 @@ EndsSo l new (Failed k) = l ≡ Fails k
 
 -- a run of the code is over: it ended so, and each of its steps was counted, and noted once
 abbrev pub Ran : {L : Type 0} → (L → L → Type 0) → CodeValue → Counting L → Counting L → Ended → Type 0
-Ran noted c old new r = EndsSo (iter c (1001 * length c.instrs) old.machine) new.machine r × Ticks noted (count c (1001 * length c.instrs) old.machine) old.steps new.steps
+Ran noted c old new r = EndsSo (iter c ((MOST_TURNS + 1) * length c.instrs) old.machine) new.machine r × Ticks noted (count c ((MOST_TURNS + 1) * length c.instrs) old.machine) old.steps new.steps
 
 -- a machine at the start of valid code
 pub record Started (c : CodeValue) (s : State) : Type 0 where
@@ -125,4 +128,4 @@ pub record Started (c : CodeValue) (s : State) : Type 0 where
 -- the window after an event that began with this one
 abbrev pub window_after : WindowValue → State → Ended → WindowValue
 window_after w s DoneEnd = s.held.window
-window_after w s (Failed k) = emptied w
+window_after w s (Failed k) = without_centre w

@@ -6,6 +6,7 @@ ghost use Rattle.stack_code.specs.Machine.{Held, State, on_test, Led, on_number,
 ghost use Rattle.datum.specs.declared.Datum.{Datum};
 ghost use Rattle.datum.specs.declared.Datum.TheVariants.{Number as ANumber, Atom as AnAtom};
 ghost use Rattle.event_machine.specs.Works.{with_any, with_one, with_lead, with_two, with_atom};
+ghost use Rattle.stack_code.specs.declared.limits.TheConstants.{MOST_OPERANDS};
 
 use crate::operands::OperandStack;
 use bit_field::Atom;
@@ -27,19 +28,20 @@ pub struct Activation {
 impl Model for Activation {
     ghost use Rattle.std.specs.Prelude.{◌≤◌, vec_capacity};
     ghost use Rattle.stack_code.specs.Machine.{Held};
+    ghost use Rattle.stack_code.specs.declared.limits.TheConstants.{MOST_SLOTS};
 
     ghost Value = { Held };
 
     ghost view = { λ a. record { stack = a.operands; slots = a.slots.items; window = a.window; words = a.draws } };
 
-    ghost invariant = { λ a. 72 ≤ vec_capacity a.slots };
+    ghost invariant = { λ a. MOST_SLOTS ≤ vec_capacity a.slots };
 }
 
 impl Activation {
     /// Pushes an operand.
     #[inline(always)]
     pub fn push(&mut self, x: Datum)
-        requires { length self.old.stack < 513 }
+        requires { length self.old.stack < MOST_OPERANDS + 1 }
         ensures { self.new ≡ record self.old { stack = x ∷ self.old.stack } }
     {
         self.operands.push(x);

@@ -5,6 +5,7 @@ ghost use Rattle.stack_code.specs.Machine.{work};
 ghost use Rattle.stack_code.specs.Sorts.{sort};
 ghost use Rattle.stack_code.specs.Valid.{args_fit};
 ghost use Rattle.event_machine.specs.Works.{Works};
+ghost use Rattle.stack_code.specs.declared.limits.TheConstants.{MOST_OPERANDS};
 
 use crate::activation::Activation;
 use crate::ending::Leads;
@@ -21,7 +22,7 @@ use stack_code::{BinaryOp, Instr, UnaryOp};
 #[tactic(auto, using(crate::proofs::Fits::field_is, crate::proofs::Fits::number_is))]
 pub fn plain(running: &mut Activation, kind: u16, i: &Instr) -> Leads
     requires fits { IsTrue (args_fit i.now) }
-    requires room { length running.old.stack ≤ 512 }
+    requires room { length running.old.stack ≤ MOST_OPERANDS }
     ensures { Works (work kind (sort i.now) running.old) running.new result }
 {
     match *i {

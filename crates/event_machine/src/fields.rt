@@ -2,8 +2,9 @@
 
 ghost use Rattle.std.specs.Prelude.{◌≡◌, ◌<◌, ◌≤◌, ◌+◌, ◌*◌, ℕ, length};
 ghost use Rattle.stack_code.specs.Sorts.{Field, SetField, Part, SetPart, FieldAt, SetFieldAt, PartAt, SetPartAt, num_type};
-ghost use Rattle.stack_code.specs.Machine.{work, with_part, kept};
+ghost use Rattle.stack_code.specs.Machine.{work, with_part, kept_bits};
 ghost use Rattle.event_machine.specs.Works.{Works, FieldFits};
+ghost use Rattle.stack_code.specs.declared.limits.TheConstants.{MOST_OPERANDS};
 
 use crate::activation::Activation;
 use crate::ending::Leads;
@@ -16,7 +17,7 @@ use sat_math::{Kind, NumType};
 #[inline(always)]
 pub fn load_field(running: &mut Activation, kind: u16, first: u8, width: u8, of: Kind) -> Leads
     requires fits { FieldFits first (num_type of width) 1 }
-    requires room { length running.old.stack ≤ 512 }
+    requires room { length running.old.stack ≤ MOST_OPERANDS }
     ensures { Works (work kind (Field first (num_type of width)) running.old) running.new result }
 {
     let of = NumType { kind: of, width };
@@ -52,7 +53,7 @@ pub fn store_field(running: &mut Activation, kind: u16, first: u8, width: u8, of
 #[inline(always)]
 pub fn load_part(running: &mut Activation, s: u8, first: u8, width: u8, of: Kind) -> Leads
     requires fits { FieldFits first (num_type of width) 1 }
-    requires room { length running.old.stack ≤ 512 }
+    requires room { length running.old.stack ≤ MOST_OPERANDS }
     ensures { (kind : ℕ) → Works (work kind (Part s first (num_type of width)) running.old) running.new result }
 {
     let of = NumType { kind: of, width };
@@ -69,7 +70,7 @@ pub fn load_part(running: &mut Activation, s: u8, first: u8, width: u8, of: Kind
 #[inline(always)]
 fn with_part(atom: Atom, first: u8, of: NumType, v: Number) -> Atom
     requires { FieldFits first of 1 }
-    ensures { result ≡ with_part atom first of.width (kept of v) }
+    ensures { result ≡ with_part atom first of.width (kept_bits of v) }
 {
     if atom.kind() == 0 {
         atom
@@ -120,7 +121,7 @@ pub fn load_field_at(
     n: u8,
 ) -> Leads
     requires fits { FieldFits first (num_type of width) n }
-    requires room { length running.old.stack ≤ 512 }
+    requires room { length running.old.stack ≤ MOST_OPERANDS }
     ensures { Works (work kind (FieldAt first (num_type of width) n) running.old) running.new result }
 {
     let of = NumType { kind: of, width };
@@ -175,7 +176,7 @@ pub fn store_field_at(
 #[inline(always)]
 pub fn load_part_at(running: &mut Activation, s: u8, first: u8, width: u8, of: Kind, n: u8) -> Leads
     requires fits { FieldFits first (num_type of width) n }
-    requires room { length running.old.stack ≤ 512 }
+    requires room { length running.old.stack ≤ MOST_OPERANDS }
     ensures { (kind : ℕ) → Works (work kind (PartAt s first (num_type of width) n) running.old) running.new result }
 {
     let of = NumType { kind: of, width };

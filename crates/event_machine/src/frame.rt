@@ -2,6 +2,7 @@
 
 ghost use Rattle.std.specs.Prelude.{◌≡◌, ◌≤◌, ◌+◌, ◌++◌, [], length, map, vec_len, vec_capacity};
 ghost use Rattle.stack_code.specs.Machine.{callee_held, caller_frame, fill, first_held};
+ghost use Rattle.stack_code.specs.declared.limits.TheConstants.{MOST_OPERANDS, MOST_SLOTS};
 
 use crate::activation::Activation;
 use crate::operands::{OperandStack, reserve};
@@ -9,14 +10,11 @@ use bit_field::Atom;
 use datum::{Datum, Number};
 use draw_stream::EventDraws;
 use feast_base::NoMemory;
-use stack_code::{Operand, RawFunction};
+use stack_code::{MOST_SLOTS, Operand, RawFunction};
 use std::alloc::Global;
 use std::marker::Model;
 use std::mem;
 use window_sites::Window;
-
-/// The most slots of a function.
-pub const MOST_SLOTS: usize = 72;
 
 /// The frame of a function that waits for the one it called: where it continues, its operands and
 /// its slots.
@@ -30,12 +28,13 @@ pub struct Frame {
 impl Model for Frame {
     ghost use Rattle.std.specs.Prelude.{◌≤◌, length, vec_capacity};
     ghost use Rattle.stack_code.specs.Machine.{Frame as FrameValue};
+    ghost use Rattle.stack_code.specs.declared.limits.TheConstants.{MOST_OPERANDS, MOST_SLOTS};
 
     ghost Value = { FrameValue };
 
     ghost view = { λ f. record { place = f.place; stack = f.operands; slots = f.slots.items } };
 
-    ghost invariant = { λ f. (length f.operands ≤ 512) × (72 ≤ vec_capacity f.slots) };
+    ghost invariant = { λ f. (length f.operands ≤ MOST_OPERANDS) × (MOST_SLOTS ≤ vec_capacity f.slots) };
 }
 
 impl Frame {
@@ -52,7 +51,7 @@ impl Frame {
 }
 
 /// The first value of a slot of this kind: 0 or the empty atom.
-fn filled(kind: Operand) -> Datum
+fn first_value(kind: Operand) -> Datum
     ensures { result ≡ fill kind }
 {
     match kind {
@@ -68,7 +67,7 @@ fn fill(slots: &mut Vec<Datum>, kinds: &[Operand])
     ensures room { vec_capacity slots.new ≡ vec_capacity slots.old }
 {
     for kind in kinds {
-        slots.push_reserved(filled(*kind));
+        slots.push_reserved(first_value(*kind));
     }
 }
 
@@ -79,8 +78,8 @@ impl Activation {
     pub fn pass(&mut self, function: &RawFunction, frame: &mut Frame, place: usize)
         requires args { function.now.params ≤ length self.old.stack }
         requires slots { function.now.params ≤ length function.now.slots }
-        requires few { length function.now.slots ≤ 72 }
-        requires room { length self.old.stack ≤ 512 }
+        requires few { length function.now.slots ≤ MOST_SLOTS }
+        requires room { length self.old.stack ≤ MOST_OPERANDS }
         ensures begun { self.new ≡ callee_held function.now self.old }
         ensures waits { frame.new ≡ caller_frame function.now place self.old }
     {
@@ -96,9 +95,9 @@ impl Activation {
 
     /// Continues the function that waits in the frame.
     pub fn resume(&mut self, frame: &mut Frame)
-        requires { length self.old.stack ≤ 512 }
+        requires { length self.old.stack ≤ MOST_OPERANDS }
         ensures back { self.new ≡ record self.old { stack = frame.old.stack; slots = frame.old.slots } }
-        ensures room { length self.new.stack ≤ 512 }
+        ensures room { length self.new.stack ≤ MOST_OPERANDS }
     {
         mem::swap(&mut self.operands, &mut frame.operands);
         mem::swap(&mut self.slots, &mut frame.slots);
@@ -106,7 +105,7 @@ impl Activation {
 
     /// Begins an event with slots of these kinds.
     pub fn begin(&mut self, slots: &[Operand], window: &Window, seed: u64)
-        requires { length slots.now ≤ 72 }
+        requires { length slots.now ≤ MOST_SLOTS }
         ensures { self.new ≡ first_held slots.now window.now seed }
     {
         self.operands.clear();

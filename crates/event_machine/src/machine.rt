@@ -6,29 +6,30 @@ ghost use Rattle.stack_code.specs.Machine.{CodeValue, step, go_by, back, enter, 
 ghost use Rattle.stack_code.specs.Sorts.{sort, GotoFalse, Take};
 ghost use Rattle.stack_code.specs.Valid.{args_fit};
 ghost use Rattle.event_machine.specs.Works.{StepsTo, Ready, FunctionsFit, as_list, Started, counting, Ran, window_after};
-ghost use Rattle.event_machine.specs.Endings.{number_of, IsEnding};
+ghost use Rattle.event_machine.specs.Endings.{ending_number, IsEnding};
 ghost use Rattle.event_machine.specs.Ticks.{Ticks};
+ghost use Rattle.bit_field.specs.declared.TheConstants.{STATE_BITS};
+ghost use Rattle.stack_code.specs.declared.limits.TheConstants.{MOST_OPERANDS, MOST_SLOTS};
+ghost use Rattle.event_machine.specs.declared.machine.TheConstants.{MOST_WAITING};
+ghost use Rattle.feast_base.specs.declared.limits.TheConstants.{MOST_TURNS};
 
 use crate::activation::Activation;
 use crate::dispatch::plain;
 use crate::ending::{Ended, Leads};
-use crate::frame::{Frame, MOST_SLOTS, recover};
+use crate::frame::{Frame, recover};
 use crate::operands::{OperandStack, reserve};
 use crate::steps::{Ledger, Steps};
 use bit_field::Atom;
 use datum::Datum;
 use draw_stream::EventDraws;
-use feast_base::NoMemory;
-use stack_code::{Code, Instr, RawFunction};
+use feast_base::{MOST_CALLS, MOST_TURNS, NoMemory};
+use stack_code::{Code, Instr, MOST_SLOTS, RawFunction};
 use std::alloc::Global;
 use std::marker::Model;
 use window_sites::Window;
 
 /// The most functions that can wait.
-const MOST_WAITING: usize = 16;
-
-/// The number of turns of an event.
-const TURNS: u32 = 1000;
+pub const MOST_WAITING: usize = MOST_CALLS;
 
 /// A machine that runs the code of one event after another, in memory that it allocated once.
 #[derive(Drop)]
@@ -43,18 +44,19 @@ pub struct Machine {
 impl Model for Machine {
     ghost use Rattle.std.specs.Prelude.{◌≡◌, ◌+◌, ◌≤◌, reverse, vec_len, vec_capacity};
     ghost use Rattle.stack_code.specs.Machine.{State};
+    ghost use Rattle.event_machine.specs.declared.machine.TheConstants.{MOST_WAITING};
 
     ghost Value = { State };
 
     ghost view = { λ m. record { place = m.place; held = m.running; below = reverse m.waiting.items; turns = m.turns } };
 
-    ghost invariant = { λ m. (vec_len m.waiting + vec_len m.spare ≡ 16) × (16 ≤ vec_capacity m.waiting) × (16 ≤ vec_capacity m.spare) };
+    ghost invariant = { λ m. (vec_len m.waiting + vec_len m.spare ≡ MOST_WAITING) × (MOST_WAITING ≤ vec_capacity m.waiting) × (MOST_WAITING ≤ vec_capacity m.spare) };
 }
 
 /// Memory for a list of frames.
 fn reserve_frames(alloc: Global) -> Result<Vec<Frame>, NoMemory>
     ensures len { IfOk result (λ v. vec_len v ≡ 0) }
-    ensures room { IfOk result (λ v. vec_capacity v ≡ 16) }
+    ensures room { IfOk result (λ v. vec_capacity v ≡ MOST_WAITING) }
 {
     match Vec::with_capacity(alloc, MOST_WAITING) {
         Ok(room) => Ok(room),
@@ -64,8 +66,8 @@ fn reserve_frames(alloc: Global) -> Result<Vec<Frame>, NoMemory>
 
 /// Frames for all functions that can wait.
 fn frames(alloc: Global) -> Result<Vec<Frame>, NoMemory>
-    ensures len { IfOk result (λ v. vec_len v ≡ 16) }
-    ensures room { IfOk result (λ v. vec_capacity v ≡ 16) }
+    ensures len { IfOk result (λ v. vec_len v ≡ MOST_WAITING) }
+    ensures room { IfOk result (λ v. vec_capacity v ≡ MOST_WAITING) }
 {
     let mut spare = reserve_frames(alloc)?;
     while spare.len() < MOST_WAITING {
@@ -100,8 +102,8 @@ impl Machine {
     /// Calls a function.
     fn call(&mut self, function: &RawFunction) -> Leads
         requires slots { function.now.params ≤ length function.now.slots }
-        requires few { length function.now.slots ≤ 72 }
-        requires room { length self.old.held.stack ≤ 512 }
+        requires few { length function.now.slots ≤ MOST_SLOTS }
+        requires room { length self.old.held.stack ≤ MOST_OPERANDS }
         requires place { self.old.place + 1 < 2 ^ 64 }
         ensures { StepsTo (enter self.old (Some function.now)) self.new result }
     {
@@ -125,7 +127,7 @@ impl Machine {
 
     /// Returns from a function, with its result.
     fn back(&mut self, given: Option<Datum>) -> Leads
-        requires { length self.old.held.stack ≤ 512 }
+        requires { length self.old.held.stack ≤ MOST_OPERANDS }
         ensures { StepsTo (back self.old (as_list given) self.old.below) self.new result }
     {
         match self.waiting.pop() {
@@ -179,7 +181,7 @@ impl Machine {
     #[inline(always)]
     fn onward(&mut self, kind: u16, i: &Instr) -> Leads
         requires fits { IsTrue (args_fit i.now) }
-        requires room { length self.old.held.stack ≤ 512 }
+        requires room { length self.old.held.stack ≤ MOST_OPERANDS }
         requires place { self.old.place + 1 < 2 ^ 64 }
         ensures { StepsTo (onward self.old (work kind (sort i.now) self.old.held)) self.new result }
     {
@@ -196,7 +198,7 @@ impl Machine {
     #[inline(always)]
     fn perform(&mut self, code: &Code, i: &Instr) -> Leads
         requires fits { IsTrue (args_fit i.now) }
-        requires room { length self.old.held.stack ≤ 512 }
+        requires room { length self.old.held.stack ≤ MOST_OPERANDS }
         requires place { self.old.place + 1 < 2 ^ 64 }
         requires functions { FunctionsFit code.now }
         ensures { StepsTo (go_by code.now (sort i.now) self.old) self.new result }
@@ -242,7 +244,7 @@ impl Machine {
     {
         recover(&mut self.waiting, &mut self.spare);
         self.place = 0;
-        self.turns = TURNS;
+        self.turns = MOST_TURNS;
         match code.functions().get(0) {
             Some(function) => self.running.begin(function.slots(), window, seed),
             None => self.running.begin(&[], window, seed),
@@ -292,14 +294,14 @@ impl Machine {
         seed: u64,
         steps: &mut Steps<L>,
     ) -> Ended
-        ensures over { (runs code.now window.old seed).over ≡ Some (window.new, number_of result) }
+        ensures over { (runs code.now window.old seed).over ≡ Some (window.new, ending_number result) }
         ensures ending { IsEnding result }
         ensures ticks { Ticks L.noted (runs code.now window.old seed).count steps.old steps.new }
         ensures count { steps.new.count ≡ min (steps.old.count + (runs code.now window.old seed).count) (2 ^ 64 - 1) }
-        ensures most { (runs code.now window.old seed).count ≤ 1001 * length code.now.instrs }
+        ensures most { (runs code.now window.old seed).count ≤ (MOST_TURNS + 1) * length code.now.instrs }
         ensures live { window.new.live ≡ window.old.live }
         ensures dead { (n : ℕ) → live_at window.old n ≡ false → atom_at window.new n ≡ atom_at window.old n }
-        ensures states { (n : ℕ) → (atom_at window.new n).state < 2 ^ 71 }
+        ensures states { (n : ℕ) → (atom_at window.new n).state < 2 ^ STATE_BITS }
     {
         code.laws();
         window.laws();

@@ -7,8 +7,8 @@ ghost use Rattle.sat_math.specs.declared.Kind.TheVariants.{Bits};
 ghost use Rattle.sat_math.specs.Numbers.{modulo, IsNumber};
 ghost use Rattle.bit_field.specs.Words.{with_field};
 ghost use Rattle.bit_field.specs.Atom.{AtomValue};
-ghost use Rattle.stack_code.specs.Sorts.{divided, flip, num_type};
-ghost use Rattle.stack_code.specs.Machine.{Led, Held, at_site, at_index, at_bound, kept};
+ghost use Rattle.stack_code.specs.Sorts.{divide, flip, num_type};
+ghost use Rattle.stack_code.specs.Machine.{Led, Held, at_site, at_index, at_bound, kept_bits};
 ghost use Rattle.stack_code.specs.Valid.{type_fits};
 ghost use Rattle.stack_code.specs.Shapes.{binary_of, BinaryFits, unary_of, UnaryFits};
 ghost use Rattle.event_machine.specs.Works.{FieldFits, with_place};
@@ -49,7 +49,7 @@ pub fn of_bool(b: bool) -> Number
 fn quotient(how: Arith, a: i128, b: i128) -> Option<Number>
     requires left { IsNumber a }
     requires right { IsNumber b }
-    ensures { result ≡ divided how int_div a b }
+    ensures { result ≡ divide how int_div a b }
 {
     match sat_math::div(how, a, b) {
         Ok(v) => Some(Number::new(v)),
@@ -63,7 +63,7 @@ fn quotient(how: Arith, a: i128, b: i128) -> Option<Number>
 fn remainder(how: Arith, a: i128, b: i128) -> Option<Number>
     requires left { IsNumber a }
     requires right { IsNumber b }
-    ensures { result ≡ divided how int_rem a b }
+    ensures { result ≡ divide how int_rem a b }
 {
     match sat_math::rem(how, a, b) {
         Ok(v) => Some(Number::new(v)),
@@ -131,7 +131,7 @@ pub fn apply_one(op: UnaryOp, a: Number) -> Number
     let x = a.value();
     match op {
         UnaryOp::Neg(how) => Number::new(sat_math::neg(how, x)),
-        UnaryOp::Flip(width) => flipped(width, x),
+        UnaryOp::Flip(width) => flip(width, x),
         UnaryOp::Fit(to) => Number::new(sat_math::cast(to, x)),
         UnaryOp::Not => of_bool(x == 0),
     }
@@ -140,7 +140,7 @@ pub fn apply_one(op: UnaryOp, a: Number) -> Number
 /// The low `width` bits of the complement.
 #[inline(always)]
 #[tactic(auto, using(crate::proofs::Fits::type_is))]
-fn flipped(width: u8, a: i128) -> Number
+fn flip(width: u8, a: i128) -> Number
     requires { IsTrue (type_fits (num_type Bits width)) }
     ensures { result ≡ flip width a }
 {
@@ -197,7 +197,7 @@ pub fn read_field(atom: &Atom, first: u8, of: NumType) -> Number
 #[tactic(auto, using(crate::proofs::Fits::field_is))]
 pub fn write_field(atom: Atom, first: u8, of: NumType, v: Number) -> Atom
     requires { FieldFits first of 1 }
-    ensures { result ≡ with_field atom first of.width (kept of v) }
+    ensures { result ≡ with_field atom first of.width (kept_bits of v) }
 {
     let mut changed = atom;
     changed.set(

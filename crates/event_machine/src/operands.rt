@@ -1,14 +1,16 @@
 //! The operand stack of a function.
 
 ghost use Rattle.std.specs.Prelude.{◌≡◌, ◌<◌, ◌≤◌, ◌+◌, [], ◌∷◌, ◌++◌, length, IfOk, MatchOption, take, drop, reverse, vec_len, vec_capacity};
+ghost use Rattle.stack_code.specs.declared.limits.TheConstants.{MOST_OPERANDS};
 
 use datum::Datum;
 use feast_base::NoMemory;
+use stack_code::MOST_OPERANDS;
 use std::alloc::Global;
 use std::marker::Model;
 
 /// The most operands at a place, and one more that the instruction there may push.
-const MOST_OPERANDS: usize = 513;
+const CAPACITY: usize = MOST_OPERANDS as usize + 1;
 
 /// Memory for this many operands or slots. `NoMemory` if it is not available.
 pub fn reserve(alloc: Global, count: usize) -> Result<Vec<Datum>, NoMemory>
@@ -39,14 +41,15 @@ pub struct OperandStack {
 }
 
 impl Model for OperandStack {
-    ghost use Rattle.std.specs.Prelude.{◌≤◌, List, reverse, vec_len, vec_capacity};
+    ghost use Rattle.std.specs.Prelude.{◌+◌, ◌≤◌, List, reverse, vec_len, vec_capacity};
     ghost use Rattle.datum.specs.declared.Datum.{Datum};
+    ghost use Rattle.stack_code.specs.declared.limits.TheConstants.{MOST_OPERANDS};
 
     ghost Value = { List Datum };
 
     ghost view = { λ p. reverse p.items.items };
 
-    ghost invariant = { λ p. (vec_len p.items ≤ 513) × (513 ≤ vec_capacity p.items) };
+    ghost invariant = { λ p. (vec_len p.items ≤ MOST_OPERANDS + 1) × (MOST_OPERANDS + 1 ≤ vec_capacity p.items) };
 }
 
 impl OperandStack {
@@ -55,14 +58,14 @@ impl OperandStack {
     pub fn new(alloc: Global) -> Result<OperandStack, NoMemory>
         ensures { IfOk result (λ p. p ≡ []) }
     {
-        let items = reserve(alloc, MOST_OPERANDS)?;
+        let items = reserve(alloc, CAPACITY)?;
         Ok(OperandStack { items })
     }
 
     /// Pushes an operand.
     #[inline(always)]
     pub fn push(&mut self, x: Datum)
-        requires { length self.old < 513 }
+        requires { length self.old < MOST_OPERANDS + 1 }
         ensures { self.new ≡ x ∷ self.old }
     {
         self.items.push_reserved(x);

@@ -9,6 +9,7 @@ ghost use Rattle.stack_code.specs.Machine.{work};
 ghost use Rattle.stack_code.specs.Valid.{type_fits};
 ghost use Rattle.stack_code.specs.Shapes.{binary_of, BinaryFits, unary_of, UnaryFits};
 ghost use Rattle.event_machine.specs.Works.{Works};
+ghost use Rattle.stack_code.specs.declared.limits.TheConstants.{MOST_OPERANDS};
 
 use crate::activation::Activation;
 use crate::ending::Leads;
@@ -20,7 +21,7 @@ use stack_code::{BinaryOp, UnaryOp};
 /// Pushes a datum.
 #[inline(always)]
 pub fn give(running: &mut Activation, x: Datum) -> Leads
-    requires { length running.old.stack ≤ 512 }
+    requires { length running.old.stack ≤ MOST_OPERANDS }
     ensures { (kind : ℕ) → Works (work kind (Give x) running.old) running.new result }
 {
     running.push(x);
@@ -31,7 +32,7 @@ pub fn give(running: &mut Activation, x: Datum) -> Leads
 #[inline(always)]
 pub fn one(running: &mut Activation, op: UnaryOp) -> Leads
     requires fits { UnaryFits op }
-    requires room { length running.old.stack ≤ 512 }
+    requires room { length running.old.stack ≤ MOST_OPERANDS }
     ensures { (kind : ℕ) → Works (work kind (One (unary_of op)) running.old) running.new result }
 {
     match running.number() {
@@ -47,7 +48,7 @@ pub fn one(running: &mut Activation, op: UnaryOp) -> Leads
 #[inline(always)]
 pub fn fit(running: &mut Activation, of: Kind, width: u8) -> Leads
     requires fits { IsTrue (type_fits (num_type of width)) }
-    requires room { length running.old.stack ≤ 512 }
+    requires room { length running.old.stack ≤ MOST_OPERANDS }
     ensures { (kind : ℕ) → Works (work kind (One (cast (num_type of width))) running.old) running.new result }
 {
     one(running, UnaryOp::Fit(NumType { kind: of, width }))
@@ -57,7 +58,7 @@ pub fn fit(running: &mut Activation, of: Kind, width: u8) -> Leads
 #[inline(always)]
 pub fn two(running: &mut Activation, op: BinaryOp) -> Leads
     requires fits { BinaryFits op }
-    requires room { length running.old.stack ≤ 512 }
+    requires room { length running.old.stack ≤ MOST_OPERANDS }
     ensures { (kind : ℕ) → Works (work kind (Two (binary_of op)) running.old) running.new result }
 {
     match running.two() {
@@ -75,7 +76,7 @@ pub fn two(running: &mut Activation, op: BinaryOp) -> Leads
 /// Pushes the value of a slot.
 #[inline(always)]
 pub fn load(running: &mut Activation, s: u8) -> Leads
-    requires { length running.old.stack ≤ 512 }
+    requires { length running.old.stack ≤ MOST_OPERANDS }
     ensures { (kind : ℕ) → Works (work kind (Load s) running.old) running.new result }
 {
     match running.slot(s) {
@@ -135,7 +136,7 @@ pub fn drop_top(running: &mut Activation) -> Leads
 /// Pushes the atom at the centre. Failure 6.
 #[inline(always)]
 pub fn own(running: &mut Activation, kind: u16) -> Leads
-    requires { length running.old.stack ≤ 512 }
+    requires { length running.old.stack ≤ MOST_OPERANDS }
     ensures { Works (work kind Own running.old) running.new result }
 {
     match running.own(kind) {
@@ -150,7 +151,7 @@ pub fn own(running: &mut Activation, kind: u16) -> Leads
 /// Pops a site and pushes its atom. Failure 4.
 #[inline(always)]
 pub fn load_site(running: &mut Activation) -> Leads
-    requires { length running.old.stack ≤ 512 }
+    requires { length running.old.stack ≤ MOST_OPERANDS }
     ensures { (kind : ℕ) → Works (work kind Site running.old) running.new result }
 {
     match running.number() {
@@ -189,7 +190,7 @@ pub fn store_site(running: &mut Activation) -> Leads
 /// Pops a site and pushes whether it is live. Failure 4.
 #[inline(always)]
 pub fn is_live(running: &mut Activation) -> Leads
-    requires { length running.old.stack ≤ 512 }
+    requires { length running.old.stack ≤ MOST_OPERANDS }
     ensures { (kind : ℕ) → Works (work kind (Ask live_at) running.old) running.new result }
 {
     match running.number() {
@@ -208,7 +209,7 @@ pub fn is_live(running: &mut Activation) -> Leads
 /// Pops a site and pushes whether its atom is of type 0. Failure 4.
 #[inline(always)]
 pub fn is_empty(running: &mut Activation) -> Leads
-    requires { length running.old.stack ≤ 512 }
+    requires { length running.old.stack ≤ MOST_OPERANDS }
     ensures { (kind : ℕ) → Works (work kind (Ask is_empty_at) running.old) running.new result }
 {
     match running.number() {
@@ -227,7 +228,7 @@ pub fn is_empty(running: &mut Activation) -> Leads
 /// Pops a bound and pushes the next random word modulo it. Failure 5.
 #[inline(always)]
 pub fn create(running: &mut Activation) -> Leads
-    requires { length running.old.stack ≤ 512 }
+    requires { length running.old.stack ≤ MOST_OPERANDS }
     ensures { (kind : ℕ) → Works (work kind (Draw pos) running.old) running.new result }
 {
     match running.number() {
@@ -246,7 +247,7 @@ pub fn create(running: &mut Activation) -> Leads
 /// Pops a bound and pushes whether the next random word modulo it is 0. Failure 5.
 #[inline(always)]
 pub fn one_in(running: &mut Activation) -> Leads
-    requires { length running.old.stack ≤ 512 }
+    requires { length running.old.stack ≤ MOST_OPERANDS }
     ensures { (kind : ℕ) → Works (work kind (Draw one_in) running.old) running.new result }
 {
     match running.number() {
@@ -265,7 +266,7 @@ pub fn one_in(running: &mut Activation) -> Leads
 /// Pops an atom and pushes whether it is of a type.
 #[inline(always)]
 pub fn same(running: &mut Activation, k: u16) -> Leads
-    requires { length running.old.stack ≤ 512 }
+    requires { length running.old.stack ≤ MOST_OPERANDS }
     ensures { (kind : ℕ) → Works (work kind (Same k) running.old) running.new result }
 {
     match running.atom() {
@@ -280,7 +281,7 @@ pub fn same(running: &mut Activation, k: u16) -> Leads
 /// Pops a number and pushes it twice.
 #[inline(always)]
 pub fn double(running: &mut Activation) -> Leads
-    requires { length running.old.stack ≤ 512 }
+    requires { length running.old.stack ≤ MOST_OPERANDS }
     ensures { (kind : ℕ) → Works (work kind Double running.old) running.new result }
 {
     match running.number() {

@@ -1,6 +1,6 @@
 -- What holds of the fault by which a step ends, if it ends by one.
 use Rattle.std.proofs.Common.{◌≡◌, refl, Bool, true, false, Option, Some, None, Ok, Err}
-use Rattle.ulam_tree.specs.Found.{Found, ◌>>=◌, found, must, fault_of}
+use Rattle.ulam_tree.specs.Found.{Found, ◌>>=◌, value_or_fault, must, fault_of}
 
 -- if the step ends by a fault, this holds of the fault
 abbrev pub Fails : {F A : Type 0} → (F → Type 0) → Found F A → Type 0
@@ -24,11 +24,11 @@ pub fails_must_then : {F B : Type 0} (Q : F → Type 0) (b : Bool) (e : F) (f : 
 fails_must_then Q true e f h k = k refl
 fails_must_then Q false e f h k = h refl
 
-pub fails_found : {F A : Type 0} (Q : F → Type 0) (o : Option A) (e : F) → (o ≡ None → Q e) → Fails Q (found o e)
+pub fails_found : {F A : Type 0} (Q : F → Type 0) (o : Option A) (e : F) → (o ≡ None → Q e) → Fails Q (value_or_fault o e)
 fails_found Q (Some a) e h = tt
 fails_found Q None e h = h refl
 
-pub fails_found_then : {F A B : Type 0} (Q : F → Type 0) (o : Option A) (e : F) (f : A → Found F B) → (o ≡ None → Q e) → ((a : A) → o ≡ Some a → Fails Q (f a)) → Fails Q (found o e >>= f)
+pub fails_found_then : {F A B : Type 0} (Q : F → Type 0) (o : Option A) (e : F) (f : A → Found F B) → (o ≡ None → Q e) → ((a : A) → o ≡ Some a → Fails Q (f a)) → Fails Q (value_or_fault o e >>= f)
 fails_found_then Q (Some a) e f h k = k a refl
 fails_found_then Q None e f h k = h refl
 

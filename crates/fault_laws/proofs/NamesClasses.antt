@@ -7,7 +7,8 @@ use Rattle.list_laws.proofs.Members.{In, in_contains}
 use Rattle.ulam_tree.specs.Found.{Found, ◌>>=◌, must}
 use Rattle.ulam_tree.specs.Raw.{Member, Class, Item, ulam, uses, class}
 use Rattle.ulam_names.specs.Faults.{Fault, unknown_name, declared_twice, too_many}
-use Rattle.ulam_names.specs.Scopes.{Text, Names, no_names, names_of, is_among, built_in, most_classes}
+use Rattle.ulam_names.specs.Scopes.{Text, Names, no_names, names_of, is_among, built_in}
+use Rattle.ulam_names.specs.declared.limits.TheConstants.{MOST_CLASSES}
 use Rattle.ulam_names.specs.Classes as w
 use Rattle.ulam_names.specs.Classes.{Known, Half}
 use Rattle.ulam_names.specs.ClassRelation.{AreKnown}
@@ -26,7 +27,7 @@ must_on false e g a h = absurd cc
 
 new_class_is : (done : Known) (c : Class) (more : Known) → w.new_class done c ≡ Ok more → more ≡ done ++ as_known c ∷ []
 new_class_is done c more h =
-    let first = must_on (nat_lt (length done) most_classes) _ _ more h in
+    let first = must_on (nat_lt (length done) MOST_CLASSES) _ _ more h in
     let second : Ok (done ++ as_known c ∷ []) ≡ Ok more = must_on (not (is_among c.word.name (names_of done) || w.is_built_in c.word.name)) _ _ more first in
     cc
 
@@ -48,7 +49,7 @@ module _ (items : List Item) where
 
     new_class_fails : (done : Known) → names_of done ≡ class_names (classes_of gone) → Fails Q (w.new_class done c)
     new_class_fails done same =
-        fails_must_then Q (nat_lt (length done) most_classes) (too_many c.word.place) _ (λ over. f.classes at refl (many (ltb-false (length done) 256 over))) (λ _.
+        fails_must_then Q (nat_lt (length done) MOST_CLASSES) (too_many c.word.place) _ (λ over. f.classes at refl (many (ltb-false (length done) 256 over))) (λ _.
         fails_must_then Q (not (is_among c.word.name (names_of done) || w.is_built_in c.word.name)) (declared_twice c.word.place) _
         (λ old. f.class_again at refl (go (is_among c.word.name (names_of done)) refl (not-false _ old))) (λ _. tt))
       where

@@ -13,7 +13,7 @@ use Rattle.ulam_tree.specs.Resolved as r
 use Rattle.ulam_heirs.specs.Flat.{is_function, is_field}
 use Rattle.ulam_names.specs.Faults.{Fault, unknown_name, bad_width, declared_twice, cyclic_quark, no_behave, bad_constant, too_many}
 use Rattle.ulam_names.specs.declared.basic.Value.{Value}
-use Rattle.ulam_names.specs.Scopes.{Text, Names, no_names, Head, Context, names_of, beside, number_of, numbered, in_class, in_own_class}
+use Rattle.ulam_names.specs.Scopes.{Text, Names, no_names, Head, Context, names_of, beside, number_of, number_and_entry, in_class, in_own_class}
 use Rattle.ulam_names.specs.Classes as w
 use Rattle.ulam_names.specs.Classes.{Known, Half, HalfClass, Pending, half_function, head_of, context_of, scope_of, values}
 use Rattle.ulam_names.specs.Walk.{body, basic_in}
@@ -35,7 +35,7 @@ use Rattle.fault_laws.proofs.NamesCycles.{ClassAt, class_at}
 
 -- Names that no class declares
 
-no_numbered : {A : Type 0} (n : Text) (ps : List (Text × A)) → numbered n ps ≡ None → Lacks (names_of ps) n
+no_numbered : {A : Type 0} (n : Text) (ps : List (Text × A)) → number_and_entry n ps ≡ None → Lacks (names_of ps) n
 no_numbered {A = A} n ps e = not_among n (names_of ps) (no_number n (names_of ps) (go (number_of n (names_of ps)) refl e))
   where
     there : (i : ℕ) (o : Option (Text × A)) → option_map (λ (p : Text × A). p.0) o ≡ Some n → option_map {U = ℕ × A} (λ (p : Text × A). (i, p.1)) o ≡ None → ⊥
@@ -48,8 +48,8 @@ no_numbered {A = A} n ps e = not_among n (names_of ps) (no_number n (names_of ps
 
 not_in_class : (k : ℕ) (h : Head) (n : Text) → in_class k h n ≡ None → Lacks (names_of h.fields ++ h.functions) n
 not_in_class k h n e =
-    let parts = or_none (option_map (λ (x : ℕ × Ty). (s.Member k x.0, x.1)) (numbered n h.fields)) _ e in
-    lacks_both (names_of h.fields) h.functions n (no_numbered n h.fields (map_none _ (numbered n h.fields) parts.0)) (not_among n h.functions (no_number n h.functions (map_none _ (number_of n h.functions) parts.1)))
+    let parts = or_none (option_map (λ (x : ℕ × Ty). (s.Member k x.0, x.1)) (number_and_entry n h.fields)) _ e in
+    lacks_both (names_of h.fields) h.functions n (no_numbered n h.fields (map_none _ (number_and_entry n h.fields) parts.0)) (not_among n h.functions (no_number n h.functions (map_none _ (number_of n h.functions) parts.1)))
 
 -- What members add to typedefs and constants
 

@@ -11,12 +11,15 @@ use Rattle.ulam_tree.specs.declared.resolved.Ty.{Ty}
 use Rattle.ulam_tree.specs.declared.resolved.Ty.TheVariants as y
 use Rattle.ulam_tree.specs.declared.resolved.Named.{Named}
 use Rattle.ulam_tree.specs.Raw.{TypeRef, Word, Width, Param, Const, const_number, const_truth, const_named, Member, typedef, constant, field, function, Body, Item, Class, wide, wide_as}
-use Rattle.ulam_tree.specs.Found.{found}
+use Rattle.ulam_tree.specs.Found.{value_or_fault}
 use Rattle.ulam_tree.proofs.Means.{Means, means_at, found_means}
 use Rattle.ulam_heirs.specs.Flat.{member_word, member_type, is_function, is_field}
 use Rattle.ulam_names.specs.Faults.{Fault, unknown_name, bad_width, declared_twice, cyclic_quark, no_behave, bad_constant, too_many}
 use Rattle.ulam_names.specs.declared.basic.Value.{Value}
-use Rattle.ulam_names.specs.Scopes.{Text, Names, no_names, names_of, small_names, declares_name, is_among, as_number, is_truth, in_range, beside, built_in, most_members, most_params}
+use Rattle.ulam_names.specs.Scopes.{Text, Names, no_names, names_of, small_names, declares_name, is_among, as_number, is_truth, in_range, beside, built_in}
+use Rattle.bit_field.specs.declared.TheConstants.{STATE_BITS}
+use Rattle.feast_base.specs.declared.limits.TheConstants.{MOST_PARAMS}
+use Rattle.ulam_names.specs.declared.limits.TheConstants.{MOST_MEMBERS}
 use Rattle.ulam_names.specs.Classes as w
 use Rattle.ulam_names.specs.Classes.{Known, basics, values}
 use Rattle.ulam_names.specs.Walk.{width_value}
@@ -116,7 +119,7 @@ module _ (items : List Item) (m : MemberOf items) (means : Meaning items m.at.be
 
     new_fails : (count : ℕ) (free : Bool) → (64 ≤ count → IsTooMany items v.place) → (free ≡ false → IsDoubled items v.place) → Fails Q (w.new_name d count free v)
     new_fails count free many taken =
-        fails_must_then Q (nat_lt count most_members) (too_many v.place) _ (λ over. many (ltb-false count 64 over)) (λ few.
+        fails_must_then Q (nat_lt count MOST_MEMBERS) (too_many v.place) _ (λ over. many (ltb-false count 64 over)) (λ few.
         fails_must Q (free && not (declares_name d v.name)) (declared_twice v.place) (λ off. twice free refl off))
       where
         twice : (b : Bool) → free ≡ b → (b && not (declares_name d v.name)) ≡ false → IsDoubled items v.place
@@ -124,7 +127,7 @@ module _ (items : List Item) (m : MemberOf items) (means : Meaning items m.at.be
         twice true is e = again (declared_before means.known m.at.before d means.halves v.name means.declared (not-false _ e))
 
   -- a name that is used as a number
-  number_fails : (v : Word) → Contains (own_constant m.at.here) v → {A : Type 0} (o : Option A) → (o ≡ None → values d v.name ≡ None) → Fails Q (found o (unknown_name v.place))
+  number_fails : (v : Word) → Contains (own_constant m.at.here) v → {A : Type 0} (o : Option A) → (o ≡ None → values d v.name ≡ None) → Fails Q (value_or_fault o (unknown_name v.place))
   number_fails v c o none = fails_found Q o (unknown_name v.place) (λ e. f.in_length_or_value m v c refl (lacks_constant items m.at.before means v.name (none e)))
 
   -- What stands in the member's declaration
@@ -204,7 +207,7 @@ module _ (items : List Item) (m : MemberOf items) (means : Meaning items m.at.be
   length_fails ty v None is = tt
   length_fails ty v (Some x) is =
       fails_then Q (width_value (values d) x) _ (known_width x is) (λ n hn.
-      fails_must_then Q (int_le (pos 1) n && int_le n (pos w.longest_array)) (bad_width v.place) _
+      fails_must_then Q (int_le (pos 1) n && int_le n (pos STATE_BITS)) (bad_width v.place) _
       (λ out. f.length_out m means ty v x n is refl (means_at (IsWidth (values d) x) (width_value (values d) x) n (width_means (values d) x) hn) out) (λ _. tt))
     where
       known_width : (x : Width) → m.at.here ≡ field ty v (Some x) → Fails Q (width_value (values d) x)
@@ -235,7 +238,7 @@ module _ (items : List Item) (m : MemberOf items) (means : Meaning items m.at.be
       let long = ap length same in
       let count = length-map gone (λ (q : Param). q.word.name) in
       fails_then Q (w.member_type means.known d p.of) _ (typed p.of (in_contains (types_in m.at.here) p.of (inr (in_map (λ (q : Param). q.of) (params_in m.at.here) p here)))) (λ n hn.
-      fails_must_then Q (nat_lt (length done) most_params) (too_many p.word.place) _ (λ over. f.params m at refl (let le = ltb-false (length done) 8 over in omega (arith, le, long, count))) (λ _.
+      fails_must_then Q (nat_lt (length done) MOST_PARAMS) (too_many p.word.place) _ (λ over. f.params m at refl (let le = ltb-false (length done) 8 over in omega (arith, le, long, count))) (λ _.
       fails_must_then Q (not (is_among p.word.name done)) (declared_twice p.word.place) _
       (λ old. f.param_again m at refl (subst (λ (ns : List Text). Contains ns p.word.name) same (among_in p.word.name done (not-false _ old)))) (λ _.
       fails_last Q (w.params_of means.known d (done ++ p.word.name ∷ []) ps) _

@@ -12,7 +12,7 @@ use Rattle.ulam_tree.specs.Raw.{Word, TypeRef, Width}
 use Rattle.ulam_tree.specs.Resolved as r
 use Rattle.ulam_names.specs.declared.basic.Basic.{Basic}
 use Rattle.ulam_names.specs.declared.basic.Basic.TheVariants.{Sized as sized, Whole as whole}
-use Rattle.ulam_names.specs.Scopes.{Text, Context, Scope, inside_local, is_element, next_name, opened, added}
+use Rattle.ulam_names.specs.Scopes.{Text, Context, Scope, inside_local, is_element, next_name, inner_scope, with_entry}
 use Rattle.ulam_names.specs.Walk as w
 use Rattle.ulam_names.specs.Walk.{basic_in, bare}
 use Rattle.ulam_names.specs.Relation.{IsSized, IsType, IsClass}
@@ -112,7 +112,7 @@ module _ (c : Context) where
       Shows c (w.after c.heads s n (t.declares ty x e) a) (behind c v (t.declares ty x e))
   after_declared s v n ty x e a h is =
       let m = ok_then (w.type_in c s.entries ty) _ a is in
-      let u = ok_then (w.declared c s n x) _ a m.2 in
+      let u = ok_then (w.may_declare c s n x) _ a m.2 in
       let d = ok_then (w.maybe_expr c s.entries e) _ a u.2 in
       let same : r.declares m.0 n x.place d.0 ≡ a = cc in
       let typed = means_at (IsType (basic_in c) (w.constant_in c s.entries) ty) (w.type_in c s.entries ty) m.0 (type_means (basic_in c) (w.constant_in c s.entries) ty) m.1 in
@@ -132,17 +132,17 @@ module _ (c : Context) where
 
   -- the branch behind a condition
   module _ (s : Scope) (v : Sight) (h : Shows c s v) where
-    seen_same : (x d : Word) (ty : Ty) → ty ≡ type_of_name c d.name → AreSame c (w.narrowed c.heads s (t.seen x d) ty).entries (in_sight v ++ shown_by c (t.seen x d))
-    seen_same x d ty is = subst (λ (z : Ty). AreSame c (w.narrowed c.heads s (t.seen x d) z).entries (in_sight v ++ shown_by c (t.seen x d))) (sym is) (go (is_element c.heads (type_of_name c d.name)))
+    seen_same : (x d : Word) (ty : Ty) → ty ≡ type_of_name c d.name → AreSame c (w.branch_scope c.heads s (t.seen x d) ty).entries (in_sight v ++ shown_by c (t.seen x d))
+    seen_same x d ty is = subst (λ (z : Ty). AreSame c (w.branch_scope c.heads s (t.seen x d) z).entries (in_sight v ++ shown_by c (t.seen x d))) (sym is) (go (is_element c.heads (type_of_name c d.name)))
       where
-        go : (b : Bool) → AreSame c (if b then added (record { name = x.name; slot = None; inside = type_of_name c d.name }) s else s).entries
+        go : (b : Bool) → AreSame c (if b then with_entry (record { name = x.name; slot = None; inside = type_of_name c d.name }) s else s).entries
             (in_sight v ++ (if b then record { name = x.name; shown = true; inside = type_of_name c d.name } ∷ [] else []))
         go true =
             same_both c s.entries (record { name = x.name; slot = None; inside = type_of_name c d.name } ∷ []) (in_sight v) (record { name = x.name; shown = true; inside = type_of_name c d.name } ∷ [])
             (shows_all c s v h) ((refl, refl, λ n. refl), tt)
         go false = subst (λ (ls : List Local). AreSame c s.entries ls) (sym (append-nil (in_sight v))) (shows_all c s v h)
 
-    branch_same : (k : t.Cond) (d : r.Cond) → w.cond c s.entries k ≡ Ok d → AreSame c (w.narrowed c.heads s k (w.shown d)).entries (in_sight v ++ shown_by c k)
+    branch_same : (k : t.Cond) (d : r.Cond) → w.cond c s.entries k ≡ Ok d → AreSame c (w.branch_scope c.heads s k (w.shown_element d)).entries (in_sight v ++ shown_by c k)
     branch_same (t.test e) d is = subst (λ (ls : List Local). AreSame c s.entries ls) (sym (append-nil (in_sight v))) (shows_all c s v h)
     branch_same (t.seen x z) d is =
         let p = ok_then (w.path c s.entries (w.one_word x)) _ d is in
@@ -150,7 +150,7 @@ module _ (c : Context) where
         let same : r.seen p.0 n.0 ≡ d = cc in
         let class = means_at (IsClass (basic_in c) z) (w.class_named (basic_in c) z) n.0 (class_means (basic_in c) z) n.1 in
         let meant : n.0.ty ≡ type_of_name c z.name = ap (λ (m : Named). m.ty) class.2 ∙ sym (basic_type z.name class.0 class.1) in
-        seen_same x z (w.shown d) (ap w.shown (sym same) ∙ meant)
+        seen_same x z (w.shown_element d) (ap w.shown_element (sym same) ∙ meant)
 
-    pub branch_shows : (k : t.Cond) (d : r.Cond) → w.cond c s.entries k ≡ Ok d → Shows c (opened (w.narrowed c.heads s k (w.shown d))) (branch c v k)
-    branch_shows k d is = record { front = (w.narrowed c.heads s k (w.shown d)).entries; back = []; entries = sym (append-nil _); from = refl; around = branch_same k d is; own = tt }
+    pub branch_shows : (k : t.Cond) (d : r.Cond) → w.cond c s.entries k ≡ Ok d → Shows c (inner_scope (w.branch_scope c.heads s k (w.shown_element d))) (branch c v k)
+    branch_shows k d is = record { front = (w.branch_scope c.heads s k (w.shown_element d)).entries; back = []; entries = sym (append-nil _); from = refl; around = branch_same k d is; own = tt }

@@ -11,7 +11,7 @@ use Rattle.ulam_tree.specs.declared.resolved.Ty.{Ty}
 use Rattle.ulam_tree.specs.declared.resolved.Ty.TheVariants as y
 use Rattle.ulam_tree.specs.declared.resolved.Step.{Step}
 use Rattle.ulam_tree.specs.declared.resolved.Step.TheVariants as s
-use Rattle.ulam_names.specs.Scopes.{Text, Head, Context, Entry, Scope, is_named, is_local, last_named, slot_named, first_step, first_name, in_own_class, next_name, opened, added}
+use Rattle.ulam_names.specs.Scopes.{Text, Head, Context, Entry, Scope, is_named, is_local, last_named, slot_named, first_step, first_name, in_own_class, next_name, inner_scope, with_entry}
 use Rattle.fault_laws.specs.NamesText.{Lacks}
 use Rattle.fault_laws.specs.NamesBodies.{Local, Sight, in_sight, local_names, inner, start_type}
 use Rattle.fault_laws.proofs.BasesLines.{any_in}
@@ -194,10 +194,10 @@ module _ (c : Context) where
       let same : drop s.from s.entries ≡ h.back = (λ i. drop (h.from i) (h.entries i)) ∙ drop_front h.front h.back in
       subst (λ (es : List Entry). AreSame es v.own) (sym same) h.own
 
-  pub shows_inner : (s : Scope) (v : Sight) → Shows s v → Shows (opened s) (inner v)
+  pub shows_inner : (s : Scope) (v : Sight) → Shows s v → Shows (inner_scope s) (inner v)
   shows_inner s v h = record { front = s.entries; back = []; entries = sym (append-nil s.entries); from = refl; around = shows_all s v h; own = tt }
 
-  pub shows_added : (s : Scope) (v : Sight) (e : Entry) (l : Local) → Shows s v → IsSame e l → Shows (added e s) (record { around = v.around; own = v.own ++ l ∷ [] })
+  pub shows_added : (s : Scope) (v : Sight) (e : Entry) (l : Local) → Shows s v → IsSame e l → Shows (with_entry e s) (record { around = v.around; own = v.own ++ l ∷ [] })
   shows_added s v e l h same = record {
     front = h.front;
     back = h.back ++ e ∷ [];

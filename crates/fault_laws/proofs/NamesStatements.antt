@@ -10,7 +10,8 @@ use Rattle.ulam_tree.specs.Raw as t
 use Rattle.ulam_tree.specs.Raw.{Word}
 use Rattle.ulam_names.specs.Faults.{Fault, unknown_name, bad_width, declared_twice, cyclic_quark, no_behave, bad_constant, too_many}
 use Rattle.ulam_names.specs.declared.basic.Value.{Value}
-use Rattle.ulam_names.specs.Scopes.{Text, Context, Scope, beside, in_own_class, is_named, most_locals, opened}
+use Rattle.ulam_names.specs.Scopes.{Text, Context, Scope, beside, in_own_class, is_named, inner_scope}
+use Rattle.ulam_names.specs.declared.limits.TheConstants.{MOST_LOCALS}
 use Rattle.ulam_names.specs.Walk as w
 use Rattle.ulam_names.specs.Walk.{basic_in}
 use Rattle.fault_laws.specs.NamesText.{EntryOf, Lacks}
@@ -71,10 +72,10 @@ module _ (c : Context) (types constants own : List Text)
 
   -- What the entries of a scope show
   module _ (s : Scope) (v : Sight) (h : Shows c s v) where
-    declared_fails : (n : ℕ) (x : Word) → Fails (MentionFault n (declared v x)) (w.declared c s n x)
+    declared_fails : (n : ℕ) (x : Word) → Fails (MentionFault n (declared v x)) (w.may_declare c s n x)
     declared_fails n x =
         let Q : Fault → Type 0 = MentionFault n (declared v x) in
-        fails_must_then Q (nat_lt n (c.params + most_locals)) (too_many x.place) _ (λ over. (refl, ltb-false n (c.params + 64) over)) (λ few.
+        fails_must_then Q (nat_lt n (c.params + MOST_LOCALS)) (too_many x.place) _ (λ over. (refl, ltb-false n (c.params + 64) over)) (λ few.
         fails_must Q (not (list_any (is_named x.name) (drop s.from s.entries))) (declared_twice x.place) (λ old. (refl, some_own c x.name (drop s.from s.entries) v.own (shows_own c s v h) (not-false _ old))))
 
     type_at : (x : t.TypeRef) → Fails (UseFault c types constants own of_types of_constants of_own (in_sight v) (of_type x)) (w.type_in c s.entries x)
@@ -92,7 +93,7 @@ module _ (c : Context) (types constants own : List Text)
     maybe_at : (e : Option t.Expr) → Fails (Used v (maybe_uses e)) (w.maybe_expr c s.entries e)
     maybe_at e = maybe_fails c types constants own of_types of_constants of_own s.entries (in_sight v) (shows_all c s v h) e
 
-    left_at : (l : t.Left) → Fails (Used v (left_uses l)) (w.left c s.entries l)
+    left_at : (l : t.Left) → Fails (Used v (left_uses l)) (w.left_side c s.entries l)
     left_at l = left_fails c types constants own of_types of_constants of_own s.entries (in_sight v) (shows_all c s v h) l
 
     cond_at : (k : t.Cond) → Fails (Used v (cond_uses k)) (w.cond c s.entries k)
@@ -108,13 +109,13 @@ module _ (c : Context) (types constants own : List Text)
     counts_fails : (n : ℕ) (l : t.Left) (up : Bool) → Fails (FaultIn n (all_used v (left_uses l))) (w.statement c s n (t.counts l up))
     counts_fails n l up =
         let Q : Fault → Type 0 = FaultIn n (all_used v (left_uses l)) in
-        fails_last Q (w.left c s.entries l) _ (fails_more (Used v (left_uses l)) Q (w.left c s.entries l) (left_at l) (used_fault n v (left_uses l)))
+        fails_last Q (w.left_side c s.entries l) _ (fails_more (Used v (left_uses l)) Q (w.left_side c s.entries l) (left_at l) (used_fault n v (left_uses l)))
 
     assigns_fails : (n : ℕ) (l : t.Left) (op : Option PairOp) (e : t.Expr) → Fails (FaultIn n (all_used v (left_uses l ++ expr_uses e))) (w.statement c s n (t.assigns l op e))
     assigns_fails n l op e =
         let us : List Use = left_uses l ++ expr_uses e in
         let Q : Fault → Type 0 = FaultIn n (all_used v us) in
-        fails_then Q (w.left c s.entries l) _ (fails_more (Used v (left_uses l)) Q (w.left c s.entries l) (left_at l) (λ f g. used_fault n v us f (g.0, in_left (left_uses l) (expr_uses e) g.0 g.1, g.2))) (λ m hm.
+        fails_then Q (w.left_side c s.entries l) _ (fails_more (Used v (left_uses l)) Q (w.left_side c s.entries l) (left_at l) (λ f g. used_fault n v us f (g.0, in_left (left_uses l) (expr_uses e) g.0 g.1, g.2))) (λ m hm.
         fails_last Q (w.expr c s.entries e) _ (fails_more (Used v (expr_uses e)) Q (w.expr c s.entries e) (expr_at e) (λ f g. used_fault n v us f (g.0, in_right (left_uses l) (expr_uses e) g.0 g.1, g.2))))
 
     does_fails : (n : ℕ) (x : t.Path) (xs : t.Args) → Fails (FaultIn n (all_used v (of_path x ∷ args_uses xs))) (w.statement c s n (t.does x xs))
@@ -130,7 +131,7 @@ module _ (c : Context) (types constants own : List Text)
         let Q : Fault → Type 0 = FaultIn n ms in
         let next : n ≡ n + 0 = omega arith in
         fails_then Q (w.type_in c s.entries ty) _ (fails_more _ Q (w.type_in c s.entries ty) (type_at ty) (λ f g. used_at n ms v (of_type ty) f (inl refl) g)) (λ m hm.
-        fails_then Q (w.declared c s n x) _ (fails_more _ Q (w.declared c s n x) (declared_fails n x)
+        fails_then Q (w.may_declare c s n x) _ (fails_more _ Q (w.may_declare c s n x) (declared_fails n x)
         (λ f g. (record { before = used v (of_type ty) ∷ []; here = declared v x; behind = all_used v (maybe_uses e); is = refl }, subst (λ (k : ℕ). MentionFault k (declared v x) f) next g))) (λ _ _.
         fails_last Q (w.maybe_expr c s.entries e) _ (fails_more (Used v (maybe_uses e)) Q (w.maybe_expr c s.entries e) (maybe_at e)
         (λ f g. used_at n ms v g.0 f (inr (inr (in_map (λ (u : Use). used v u) (maybe_uses e) g.0 g.1))) g.2))))
@@ -138,7 +139,7 @@ module _ (c : Context) (types constants own : List Text)
   -- All statements
   mutual
     statement_fails : (s : Scope) (v : Sight) (n : ℕ) (x : t.Statement) → Shows c s v → Fails (FaultIn n (statement_names c v x)) (w.statement c s n x)
-    statement_fails s v n (t.block b) h = fails_last (FaultIn n (body_names c (inner v) b)) (w.body c (opened s) n b) _ (body_fails (opened s) (inner v) n b (shows_inner c s v h))
+    statement_fails s v n (t.block b) h = fails_last (FaultIn n (body_names c (inner v) b)) (w.body c (inner_scope s) n b) _ (body_fails (inner_scope s) (inner v) n b (shows_inner c s v h))
     statement_fails s v n t.empty h = tt
     statement_fails s v n (t.if_so k x z) h =
         let cond : List Mention = all_used v (cond_uses k) in
@@ -150,19 +151,19 @@ module _ (c : Context) (types constants own : List Text)
         let one = statement_count c (branch c v k) x in
         fails_then Q (w.cond c s.entries k) _ (fails_more (Used v (cond_uses k)) Q (w.cond c s.entries k) (cond_at s v h k)
         (λ e g. fault_front n (cond ++ first) otherwise e (fault_front n cond first e (used_fault n v (cond_uses k) e g)))) (λ d hd.
-        fails_then Q (w.statement c (opened (w.narrowed c.heads s k (w.shown d))) n x) _
-        (fails_more (FaultIn n first) Q (w.statement c (opened (w.narrowed c.heads s k (w.shown d))) n x)
-        (statement_fails (opened (w.narrowed c.heads s k (w.shown d))) (branch c v k) n x (branch_shows c s v h k d hd))
+        fails_then Q (w.statement c (inner_scope (w.branch_scope c.heads s k (w.shown_element d))) n x) _
+        (fails_more (FaultIn n first) Q (w.statement c (inner_scope (w.branch_scope c.heads s k (w.shown_element d))) n x)
+        (statement_fails (inner_scope (w.branch_scope c.heads s k (w.shown_element d))) (branch c v k) n x (branch_shows c s v h k d hd))
         (λ e g. fault_front n (cond ++ first) otherwise e (behind_used n v (cond_uses k) first e g))) (λ a ha.
-        fails_last Q (w.part c (opened s) (n + w.locals_of x) z) _
-        (fails_more (FaultIn (n + w.locals_of x) otherwise) Q (w.part c (opened s) (n + w.locals_of x) z) (part_fails (opened s) (inner v) (n + w.locals_of x) z (shows_inner c s v h))
+        fails_last Q (w.part c (inner_scope s) (n + w.locals_of x) z) _
+        (fails_more (FaultIn (n + w.locals_of x) otherwise) Q (w.part c (inner_scope s) (n + w.locals_of x) z) (part_fails (inner_scope s) (inner v) (n + w.locals_of x) z (shows_inner c s v h))
         (λ e g. fault_back n (n + w.locals_of x) (cond ++ first) otherwise e (omega (arith, both, none, one)) g))))
     statement_fails s v n (t.while_so k x) h =
         let test : List Mention = all_used v (expr_uses k) in
         let body : List Mention = statement_names c (inner v) x in
         let Q : Fault → Type 0 = FaultIn n (test ++ body) in
         fails_then Q (w.expr c s.entries k) _ (fails_more (Used v (expr_uses k)) Q (w.expr c s.entries k) (expr_at s v h k) (λ e g. fault_front n test body e (used_fault n v (expr_uses k) e g))) (λ d hd.
-        fails_last Q (w.statement c (opened s) n x) _ (fails_more (FaultIn n body) Q (w.statement c (opened s) n x) (statement_fails (opened s) (inner v) n x (shows_inner c s v h)) (behind_used n v (expr_uses k) body)))
+        fails_last Q (w.statement c (inner_scope s) n x) _ (fails_more (FaultIn n body) Q (w.statement c (inner_scope s) n x) (statement_fails (inner_scope s) (inner v) n x (shows_inner c s v h)) (behind_used n v (expr_uses k) body)))
     statement_fails s v n (t.for_all f k g x) h =
         let u : Sight = behind_part c (inner v) f in
         let first : List Mention = part_names c (inner v) f in
@@ -176,19 +177,19 @@ module _ (c : Context) (types constants own : List Text)
         let one = part_count c (inner v) f in
         let two = part_count c u g in
         let m : ℕ = n + w.locals_part f in
-        fails_then Q (w.part c (opened s) n f) _
-        (fails_more (FaultIn n first) Q (w.part c (opened s) n f) (part_fails (opened s) (inner v) n f (shows_inner c s v h))
+        fails_then Q (w.part c (inner_scope s) n f) _
+        (fails_more (FaultIn n first) Q (w.part c (inner_scope s) n f) (part_fails (inner_scope s) (inner v) n f (shows_inner c s v h))
         (λ e i. fault_front n (first ++ test ++ step) body e (fault_front n (first ++ test) step e (fault_front n first test e i)))) (λ d hd.
-        let z : Scope = w.after_part c.heads (opened s) n f d in
-        let shows = after_part_shows c (opened s) (inner v) n f d (shows_inner c s v h) hd in
+        let z : Scope = w.after_part c.heads (inner_scope s) n f d in
+        let shows = after_part_shows c (inner_scope s) (inner v) n f d (shows_inner c s v h) hd in
         fails_then Q (w.maybe_expr c z.entries k) _
         (fails_more (Used u (maybe_uses k)) Q (w.maybe_expr c z.entries k) (maybe_at z u shows k)
         (λ e i. fault_front n (first ++ test ++ step) body e (fault_front n (first ++ test) step e (fault_back n m first test e (omega (arith, one)) (used_fault m u (maybe_uses k) e i))))) (λ q hq.
         fails_then Q (w.part c z m g) _
         (fails_more (FaultIn m step) Q (w.part c z m g) (part_fails z u m g shows)
         (λ e i. fault_front n (first ++ test ++ step) body e (fault_back n m (first ++ test) step e (omega (arith, a, none, one)) i))) (λ j hj.
-        fails_last Q (w.statement c (opened z) (m + w.locals_part g) x) _
-        (fails_more (FaultIn (m + w.locals_part g) body) Q (w.statement c (opened z) (m + w.locals_part g) x) (statement_fails (opened z) (inner u) (m + w.locals_part g) x (shows_inner c z u shows))
+        fails_last Q (w.statement c (inner_scope z) (m + w.locals_part g) x) _
+        (fails_more (FaultIn (m + w.locals_part g) body) Q (w.statement c (inner_scope z) (m + w.locals_part g) x) (statement_fails (inner_scope z) (inner u) (m + w.locals_part g) x (shows_inner c z u shows))
         (λ e i. fault_back n (m + w.locals_part g) (first ++ test ++ step) body e (omega (arith, a, b, none, one, two)) i)))))
     statement_fails s v n (t.returns p e) h = returns_fails s v h n p e
     statement_fails s v n (t.breaks p) h = tt

@@ -205,7 +205,7 @@ module _ (c : Context) (types constants own : List Text)
     maybe_fails None = tt
     maybe_fails (Some e) = fails_last (UsesFault (expr_uses e)) (w.expr c es e) _ (expr_fails e)
 
-    pub left_fails : (l : t.Left) → Fails (UsesFault (left_uses l)) (w.left c es l)
+    pub left_fails : (l : t.Left) → Fails (UsesFault (left_uses l)) (w.left_side c es l)
     left_fails l =
         let Q : Fault → Type 0 = UsesFault (left_uses l) in
         fails_then Q (w.path c es l.path) _ (path_first l.path (maybe_uses l.index)) (λ p hp.

@@ -10,16 +10,16 @@ use Rattle.ulam_tree.specs.declared.op.PairOp.{PairOp}
 use Rattle.ulam_tree.specs.declared.op.PairOp.TheVariants as op
 use Rattle.ulam_tree.specs.Resolved as r
 use Rattle.ulam_tree.specs.Typed as t
-use Rattle.ulam_tree.specs.Found.{◌>>=◌, found, must}
+use Rattle.ulam_tree.specs.Found.{◌>>=◌, value_or_fault, must}
 use Rattle.ulam_tree.specs.Completes.{completes, all_complete}
 use Rattle.ulam_tree.proofs.Means.{Means, means_at, means_then, means_found, means_must}
 use Rattle.ulam_types.specs.Faults.{Fault, Found, wrong_type, mixed_signs, not_assignable, bad_as, break_outside}
-use Rattle.ulam_types.specs.Scopes.{Scope, in_loop, narrowed, is_value, target_type}
-use Rattle.ulam_types.specs.Rows.{class_of, taken, plain_type, pair_type, pair_fault, pair_found, are_mixed, is_truth, is_void, assignable}
+use Rattle.ulam_types.specs.Scopes.{Scope, in_loop, scope_as, is_value, target_type}
+use Rattle.ulam_types.specs.Rows.{class_of, kind_from, plain_type, pair_type, pair_fault, pair_found, are_mixed, is_truth, is_void, assignable}
 use Rattle.ulam_types.specs.Walk.{plain, place_of, count, index_by, expr, args, call}
 use Rattle.ulam_types.specs.Bodies as b
 use Rattle.ulam_types.specs.Bodies.{atom_slot, is_element_type}
-use Rattle.ulam_types.specs.Typing.{IsTyped, IsLeftBy, IsLeft}
+use Rattle.ulam_types.specs.Typing.{IsTyped, IsLeftBy, IsLeftSide}
 use Rattle.ulam_types.proofs.Exprs.{expr_means, index_means}
 use Rattle.fault_laws.specs.TypesRows.{IsBool, Takes, AreMixed, Compares, IsRefused}
 use Rattle.fault_laws.specs.TypesParts.{Part, a_statement, a_condition, a_left, a_value, an_expr, IsIn, Stops, returning, breaking, continuing, inside, in_both, Sees, TypedLeft, Stands, in_block, in_first, in_else, in_while, in_for, for_first, for_step, if_asks, while_asks, for_asks, assigned, counted, assigned_value, declared_value, returned_value, left_item, done_call, of_condition, of_item, of_value, of_return, of_update, of_call}
@@ -39,7 +39,7 @@ left_by_typed g x (Some e) a h =
     let Q : t.Left × Ty → Type 0 = λ d. IsLeftBy g x (Some e) d.0 d.1 in
     means_at Q (b.left_by g x (Some e)) a (means_then _ Q (index_by g x (expr g k.Int e)) _ (index_means g x (IsTyped g k.Int e) (expr g k.Int e) (expr_means g k.Int e)) (λ i j. (i.0, j.0, j.1, j.2, refl))) h
 
-abbrev left_typed : (g : Scope) (l : r.Left) (a : t.Left × Ty) → b.left g l ≡ Ok a → TypedLeft g l
+abbrev left_typed : (g : Scope) (l : r.Left) (a : t.Left × Ty) → b.left_side g l ≡ Ok a → TypedLeft g l
 left_typed g l a h = record { left = a.0; ty = a.1; is = left_by_typed g l.path l.index a h }
 
 lost : (g : Scope) (l : r.Left) (op : PairOp) (e : r.Expr) (u : TypedUpdate g l e) → Compares op × Takes op (plain e) u.to.ty (t.ty_of u.value.expr) × (IsBool u.to.ty → ⊥) →
@@ -49,13 +49,13 @@ lost g l op e u h = (refl, h.0, u, h.1, h.2)
 -- what `++` or `--` makes of a typed left side
 abbrev counted_by : Scope → Place → t.Left → Ty → Bool → Found t.Statement
 counted_by g p a ty up = do
-  sum ← pair_found p op.Add true ty (plain_type (taken ty))
+  sum ← pair_found p op.Add true ty (plain_type (kind_from ty))
   _ ← must (assignable g ty sum) (not_assignable p)
   Ok (t.counts a up)
 
 -- a value for a type, with what the walk found
-abbrev typed_for : (g : Scope) (ty : Ty) (e : r.Expr) (a : t.Expr) → expr g (taken ty) e ≡ Ok a → TypedFor g ty e
-typed_for g ty e a h = record { expr = a; kind = taken ty; takes = taken_from ty; is = typed g (taken ty) e a h }
+abbrev typed_for : (g : Scope) (ty : Ty) (e : r.Expr) (a : t.Expr) → expr g (kind_from ty) e ≡ Ok a → TypedFor g ty e
+typed_for g ty e a h = record { expr = a; kind = kind_from ty; takes = taken_from ty; is = typed g (kind_from ty) e a h }
 
 -- Statements that stop
 
@@ -80,7 +80,7 @@ pub none_stops : (b : r.Body) → all_complete b ≡ true → (x : r.Statement) 
 none_stops b e x i s = false≢true (sym (stops_all x b i (stops_is x s)) ∙ e)
 
 module _ (cs : List r.Class) where
-  left_fails : (g : Scope) (l : r.Left) → Stands cs g (a_left l) → Fails (FaultHolds cs) (b.left g l)
+  left_fails : (g : Scope) (l : r.Left) → Stands cs g (a_left l) → Fails (FaultHolds cs) (b.left_side g l)
   left_fails g l st = go l.index refl
     where
       go : (e : Option r.Expr) → l.index ≡ e → Fails (FaultHolds cs) (b.left_by g l.path e)
@@ -97,18 +97,18 @@ module _ (cs : List r.Class) where
 
   value_fails : (g : Scope) (p : Place) (ty : Ty) (e : r.Expr) → Stands cs g (a_value p ty e) → Fails (FaultHolds cs) (b.value_for g p ty e)
   value_fails g p ty e st =
-      fails_then (FaultHolds cs) (expr g (taken ty) e) _ (expr_fails cs g (taken ty) e (of_value st (taken_from ty))) (λ a ha.
+      fails_then (FaultHolds cs) (expr g (kind_from ty) e) _ (expr_fails cs g (kind_from ty) e (of_value st (taken_from ty))) (λ a ha.
       fails_must_then (FaultHolds cs) (assignable g ty (t.ty_of a)) (not_assignable p) _
       (λ off. record { scope = g; part = a_value p ty e; stands = st; is = (refl, typed_for g ty e a ha, refuted (assignable g ty (t.ty_of a)) off (assignable_true g ty (t.ty_of a))) })
       (λ _. tt))
 
-  assigned_fails : (g : Scope) (l : r.Left) (op : Option PairOp) (e : r.Expr) (to : TypedLeft g l) → Stands cs g (a_statement (r.assigns l op e)) → Fails (FaultHolds cs) (b.assigned g l.path.place to.ty op e)
+  assigned_fails : (g : Scope) (l : r.Left) (op : Option PairOp) (e : r.Expr) (to : TypedLeft g l) → Stands cs g (a_statement (r.assigns l op e)) → Fails (FaultHolds cs) (b.assigned_value g l.path.place to.ty op e)
   assigned_fails g l None e to st = value_fails g l.path.place to.ty e (assigned_value st to)
   assigned_fails g l (Some op) e to st =
       let Q = FaultHolds cs in
       let p = l.path.place in
       let part = a_statement (r.assigns l (Some op) e) in
-      fails_then Q (expr g (taken to.ty) e) _ (expr_fails cs g (taken to.ty) e (of_update st to (taken_from to.ty))) (λ a ha.
+      fails_then Q (expr g (kind_from to.ty) e) _ (expr_fails cs g (kind_from to.ty) e (of_update st to (taken_from to.ty))) (λ a ha.
       let u : TypedUpdate g l e = record { to = to; value = typed_for g to.ty e a ha } in
       fails_found_then Q (pair_type op (plain e) to.ty (t.ty_of a)) (pair_fault p op to.ty (t.ty_of a)) _
       (λ none. pair_holds Q p op (plain e) to.ty (t.ty_of a) none
@@ -123,7 +123,7 @@ module _ (cs : List r.Class) where
   counted_fails g l up to st =
       let Q = FaultHolds cs in
       let p = l.path.place in
-      let one = plain_type (taken to.ty) in
+      let one = plain_type (kind_from to.ty) in
       fails_found_then Q (pair_type op.Add true to.ty one) (pair_fault p op.Add to.ty one) _
       (λ none. pair_holds Q p op.Add true to.ty one none
       (λ refused. record { scope = g; part = a_statement (r.counts l up); stands = st; is = (refl, to, λ h. refused.0 (counted_numbers to.ty h)) })
@@ -132,8 +132,8 @@ module _ (cs : List r.Class) where
       (λ off. absurd (both_ways (assignable g to.ty sum) off (counted_assignable g to.ty sum is)))
       (λ _. tt))
     where
-      never : AreMixed to.ty (plain_type (taken to.ty)) → ⊥
-      never h = both_ways _ (counted_apart to.ty) (mixed_true to.ty (plain_type (taken to.ty)) h)
+      never : AreMixed to.ty (plain_type (kind_from to.ty)) → ⊥
+      never h = both_ways _ (counted_apart to.ty) (mixed_true to.ty (plain_type (kind_from to.ty)) h)
 
   -- Conditions
 
@@ -182,7 +182,7 @@ module _ (cs : List r.Class) where
       (λ _. tt)
   result_fails g p (Some e) st =
       let Q = FaultHolds cs in
-      fails_then Q (expr g (taken g.result) e) _ (expr_fails cs g (taken g.result) e (of_return st (taken_from g.result))) (λ a ha.
+      fails_then Q (expr g (kind_from g.result) e) _ (expr_fails cs g (kind_from g.result) e (of_return st (taken_from g.result))) (λ a ha.
       fails_must_then Q (not (is_void g.result)) (wrong_type p) _
       (λ void. record { scope = g; part = a_statement (r.returns p (Some e)); stands = st; is = (refl, void_is g.result (not-false (is_void g.result) void)) })
       (λ some. fails_must_then Q (assignable g g.result (t.ty_of a)) (not_assignable p) _
@@ -227,10 +227,10 @@ module _ (cs : List r.Class) where
         (maybe_fails (b.value_for g p of.ty) e (λ d same. value_fails g p of.ty d (declared_value (subst (λ v. Stands cs g (a_statement (r.declares of n p v))) same st))))
         (λ _ _. tt))
     statement_fails g (r.assigns l op e) st =
-        fails_then (FaultHolds cs) (b.left g l) _ (left_fails g l (assigned st)) (λ a ha.
-        fails_then (FaultHolds cs) (b.assigned g l.path.place a.1 op e) _ (assigned_fails g l op e (left_typed g l a ha) st) (λ _ _. tt))
+        fails_then (FaultHolds cs) (b.left_side g l) _ (left_fails g l (assigned st)) (λ a ha.
+        fails_then (FaultHolds cs) (b.assigned_value g l.path.place a.1 op e) _ (assigned_fails g l op e (left_typed g l a ha) st) (λ _ _. tt))
     statement_fails g (r.counts l up) st =
-        fails_then (FaultHolds cs) (b.left g l) _ (left_fails g l (counted st)) (λ a ha. counted_fails g l up (left_typed g l a ha) st)
+        fails_then (FaultHolds cs) (b.left_side g l) _ (left_fails g l (counted st)) (λ a ha. counted_fails g l up (left_typed g l a ha) st)
     statement_fails g (r.does x es) st =
         fails_then (FaultHolds cs) (call g x es) _
         (call_fails cs g x es (done_call st) (λ f calls same. args_fail cs g _ es (λ v d i. of_call f v d (done_call st) calls same i (wanted v))))

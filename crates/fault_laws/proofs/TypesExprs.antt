@@ -8,13 +8,13 @@ use Rattle.ulam_tree.specs.declared.resolved.Ty.{Ty}
 use Rattle.ulam_tree.specs.declared.op.PairOp.{PairOp}
 use Rattle.ulam_tree.specs.Resolved as r
 use Rattle.ulam_tree.specs.Typed as t
-use Rattle.ulam_tree.specs.Found.{◌>>=◌, found, must}
+use Rattle.ulam_tree.specs.Found.{◌>>=◌, value_or_fault, must}
 use Rattle.ulam_tree.proofs.Means.{means_at}
 use Rattle.ulam_types.specs.declared.scope.Want.{Want}
 use Rattle.ulam_types.specs.Faults.{Fault, Found, wrong_type, mixed_signs, not_assignable, wrong_count, bad_as}
 use Rattle.ulam_types.specs.Scopes.{Scope, FunctionSig, Callee, function, built, is_value, value_type, item_type, callee, wants_of}
-use Rattle.ulam_types.specs.Rows.{class_of, taken, beside, plain_fits, pair_type, are_mixed, takes_signs, pair_fault, prefix_type, cast_type, is_atom, is_species, is_index, taken_want, all_suit, is_built, misfit}
-use Rattle.ulam_types.specs.Walk.{plain, count, number, arguments_by, called, called_by, index_by, right_first, left_first, operands, pair_by, expr, args}
+use Rattle.ulam_types.specs.Rows.{class_of, kind_from, beside, plain_fits, pair_type, are_mixed, takes_signs, pair_fault, prefix_type, cast_type, is_atom, is_species, is_index, taken_want, all_suit, is_built, misfit}
+use Rattle.ulam_types.specs.Walk.{plain, count, number, arguments_by, call_found, called_by, index_by, right_first, left_first, operands, pair_by, expr, args}
 use Rattle.ulam_types.specs.Typing.{IsTyped, AreTyped, IsCall}
 use Rattle.ulam_types.proofs.Exprs.{expr_any, expr_means, args_mean, called_means}
 use Rattle.ulam_types.proofs.Operands.{operands_mean}
@@ -119,13 +119,13 @@ module _ (cs : List r.Class) where
       go : (a : Bool) → plain x ≡ a → (b : Bool) → plain y ≡ b → Fails (FaultHolds cs) (operands a b (λ w. expr g w x) (λ w. expr g w y))
       go true px false py =
           fails_then (FaultHolds cs) (expr g k.Int y) _ (right k.Int (no_right k.Int py)) (λ b hb.
-          fails_then (FaultHolds cs) (expr g (taken (t.ty_of b)) x) _ (left (taken (t.ty_of b)) (of_left (taken (t.ty_of b)) st (λ _. inr (py, b, typed g k.Int y b hb, taken_from (t.ty_of b))))) (λ _ _. tt))
+          fails_then (FaultHolds cs) (expr g (kind_from (t.ty_of b)) x) _ (left (kind_from (t.ty_of b)) (of_left (kind_from (t.ty_of b)) st (λ _. inr (py, b, typed g k.Int y b hb, taken_from (t.ty_of b))))) (λ _ _. tt))
       go true px true py =
           fails_then (FaultHolds cs) (expr g k.Int x) _ (left k.Int (of_left k.Int st (λ _. inl (py, refl)))) (λ a ha.
           fails_then (FaultHolds cs) (expr g k.Int y) _ (right k.Int (of_right k.Int st (λ _. inl (px, refl)))) (λ _ _. tt))
       go false px b py =
           fails_then (FaultHolds cs) (expr g k.Int x) _ (left k.Int (no_left k.Int px)) (λ a ha.
-          fails_then (FaultHolds cs) (expr g (taken (t.ty_of a)) y) _ (right (taken (t.ty_of a)) (of_right (taken (t.ty_of a)) st (λ _. inr (px, a, typed g k.Int x a ha, taken_from (t.ty_of a))))) (λ _ _. tt))
+          fails_then (FaultHolds cs) (expr g (kind_from (t.ty_of a)) y) _ (right (kind_from (t.ty_of a)) (of_right (kind_from (t.ty_of a)) st (λ _. inr (px, a, typed g k.Int x a ha, taken_from (t.ty_of a))))) (λ _ _. tt))
 
   abbrev operands_typed : (g : Scope) (x y : r.Expr) (ab : t.Expr × t.Expr) → operands (plain x) (plain y) (λ w. expr g w x) (λ w. expr g w y) ≡ Ok ab → TypedPair g x y
   operands_typed g x y ab h =

@@ -14,7 +14,7 @@ use Rattle.ulam_types.specs.declared.scope.Want.TheVariants.{Value, Site, Bound}
 use Rattle.ulam_types.specs.declared.scope.NumClass.{NumClass}
 use Rattle.ulam_types.specs.declared.scope.NumClass.TheVariants.{Int, Unsigned, Bits, Bool as Truth, Other}
 use Rattle.ulam_types.specs.Scopes.{Scope}
-use Rattle.ulam_types.specs.Rows.{class_of, taken_by, taken, taken_want, plain_fits, arith_type, order_type, equal_type, bits_type, shift_type, truth_type, pair_type, are_mixed, takes_signs, prefix_by, prefix_type, cast_type, fits_number, same_class, assignable}
+use Rattle.ulam_types.specs.Rows.{class_of, taken_by, kind_from, taken_want, plain_fits, arith_type, order_type, equal_type, bits_type, shift_type, truth_type, pair_type, are_mixed, takes_signs, prefix_by, prefix_type, cast_type, fits_number, same_class, assignable}
 use Rattle.fault_laws.specs.TypesRows.{IsNumber, IsUnsigned, IsBits, IsBool, AreNumbers, AreMixed, AreAlike, Takes, IsForNumbers, IsRefused, TakesOne, IsTooLarge, IsTakenFrom, TakesNumber, IsAssignable}
 use Rattle.fault_laws.specs.TypesParts.{IsWanted}
 use Rattle.fault_laws.proofs.TypesClasses.{refuted_none, element_true, atom_true, int_class, unsigned_class, bits_class, bool_class, int_is, unsigned_is, bits_is}
@@ -185,7 +185,7 @@ taken_class ty Other e = inr (inr (λ h. apart_unsigned (unsigned_class ty h), �
     apart_bits h = let f = h.1 in cc
 
 -- the kind that the table takes from a type
-pub taken_from : (ty : Ty) → IsTakenFrom ty (taken ty)
+pub taken_from : (ty : Ty) → IsTakenFrom ty (kind_from ty)
 taken_from ty = taken_class ty (class_of ty) refl
 
 pub wanted : (w : Want) → IsWanted w (taken_want w)

@@ -11,7 +11,7 @@ use Rattle.ulam_tree.specs.declared.op.PairOp.TheVariants as op
 use Rattle.ulam_types.specs.declared.scope.NumClass.{NumClass}
 use Rattle.ulam_types.specs.declared.scope.NumClass.TheVariants.{Int, Unsigned, Bits, Bool as Truth, Other}
 use Rattle.ulam_types.specs.Scopes.{Scope}
-use Rattle.ulam_types.specs.Rows.{bool, class_by, class_of, taken_by, taken, plain_type, arith_type, order_type, equal_type, bits_type, shift_type, truth_type, pair_type, are_mixed, fits_number, assignable}
+use Rattle.ulam_types.specs.Rows.{bool, class_by, class_of, taken_by, kind_from, plain_type, arith_type, order_type, equal_type, bits_type, shift_type, truth_type, pair_type, are_mixed, fits_number, assignable}
 use Rattle.fault_laws.specs.TypesRows.{IsInt, IsUnsigned, IsBool, AreNumbers, AreAlike, Takes, Compares}
 use Rattle.fault_laws.proofs.TypesClasses.{int_class, unsigned_class, int_is, unsigned_is, bits_is, bool_is}
 
@@ -133,13 +133,13 @@ counted_kind Truth = refl
 counted_kind Other = refl
 
 -- 1 takes its kind from the type that it is added to, so they are not mixed
-pub counted_apart : (ty : Ty) → are_mixed (class_of ty) (class_of (plain_type (taken ty))) ≡ false
+pub counted_apart : (ty : Ty) → are_mixed (class_of ty) (class_of (plain_type (kind_from ty))) ≡ false
 counted_apart ty = counted_kind (class_of ty)
 
-pub counted_numbers : (ty : Ty) → IsInt ty ⊎ IsUnsigned ty → AreNumbers ty (plain_type (taken ty))
+pub counted_numbers : (ty : Ty) → IsInt ty ⊎ IsUnsigned ty → AreNumbers ty (plain_type (kind_from ty))
 counted_numbers ty (inl h) = inl (h, ap taken_by (int_class ty h).1)
 counted_numbers ty (inr h) = inr (h, inl (ap taken_by (unsigned_class ty h).1))
 
 -- and the sum can be assigned to it
-pub counted_assignable : (g : Scope) (ty sum : Ty) → pair_type op.Add true ty (plain_type (taken ty)) ≡ Some sum → assignable g ty sum ≡ true
-counted_assignable g ty sum e = column_fits g (λ c. arith_type c (class_of (plain_type (taken ty)))) refl (λ kind. arith_fits kind (class_of (plain_type (taken ty)))) ty sum e
+pub counted_assignable : (g : Scope) (ty sum : Ty) → pair_type op.Add true ty (plain_type (kind_from ty)) ≡ Some sum → assignable g ty sum ≡ true
+counted_assignable g ty sum e = column_fits g (λ c. arith_type c (class_of (plain_type (kind_from ty)))) refl (λ kind. arith_fits kind (class_of (plain_type (kind_from ty)))) ty sum e

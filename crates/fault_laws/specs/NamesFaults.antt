@@ -9,7 +9,10 @@ use Rattle.ulam_tree.specs.declared.resolved.Ty.TheVariants as y
 use Rattle.ulam_tree.specs.declared.resolved.Named.{Named}
 use Rattle.ulam_tree.specs.Raw.{Word, TypeRef, Width, wide_as, Path, Param, Body, Const, Member, constant, field, function, Class, Item, uses}
 use Rattle.ulam_heirs.specs.Flat.{member_word, member_type, is_function, is_field}
+use Rattle.bit_field.specs.declared.TheConstants.{STATE_BITS}
 use Rattle.ulam_names.specs.Faults as fault
+use Rattle.feast_base.specs.declared.limits.TheConstants.{MOST_PARAMS}
+use Rattle.ulam_names.specs.declared.limits.TheConstants.{MOST_CLASSES, MOST_LOCALS, MOST_MEMBERS}
 use Rattle.ulam_names.specs.declared.basic.Basic.{Basic}
 use Rattle.ulam_names.specs.declared.basic.Basic.TheVariants.{Sized as sized, Whole as whole}
 use Rattle.ulam_names.specs.Scopes.{Text, Names, no_names, Context, names_of, built_in, allows, as_number, is_truth, in_range, next_name}
@@ -161,13 +164,13 @@ pub record IsBadConstant (items : List Item) (p : Place) : Type 0 where
 -- 35: so many stand before it
 
 pub data IsTooMany (items : List Item) (p : Place) : Type 0 where
-  classes : (at : EntryOf Class (classes_of items)) → at.here.word.place ≡ p → 256 ≤ length at.before → IsTooMany items p
-  typedefs_and_constants : (m : MemberOf items) → (member_word m.at.here).place ≡ p → IsTrue (is_small m.at.here) → 64 ≤ length (filter is_small m.at.before) → IsTooMany items p
-  data_members : (m : MemberOf items) → (member_word m.at.here).place ≡ p → IsTrue (is_field m.at.here) → 64 ≤ length (filter is_field m.at.before) → IsTooMany items p
-  functions : (m : MemberOf items) → (member_word m.at.here).place ≡ p → IsTrue (is_function m.at.here) → 64 ≤ length (filter is_function m.at.before) → IsTooMany items p
-  params : (m : MemberOf items) (at : EntryOf Param (params_in m.at.here)) → at.here.word.place ≡ p → 8 ≤ length at.before → IsTooMany items p
+  classes : (at : EntryOf Class (classes_of items)) → at.here.word.place ≡ p → MOST_CLASSES ≤ length at.before → IsTooMany items p
+  typedefs_and_constants : (m : MemberOf items) → (member_word m.at.here).place ≡ p → IsTrue (is_small m.at.here) → MOST_MEMBERS ≤ length (filter is_small m.at.before) → IsTooMany items p
+  data_members : (m : MemberOf items) → (member_word m.at.here).place ≡ p → IsTrue (is_field m.at.here) → MOST_MEMBERS ≤ length (filter is_field m.at.before) → IsTooMany items p
+  functions : (m : MemberOf items) → (member_word m.at.here).place ≡ p → IsTrue (is_function m.at.here) → MOST_MEMBERS ≤ length (filter is_function m.at.before) → IsTooMany items p
+  params : (m : MemberOf items) (at : EntryOf Param (params_in m.at.here)) → at.here.word.place ≡ p → MOST_PARAMS ≤ length at.before → IsTooMany items p
   locals : (f : FunctionOf items) (at : EntryOf Mention (names_in f)) (w : Word) (around own : List Local) →
-      at.here ≡ declared (record { around = around; own = own }) w → w.place ≡ p → 64 ≤ length (locals_in at.before) → IsTooMany items p
+      at.here ≡ declared (record { around = around; own = own }) w → w.place ≡ p → MOST_LOCALS ≤ length (locals_in at.before) → IsTooMany items p
 
 -- 36: a width out of its range, or on a type that takes none; a type that may not stand there; the length of an array out of its range
 
@@ -197,7 +200,7 @@ pub data IsBadWidth (items : List Item) (p : Place) : Type 0 where
   no_data : (m : MemberOf items) (means : Meaning items m.at.before) (of : TypeRef) (w : Word) (len : Option Width) (n : Named) → m.at.here ≡ field of w len → of.word.place ≡ p →
       IsMemberType means.known means.names of n → IsNoDataType items (is_some len) n.ty → IsBadWidth items p
   length_out : (m : MemberOf items) (means : Meaning items m.at.before) (of : TypeRef) (w : Word) (d : Width) (v : ℤ) → m.at.here ≡ field of w (Some d) → w.place ≡ p →
-      IsWidth (values means.names) d v → (int_le (pos 1) v && int_le v (pos 71)) ≡ false → IsBadWidth items p
+      IsWidth (values means.names) d v → (int_le (pos 1) v && int_le v (pos STATE_BITS)) ≡ false → IsBadWidth items p
 
 -- What holds at the place of a fault
 abbrev pub HoldsAt : List Item → fault.Fault → Type 0

@@ -12,12 +12,12 @@ use Rattle.ulam_types.specs.Rows.{int}
 use Rattle.ulam_types.specs.Programs.{first_fault}
 use Rattle.fault_laws.specs.BasesExample.{at, word}
 
-abbrev pub named : Ty → ℕ → Named
-named ty column = record { ty = ty; place = at column }
+abbrev pub named_type : Ty → ℕ → Named
+named_type ty column = record { ty = ty; place = at column }
 
 -- a program of one element with one function f, whose result has a type and whose name stands at a column
 abbrev pub of_function : Ty → ℕ → r.Body → List r.Class
-of_function result column body = record { quark = false; word = word (codes "A") 9; members = r.function (named result 13) (word (codes "f") column) [] body ∷ [] } ∷ []
+of_function result column body = record { quark = false; word = word (codes "A") 9; members = r.function (named_type result 13) (word (codes "f") column) [] body ∷ [] } ∷ []
 
 -- a program whose function f has one statement and no result
 abbrev pub of_statement : r.Statement → List r.Class
@@ -29,11 +29,11 @@ with_return = of_statement (r.returns (at 24) (Some (r.number 1 false (at 31))))
 
 -- element A { Void f() { Int n = (Int) 1 + 1u; } }
 abbrev pub with_sum : List r.Class
-with_sum = of_statement (r.declares (named (int 32) 24) 0 (at 28) (Some (r.pair op.Add (r.cast (named (int 32) 33) (r.number 1 false (at 38)) (at 32)) (r.number 1 true (at 42)) (at 40))))
+with_sum = of_statement (r.declares (named_type (int 32) 24) 0 (at 28) (Some (r.pair op.Add (r.cast (named_type (int 32) 33) (r.number 1 false (at 38)) (at 32)) (r.number 1 true (at 42)) (at 40))))
 
 -- element A { Void f() { Int n = true; } }
 abbrev pub with_value : List r.Class
-with_value = of_statement (r.declares (named (int 32) 24) 0 (at 28) (Some (r.truth true (at 32))))
+with_value = of_statement (r.declares (named_type (int 32) 24) 0 (at 28) (Some (r.truth true (at 32))))
 
 -- element A { Void f() { f(1); } }
 abbrev pub with_call : List r.Class
@@ -41,7 +41,7 @@ with_call = of_statement (r.does (record { place = at 24; steps = Function 0 0 �
 
 -- element A { Void f() { Atom a = Int.instanceof; } }
 abbrev pub with_instance : List r.Class
-with_instance = of_statement (r.declares (named Atom 24) 0 (at 29) (Some (r.instance (named (int 32) 33))))
+with_instance = of_statement (r.declares (named_type Atom 24) 0 (at 29) (Some (r.instance (named_type (int 32) 33))))
 
 -- element A { Void f() { break; } }
 abbrev pub with_break : List r.Class

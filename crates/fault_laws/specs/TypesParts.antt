@@ -17,7 +17,7 @@ use Rattle.ulam_types.specs.declared.scope.Want.TheVariants.{Value}
 use Rattle.ulam_types.specs.Scopes.{Scope, Callee, wants_of}
 use Rattle.ulam_types.specs.Walk.{plain, count}
 use Rattle.ulam_types.specs.Programs.{class_sig, scope_of}
-use Rattle.ulam_types.specs.Typing.{IsTyped, IsLeft}
+use Rattle.ulam_types.specs.Typing.{IsTyped, IsLeftSide}
 use Rattle.fault_laws.specs.TypesRows.{IsElement, IsTakenFrom, IsLocal, Calls}
 
 -- What a rule is about: a function with its result, its name, its parameters and its body; a statement; a condition; a left
@@ -68,7 +68,7 @@ in_a_loop g = record g { looped = true }
 pub record TypedLeft (g : Scope) (l : r.Left) : Type 0 where
   pub left : t.Left
   pub ty : Ty
-  pub is : IsLeft g l left ty
+  pub is : IsLeftSide g l left ty
 
 -- the kind that a plain number takes beside e: Int beside a plain number, else that of the type of e
 abbrev pub IsBeside : Scope → r.Expr → Kind → Type 0

@@ -10,7 +10,8 @@ use Rattle.ulam_tree.specs.Resolved as r
 use Rattle.ulam_names.specs.Faults.{Found}
 use Rattle.ulam_names.specs.declared.basic.Basic.{Basic}
 use Rattle.ulam_names.specs.declared.basic.Basic.TheVariants.{Sized as sized, Whole as whole}
-use Rattle.ulam_names.specs.Scopes.{Text, Head, Context, Entry, Scope, allows, is_named, most_locals, opened, next_name, first_name}
+use Rattle.ulam_names.specs.Scopes.{Text, Head, Context, Entry, Scope, allows, is_named, inner_scope, next_name, first_name}
+use Rattle.ulam_names.specs.declared.limits.TheConstants.{MOST_LOCALS}
 use Rattle.ulam_names.specs.Walk as w
 use Rattle.fault_places.specs.Common.{OfPlace, IfAny, Each}
 use Rattle.fault_places.specs.Faults.{NamesPlace}
@@ -106,7 +107,7 @@ maybe_finds P c es (Some e) h = ends_then (NamesPlace P) _ (IfAny (res.ExprPlace
 
 -- Parts of statements
 
-left_finds : (P : OfPlace) (c : Context) (es : List Entry) (l : t.Left) → raw.LeftPlaces P l → Finds P (res.LeftPlaces P) (w.left c es l)
+left_finds : (P : OfPlace) (c : Context) (es : List Entry) (l : t.Left) → raw.LeftPlaces P l → Finds P (res.LeftPlaces P) (w.left_side c es l)
 left_finds P c es l h =
     ends_then (NamesPlace P) _ (res.LeftPlaces P) (w.path c es l.path) _ (path_finds P c es l.path h.0) (λ q hq.
     ends_then (NamesPlace P) _ (res.LeftPlaces P) (w.maybe_expr c es l.index) _ (maybe_finds P c es l.index h.1) (λ i hi. (hq, hi)))
@@ -117,42 +118,42 @@ cond_finds P c es (t.seen g d) h =
     ends_then (NamesPlace P) _ (res.CondPlaces P) (w.class_named (w.basic_in c) d) _ (class_finds P (w.basic_in c) d h.1) (λ n hn. (hq, hn)))
 cond_finds P c es (t.test e) h = ends_then (NamesPlace P) _ (res.CondPlaces P) (w.expr c es e) _ (expr_finds P c es e h) (λ d hd. hd)
 
-declared_finds : (P : OfPlace) (c : Context) (s : Scope) (n : ℕ) (x : t.Word) → P x.place → Finds P Any (w.declared c s n x)
+declared_finds : (P : OfPlace) (c : Context) (s : Scope) (n : ℕ) (x : t.Word) → P x.place → Finds P Any (w.may_declare c s n x)
 declared_finds P c s n x h =
-    ends_must (NamesPlace P) Any (nat_lt n (c.params + most_locals)) _ _ h
+    ends_must (NamesPlace P) Any (nat_lt n (c.params + MOST_LOCALS)) _ _ h
     (must_ends (NamesPlace P) (not (list_any (is_named x.name) (drop s.from s.entries))) _ h)
 
 -- Statements
 
 mutual
   statement_finds : (P : OfPlace) (c : Context) (s : Scope) (n : ℕ) (f : t.Statement) → raw.StatementPlaces P f → Finds P (res.StatementPlaces P) (w.statement c s n f)
-  statement_finds P c s n (t.block b) h = ends_then (NamesPlace P) _ (res.StatementPlaces P) (w.body c (opened s) n b) _ (body_finds P c (opened s) n b h) (λ a ha. ha)
+  statement_finds P c s n (t.block b) h = ends_then (NamesPlace P) _ (res.StatementPlaces P) (w.body c (inner_scope s) n b) _ (body_finds P c (inner_scope s) n b h) (λ a ha. ha)
   statement_finds P c s n t.empty h = tt
   statement_finds P c s n (t.if_so k f g) h =
       ends_then (NamesPlace P) _ (res.StatementPlaces P) (w.cond c s.entries k) _ (cond_finds P c s.entries k h.0) (λ d hd.
-      let s1 : Scope = opened (w.narrowed c.heads s k (w.shown d)) in
+      let s1 : Scope = inner_scope (w.branch_scope c.heads s k (w.shown_element d)) in
       ends_then (NamesPlace P) _ (res.StatementPlaces P) (w.statement c s1 n f) _ (statement_finds P c s1 n f h.1) (λ a ha.
-      ends_then (NamesPlace P) _ (res.StatementPlaces P) (w.part c (opened s) (n + w.locals_of f) g) _ (part_finds P c (opened s) (n + w.locals_of f) g h.2) (λ b hb. (hd, ha, hb))))
+      ends_then (NamesPlace P) _ (res.StatementPlaces P) (w.part c (inner_scope s) (n + w.locals_of f) g) _ (part_finds P c (inner_scope s) (n + w.locals_of f) g h.2) (λ b hb. (hd, ha, hb))))
   statement_finds P c s n (t.while_so k f) h =
       ends_then (NamesPlace P) _ (res.StatementPlaces P) (w.expr c s.entries k) _ (expr_finds P c s.entries k h.0) (λ d hd.
-      ends_then (NamesPlace P) _ (res.StatementPlaces P) (w.statement c (opened s) n f) _ (statement_finds P c (opened s) n f h.1) (λ a ha. (hd, ha)))
+      ends_then (NamesPlace P) _ (res.StatementPlaces P) (w.statement c (inner_scope s) n f) _ (statement_finds P c (inner_scope s) n f h.1) (λ a ha. (hd, ha)))
   statement_finds P c s n (t.for_all f k g x) h =
-      ends_then (NamesPlace P) _ (res.StatementPlaces P) (w.part c (opened s) n f) _ (part_finds P c (opened s) n f h.0) (λ a ha.
-      let s1 : Scope = w.after_part c.heads (opened s) n f a in
+      ends_then (NamesPlace P) _ (res.StatementPlaces P) (w.part c (inner_scope s) n f) _ (part_finds P c (inner_scope s) n f h.0) (λ a ha.
+      let s1 : Scope = w.after_part c.heads (inner_scope s) n f a in
       ends_then (NamesPlace P) _ (res.StatementPlaces P) (w.maybe_expr c s1.entries k) _ (maybe_finds P c s1.entries k h.1) (λ d hd.
       ends_then (NamesPlace P) _ (res.StatementPlaces P) (w.part c s1 (n + w.locals_part f) g) _ (part_finds P c s1 (n + w.locals_part f) g h.2) (λ b hb.
-      ends_then (NamesPlace P) _ (res.StatementPlaces P) (w.statement c (opened s1) (n + w.locals_part f + w.locals_part g) x) _ (statement_finds P c (opened s1) (n + w.locals_part f + w.locals_part g) x h.3) (λ z hz. (ha, hd, hb, hz)))))
+      ends_then (NamesPlace P) _ (res.StatementPlaces P) (w.statement c (inner_scope s1) (n + w.locals_part f + w.locals_part g) x) _ (statement_finds P c (inner_scope s1) (n + w.locals_part f + w.locals_part g) x h.3) (λ z hz. (ha, hd, hb, hz)))))
   statement_finds P c s n (t.returns p e) h = ends_then (NamesPlace P) _ (res.StatementPlaces P) (w.maybe_expr c s.entries e) _ (maybe_finds P c s.entries e h.1) (λ d hd. (h.0, hd))
   statement_finds P c s n (t.breaks p) h = h
   statement_finds P c s n (t.continues p) h = h
   statement_finds P c s n (t.declares ty x e) h =
       ends_then (NamesPlace P) _ (res.StatementPlaces P) (w.type_in c s.entries ty) _ (type_finds P (w.basic_in c) (w.constant_in c s.entries) ty h.0) (λ m hm.
-      ends_then (NamesPlace P) Any (res.StatementPlaces P) (w.declared c s n x) _ (declared_finds P c s n x h.1) (λ u hu.
+      ends_then (NamesPlace P) Any (res.StatementPlaces P) (w.may_declare c s n x) _ (declared_finds P c s n x h.1) (λ u hu.
       ends_then (NamesPlace P) _ (res.StatementPlaces P) (w.maybe_expr c s.entries e) _ (maybe_finds P c s.entries e h.2) (λ d hd. (hm, h.1, hd))))
   statement_finds P c s n (t.assigns l op e) h =
-      ends_then (NamesPlace P) _ (res.StatementPlaces P) (w.left c s.entries l) _ (left_finds P c s.entries l h.0) (λ m hm.
+      ends_then (NamesPlace P) _ (res.StatementPlaces P) (w.left_side c s.entries l) _ (left_finds P c s.entries l h.0) (λ m hm.
       ends_then (NamesPlace P) _ (res.StatementPlaces P) (w.expr c s.entries e) _ (expr_finds P c s.entries e h.1) (λ d hd. (hm, hd)))
-  statement_finds P c s n (t.counts l up) h = ends_then (NamesPlace P) _ (res.StatementPlaces P) (w.left c s.entries l) _ (left_finds P c s.entries l h) (λ m hm. hm)
+  statement_finds P c s n (t.counts l up) h = ends_then (NamesPlace P) _ (res.StatementPlaces P) (w.left_side c s.entries l) _ (left_finds P c s.entries l h) (λ m hm. hm)
   statement_finds P c s n (t.does p xs) h =
       ends_then (NamesPlace P) _ (res.StatementPlaces P) (w.path c s.entries p) _ (path_finds P c s.entries p h.0) (λ q hq.
       ends_then (NamesPlace P) _ (res.StatementPlaces P) (w.args c s.entries xs) _ (args_find P c s.entries xs h.1) (λ a ha. (hq, ha)))

@@ -3,7 +3,8 @@ use Rattle.std.proofs.Common.{ℕ, ◌+◌, ◌≡◌, List, [], ◌∷◌, leng
 use Rattle.ulam_tree.specs.Raw as t
 use Rattle.ulam_tree.specs.Resolved as r
 use Rattle.ulam_names.specs.Faults.{Fault}
-use Rattle.ulam_names.specs.Scopes.{Names, Head, is_among, names_of, most_classes}
+use Rattle.ulam_names.specs.Scopes.{Names, Head, is_among, names_of}
+use Rattle.ulam_names.specs.declared.limits.TheConstants.{MOST_CLASSES}
 use Rattle.ulam_names.specs.Classes as w
 use Rattle.ulam_names.specs.Classes.{Known, Half, HalfClass, half_field, half_function}
 use Rattle.ulam_names.specs.ClassRelation.{IsResolved}
@@ -21,7 +22,7 @@ use Rattle.fault_places.proofs.Halves.{HalfPlaces, HalfClassPlaces, items_find}
 
 new_class_finds : (P : OfPlace) (done : Known) (c : t.Class) → P c.word.place → Finds P Any (w.new_class done c)
 new_class_finds P done c h =
-    ends_must (NamesPlace P) Any (nat_lt (length done) most_classes) _ _ h
+    ends_must (NamesPlace P) Any (nat_lt (length done) MOST_CLASSES) _ _ h
     (ends_must (NamesPlace P) Any (not (is_among c.word.name (names_of done) || w.is_built_in c.word.name)) _ _ h tt)
 
 names_find : (P : OfPlace) (done : Known) (xs : List t.Item) → raw.FilePlaces P xs → Finds P Any (w.class_names done xs)

@@ -1,7 +1,7 @@
 -- What holds of how a step, or a stage, ends: of the value that it finds, or else of its fault.
 use Rattle.std.proofs.Common.{◌≡◌, sym, Bool, true, false, Option, Some, None, Result, Ok, Err, subst, inl, inr}
 use Rattle.feast_base.specs.Stages.{Stage, and_then, gives}
-use Rattle.ulam_tree.specs.Found.{Found, ◌>>=◌, found, must, fault_of}
+use Rattle.ulam_tree.specs.Found.{Found, ◌>>=◌, value_or_fault, must, fault_of}
 use Rattle.fault_places.specs.Common.{IfAny}
 
 -- F holds of the fault, Q of the value
@@ -17,7 +17,7 @@ pub ends_then : {E A B : Type 0} (F : E → Type 0) (R : A → Type 0) (Q : B �
 ends_then F R Q (Ok a) f h k = k a h
 ends_then F R Q (Err e) f h k = h
 
-pub ends_found : {E A B : Type 0} (F : E → Type 0) (Q : B → Type 0) (o : Option A) (e : E) (f : A → Found E B) → F e → ((a : A) → Ends F Q (f a)) → Ends F Q (found o e >>= f)
+pub ends_found : {E A B : Type 0} (F : E → Type 0) (Q : B → Type 0) (o : Option A) (e : E) (f : A → Found E B) → F e → ((a : A) → Ends F Q (f a)) → Ends F Q (value_or_fault o e >>= f)
 ends_found F Q (Some a) e f h k = k a
 ends_found F Q None e f h k = h
 
@@ -25,7 +25,7 @@ pub ends_must : {E B : Type 0} (F : E → Type 0) (Q : B → Type 0) (b : Bool) 
 ends_must F Q true e f h k = k
 ends_must F Q false e f h k = h
 
-pub found_ends : {E A : Type 0} (F : E → Type 0) (o : Option A) (e : E) → F e → Ends F Any (found o e)
+pub found_ends : {E A : Type 0} (F : E → Type 0) (o : Option A) (e : E) → F e → Ends F Any (value_or_fault o e)
 found_ends F (Some a) e h = tt
 found_ends F None e h = h
 

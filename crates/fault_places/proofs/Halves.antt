@@ -3,7 +3,9 @@ use Rattle.std.proofs.Common.{ℕ, List, [], ◌∷◌, ◌++◌, length, Option
 use Rattle.feast_base.specs.declared.place.Place.{Place}
 use Rattle.ulam_tree.specs.Raw as t
 use Rattle.ulam_tree.specs.Resolved as r
-use Rattle.ulam_names.specs.Scopes.{Text, Names, no_names, declares_name, small_names, is_among, as_number, most_members, most_params}
+use Rattle.ulam_names.specs.Scopes.{Text, Names, no_names, declares_name, small_names, is_among, as_number}
+use Rattle.feast_base.specs.declared.limits.TheConstants.{MOST_PARAMS}
+use Rattle.ulam_names.specs.declared.limits.TheConstants.{MOST_MEMBERS}
 use Rattle.ulam_names.specs.Classes as w
 use Rattle.ulam_names.specs.Classes.{Known, Half, HalfClass, half_field, half_function}
 use Rattle.ulam_names.specs.Walk.{width_value}
@@ -28,7 +30,7 @@ abbrev HalvesPlaces : OfPlace → Names × List Half → Type 0
 HalvesPlaces P x = Each (HalfPlaces P) x.1
 
 new_finds : (P : OfPlace) (d : Names) (n : ℕ) (free : Bool) (x : t.Word) → P x.place → Finds P Any (w.new_name d n free x)
-new_finds P d n free x h = ends_must (NamesPlace P) Any (nat_lt n most_members) _ _ h (must_ends (NamesPlace P) (free && not (declares_name d x.name)) _ h)
+new_finds P d n free x h = ends_must (NamesPlace P) Any (nat_lt n MOST_MEMBERS) _ _ h (must_ends (NamesPlace P) (free && not (declares_name d x.name)) _ h)
 
 value_finds : (P : OfPlace) (d : Names) (k : t.Const) → raw.ConstPlaces P k → Finds P Any (w.const_value d k)
 value_finds P d (t.const_number minus n u) h = tt
@@ -39,14 +41,14 @@ length_finds : (P : OfPlace) (d : Names) (p : Place) (x : Option t.Width) → P 
 length_finds P d p None hp h = tt
 length_finds P d p (Some x) hp h =
     ends_then (NamesPlace P) Any Any (width_value (w.values d) x) _ (width_finds P (w.values d) x h) (λ v hv.
-    ends_must (NamesPlace P) Any (int_le (pos 1) v && int_le v (pos w.longest_array)) _ _ hp tt)
+    ends_must (NamesPlace P) Any (int_le (pos 1) v && int_le v (pos 71)) _ _ hp tt)
 
 params_find : (P : OfPlace) (known : Known) (d : Names) (done : List Text) (ps : List t.Param) → Each (raw.ParamPlaces P) ps → Finds P (Each (res.ParamPlaces P)) (w.params_of known d done ps)
 params_find P known d done [] h = tt
 params_find P known d done (p ∷ ps) h =
     let Q : List r.Param → Type 0 = Each (res.ParamPlaces P) in
     ends_then (NamesPlace P) _ Q (w.member_type known d p.of) _ (type_finds P (w.basics known d) (w.values d) p.of h.0.0) (λ n hn.
-    ends_must (NamesPlace P) Q (nat_lt (length done) most_params) _ _ h.0.1
+    ends_must (NamesPlace P) Q (nat_lt (length done) MOST_PARAMS) _ _ h.0.1
     (ends_must (NamesPlace P) Q (not (is_among p.word.name done)) _ _ h.0.1
     (ends_then (NamesPlace P) _ Q (w.params_of known d (done ++ (p.word.name ∷ [])) ps) _ (params_find P known d (done ++ (p.word.name ∷ [])) ps h.1) (λ more hm.
     ((hn, h.0.1), hm)))))

@@ -3,7 +3,7 @@ use Rattle.std.proofs.Common.{ℕ, ◌≡◌, Bool, true, false, cond, List, [],
 use Rattle.ulam_tree.specs.Resolved.{Class}
 use Rattle.atom_layout.specs.declared.fault.LayoutFault.{LayoutFault}
 use Rattle.atom_layout.specs.declared.fault.LayoutFault.TheVariants as f
-use Rattle.atom_layout.specs.Layouts.{told, total, fault_by, fault_in, first_of, first_wide}
+use Rattle.atom_layout.specs.Layouts.{capped_bits, total, fault_by, fault_in, first_of, first_wide}
 use Rattle.fault_places.specs.Common.{OfPlace, IfAny}
 use Rattle.fault_places.specs.Faults.{LayoutPlace}
 use Rattle.fault_places.specs.Resolved.{ProgramPlaces}
@@ -13,7 +13,7 @@ use Rattle.fault_places.proofs.Lists.{any_or}
 by_placed : (P : OfPlace) (n : ℕ) (c : Class) → P c.word.place → IfAny (LayoutPlace P) (fault_by n c)
 by_placed P n c h = go c.quark (nat_lt 32 n) (nat_lt 71 n)
   where
-    go : (q a b : Bool) → IfAny (LayoutPlace P) (cond q (cond a (Some (f.QuarkTooWide c.word.place (told n))) None) (cond b (Some (f.ElementTooWide c.word.place (told n))) None))
+    go : (q a b : Bool) → IfAny (LayoutPlace P) (cond q (cond a (Some (f.QuarkTooWide c.word.place (capped_bits n))) None) (cond b (Some (f.ElementTooWide c.word.place (capped_bits n))) None))
     go true true b = h
     go true false b = tt
     go false a true = h

@@ -6,7 +6,7 @@ use Rattle.ulam_lex.specs.declared.token.LexFault.{LexFault}
 use Rattle.ulam_lex.specs.declared.token.LexFault.TheVariants as f
 use Rattle.ulam_lex.specs.declared.scan.PieceKind.{PieceKind}
 use Rattle.ulam_lex.specs.declared.scan.PieceKind.TheVariants as piece
-use Rattle.ulam_lex.specs.Texts.{TextPiece, spelled, place_after, token_list, tokens_after, end_token, IsTokensOf, IsBadBehind, IsFaultAt, IsFaultOf}
+use Rattle.ulam_lex.specs.Texts.{TextPiece, bytes_of_pieces, place_after, token_list, tokens_after, end_token, IsTokensOf, IsBadBehind, IsFaultAt, IsFaultOf}
 use Rattle.fault_places.specs.Common.{OfPlace}
 use Rattle.fault_places.specs.Faults.{LexPlace}
 use Rattle.fault_places.specs.Heads.{TokenPlace, TokenPlaces}
@@ -23,19 +23,19 @@ one_placed P piece.Comment first end place h = tt
 one_placed P (piece.Token kind) first end place h = (h, tt)
 
 -- the tokens of pieces after some bytes of the text
-pieces_placed : (P : OfPlace) (file : ℕ) (text before : List ℕ) (ps : List TextPiece) (rest : List ℕ) → HoldsIn P file text → text ≡ before ++ (spelled ps ++ rest) → TokenPlaces P (tokens_after file before ps)
+pieces_placed : (P : OfPlace) (file : ℕ) (text before : List ℕ) (ps : List TextPiece) (rest : List ℕ) → HoldsIn P file text → text ≡ before ++ (bytes_of_pieces ps ++ rest) → TokenPlaces P (tokens_after file before ps)
 pieces_placed P file text before [] rest all split = tt
 pieces_placed P file text before (p ∷ ps) rest all split =
-    let inner : before ++ ((p.bytes ++ spelled ps) ++ rest) ≡ before ++ (p.bytes ++ (spelled ps ++ rest)) = ap (λ (bs : List ℕ). before ++ bs) (append_assoc p.bytes (spelled ps) rest) in
-    let cut : text ≡ before ++ (p.bytes ++ (spelled ps ++ rest)) = split ∙ inner in
+    let inner : before ++ ((p.bytes ++ bytes_of_pieces ps) ++ rest) ≡ before ++ (p.bytes ++ (bytes_of_pieces ps ++ rest)) = ap (λ (bs : List ℕ). before ++ bs) (append_assoc p.bytes (bytes_of_pieces ps) rest) in
+    let cut : text ≡ before ++ (p.bytes ++ (bytes_of_pieces ps ++ rest)) = split ∙ inner in
     each_append (TokenPlace P) (token_list p.kind (length before) (length before + length p.bytes) (place_after file before)) (tokens_after file (before ++ p.bytes) ps)
-    (one_placed P p.kind (length before) (length before + length p.bytes) (place_after file before) (all before (p.bytes ++ (spelled ps ++ rest)) cut))
-    (pieces_placed P file text (before ++ p.bytes) ps rest all (cut_more text before p.bytes (spelled ps ++ rest) cut))
+    (one_placed P p.kind (length before) (length before + length p.bytes) (place_after file before) (all before (p.bytes ++ (bytes_of_pieces ps ++ rest)) cut))
+    (pieces_placed P file text (before ++ p.bytes) ps rest all (cut_more text before p.bytes (bytes_of_pieces ps ++ rest) cut))
 
 pub tokens_placed : (P : OfPlace) (file : ℕ) (text : List ℕ) (ts : List Token) → HoldsIn P file text → IsTokensOf file text ts → TokenPlaces P ts
 tokens_placed P file text ts all h =
     let ps = h.0 in
-    let split : text ≡ [] ++ (spelled ps ++ []) = h.1 ∙ sym (append-nil (spelled ps)) in
+    let split : text ≡ [] ++ (bytes_of_pieces ps ++ []) = h.1 ∙ sym (append-nil (bytes_of_pieces ps)) in
     subst (TokenPlaces P) (sym h.3)
     (each_append (TokenPlace P) (tokens_after file [] ps) (end_token file text ∷ []) (pieces_placed P file text [] ps [] all split) (all text [] (sym (append-nil text)), tt))
 
@@ -56,4 +56,4 @@ fault_at_placed P file text before count rest (f.TooManyTokens place) all split 
 fault_at_placed P file text before count rest f.NoMemory all split h = tt
 
 pub lex_fault_placed : (P : OfPlace) (file : ℕ) (text : List ℕ) (fault : LexFault) → HoldsIn P file text → IsFaultOf file text fault → LexPlace P fault
-lex_fault_placed P file text fault all h = fault_at_placed P file text (spelled h.0) _ h.1 fault all h.2 h.5
+lex_fault_placed P file text fault all h = fault_at_placed P file text (bytes_of_pieces h.0) _ h.1 fault all h.2 h.5

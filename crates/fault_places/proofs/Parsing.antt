@@ -11,7 +11,7 @@ use Rattle.ulam_parse.specs.declared.symbol.Symbol.{Symbol}
 use Rattle.ulam_parse.specs.declared.symbol.Symbol.TheVariants as s
 use Rattle.ulam_parse.specs.Tokens.{Tok, toks, tok_of, place_at}
 use Rattle.ulam_parse.specs.Tables.{level}
-use Rattle.ulam_parse.specs.Grammar.{Span, ◌⟫◌, Here, Never, TakesWord, Takes, TakesAt, TakesNumber, TakesTruth, TakesPrefix, TakesPair, TakesAssign, TakesCount, IsWidth, IsSize, IsType, AreDotted, IsPathOf, IsPath, Within, IsExpr, AreArgs, AreMoreArgs, IsCond, IsIndex, IsLeft, IsMaybe, IsStart, IsSimple, IsDeclare, IsFirst, IsStep, ends_open, IsStatement, IsElse, IsBody, IsParam, AreMoreParams, AreParams, IsConst, IsLength, IsMember, AreMembers, class_symbol, IsClass, IsItem, AreItems, IsFile}
+use Rattle.ulam_parse.specs.Grammar.{Span, ◌⟫◌, Here, Never, TakesWord, Takes, TakesAt, TakesNumber, TakesTruth, TakesPrefix, TakesPair, TakesAssign, TakesCount, IsWidth, IsSize, IsType, AreDotted, IsPathOf, IsPath, Within, IsExpr, AreArgs, AreMoreArgs, IsCond, IsIndex, IsLeftSide, IsMaybe, IsStart, IsSimple, IsDeclare, IsFirst, IsStep, ends_open, IsStatement, IsElse, IsBody, IsParam, AreMoreParams, AreParams, IsConst, IsLength, IsMember, AreMembers, class_symbol, IsClass, IsItem, AreItems, IsFile}
 use Rattle.ulam_parse.specs.Sentences.{IsFaultOf}
 use Rattle.fault_places.specs.Common.{OfPlace, IfAny, Each}
 use Rattle.fault_places.specs.Faults.{ParsePlace}
@@ -135,7 +135,7 @@ index_places : (P : OfPlace) (e : Option Expr) → Carries P (IsIndex e) (IfAny 
 index_places P None = here P
 index_places P (Some e) = carry_map (takes P s.OpenBracket ⋙ expr_places P 1 e ⋙ takes P s.CloseBracket) (λ a. a.1.0)
 
-left_places : (P : OfPlace) (l : Left) → Carries P (IsLeft l) (LeftPlaces P l)
+left_places : (P : OfPlace) (l : Left) → Carries P (IsLeftSide l) (LeftPlaces P l)
 left_places P l = path_places P l.path ⋙ index_places P l.index
 
 maybe_places : (P : OfPlace) (e : Option Expr) → Carries P (IsMaybe e) (IfAny (ExprPlaces P) e)

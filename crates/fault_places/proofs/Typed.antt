@@ -11,7 +11,7 @@ use Rattle.ulam_tree.specs.Resolved as r
 use Rattle.ulam_tree.specs.Typed as t
 use Rattle.ulam_types.specs.Faults.{Fault, Found}
 use Rattle.ulam_types.specs.Scopes.{Scope, ClassSig, in_loop, is_value, target_type}
-use Rattle.ulam_types.specs.Rows.{taken, plain_type, pair_found, is_truth, is_void, assignable}
+use Rattle.ulam_types.specs.Rows.{kind_from, plain_type, pair_found, is_truth, is_void, assignable}
 use Rattle.ulam_types.specs.Walk.{plain, expr, call, item}
 use Rattle.ulam_types.specs.Bodies as b
 use Rattle.ulam_types.specs.Bodies.{atom_slot, is_element_type}
@@ -32,13 +32,13 @@ left_fails P g x (Some e) h he = fails_then P (item g x e) _ (item_fails P g x e
 
 value_fails : (P : OfPlace) (g : Scope) (at : Place) (ty : Ty) → P at → (e : r.Expr) → ExprPlaces P e → Fails P (b.value_for g at ty e)
 value_fails P g at ty h e he =
-    fails_then P (expr g (taken ty) e) _ (expr_fails P g (taken ty) e he) (λ a.
+    fails_then P (expr g (kind_from ty) e) _ (expr_fails P g (kind_from ty) e he) (λ a.
     ends_must (TypesPlace P) Any (assignable g ty (t.ty_of a)) _ _ h tt)
 
-assigned_fails : (P : OfPlace) (g : Scope) (at : Place) (ty : Ty) (op : Option PairOp) (e : r.Expr) → P at → ExprPlaces P e → Fails P (b.assigned g at ty op e)
+assigned_fails : (P : OfPlace) (g : Scope) (at : Place) (ty : Ty) (op : Option PairOp) (e : r.Expr) → P at → ExprPlaces P e → Fails P (b.assigned_value g at ty op e)
 assigned_fails P g at ty None e h he = value_fails P g at ty h e he
 assigned_fails P g at ty (Some op) e h he =
-    fails_then P (expr g (taken ty) e) _ (expr_fails P g (taken ty) e he) (λ a.
+    fails_then P (expr g (kind_from ty) e) _ (expr_fails P g (kind_from ty) e he) (λ a.
     fails_then P (pair_found at op (plain e) ty (t.ty_of a)) _ (pair_fails P at op (plain e) ty (t.ty_of a) h) (λ sum.
     ends_must (TypesPlace P) Any (assignable g ty sum) _ _ h tt))
 
@@ -60,7 +60,7 @@ cond_fails P g (r.test e) h = fails_then P (b.test g e) _ (test_fails P g e h) (
 result_fails : (P : OfPlace) (g : Scope) (at : Place) (e : Option r.Expr) → P at → IfAny (ExprPlaces P) e → Fails P (b.result g at e)
 result_fails P g at None h he = ends_must (TypesPlace P) Any (is_void g.result) _ _ h tt
 result_fails P g at (Some e) h he =
-    fails_then P (expr g (taken g.result) e) _ (expr_fails P g (taken g.result) e he) (λ a.
+    fails_then P (expr g (kind_from g.result) e) _ (expr_fails P g (kind_from g.result) e he) (λ a.
     ends_must (TypesPlace P) Any (not (is_void g.result)) _ _ h
     (ends_must (TypesPlace P) Any (assignable g g.result (t.ty_of a)) _ _ h tt))
 
@@ -92,11 +92,11 @@ mutual
       ends_must (TypesPlace P) Any (is_value g of.ty) _ _ h.0
       (fails_then P (b.maybe (b.value_for g at of.ty) e) _ (maybe_fails P (b.value_for g at of.ty) (value_fails P g at of.ty h.1) e h.2) (λ a. tt))
   statement_fails P g (r.assigns l op e) h =
-      fails_then P (b.left g l) _ (left_fails P g l.path l.index h.0.0 h.0.1) (λ a.
-      fails_then P (b.assigned g l.path.place a.1 op e) _ (assigned_fails P g l.path.place a.1 op e h.0.0 h.1) (λ d. tt))
+      fails_then P (b.left_side g l) _ (left_fails P g l.path l.index h.0.0 h.0.1) (λ a.
+      fails_then P (b.assigned_value g l.path.place a.1 op e) _ (assigned_fails P g l.path.place a.1 op e h.0.0 h.1) (λ d. tt))
   statement_fails P g (r.counts l up) h =
-      fails_then P (b.left g l) _ (left_fails P g l.path l.index h.0 h.1) (λ a.
-      fails_then P (pair_found l.path.place op.Add true a.1 (plain_type (taken a.1))) _ (pair_fails P l.path.place op.Add true a.1 (plain_type (taken a.1)) h.0) (λ sum.
+      fails_then P (b.left_side g l) _ (left_fails P g l.path l.index h.0 h.1) (λ a.
+      fails_then P (pair_found l.path.place op.Add true a.1 (plain_type (kind_from a.1))) _ (pair_fails P l.path.place op.Add true a.1 (plain_type (kind_from a.1)) h.0) (λ sum.
       ends_must (TypesPlace P) Any (assignable g a.1 sum) _ _ h.0 tt))
   statement_fails P g (r.does x es) h = fails_then P (call g x es) _ (call_fails P g x es h.0 h.1) (λ c. tt)
 

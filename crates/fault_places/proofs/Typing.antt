@@ -11,7 +11,7 @@ use Rattle.ulam_tree.specs.Found.{◌>>=◌}
 use Rattle.ulam_types.specs.declared.scope.Want.{Want}
 use Rattle.ulam_types.specs.Faults.{wrong_type, mixed_signs, Found}
 use Rattle.ulam_types.specs.Scopes.{Scope, is_value, value_type, item_type, callee, wants_of}
-use Rattle.ulam_types.specs.Rows.{taken, plain_fits, pair_type, pair_fault, pair_found, takes_signs, are_mixed, class_of, prefix_type, cast_type, is_atom, is_species, is_index, taken_want, all_suit, is_built, misfit}
+use Rattle.ulam_types.specs.Rows.{kind_from, plain_fits, pair_type, pair_fault, pair_found, takes_signs, are_mixed, class_of, prefix_type, cast_type, is_atom, is_species, is_index, taken_want, all_suit, is_built, misfit}
 use Rattle.ulam_types.specs.Walk.{plain, place_of, count, operands, arguments_by, called_by, index_by, expr, args, call, item}
 use Rattle.fault_places.specs.Common.{OfPlace}
 use Rattle.fault_places.specs.Faults.{TypesPlace}
@@ -72,9 +72,9 @@ index_fails P g x read h reading =
     fails_then P read _ reading (λ i. ends_must (TypesPlace P) Any (is_index (t.ty_of i)) _ _ h tt))
 
 operands_fail : (P : OfPlace) (pl pr : Bool) (left right : Kind → Found t.Expr) → ((v : Kind) → Fails P (left v)) → ((v : Kind) → Fails P (right v)) → Fails P (operands pl pr left right)
-operands_fail P true false left right hl hr = fails_then P (right k.Int) _ (hr k.Int) (λ b. fails_then P (left (taken (t.ty_of b))) _ (hl (taken (t.ty_of b))) (λ a. tt))
+operands_fail P true false left right hl hr = fails_then P (right k.Int) _ (hr k.Int) (λ b. fails_then P (left (kind_from (t.ty_of b))) _ (hl (kind_from (t.ty_of b))) (λ a. tt))
 operands_fail P true true left right hl hr = fails_then P (left k.Int) _ (hl k.Int) (λ a. fails_then P (right k.Int) _ (hr k.Int) (λ b. tt))
-operands_fail P false pr left right hl hr = fails_then P (left k.Int) _ (hl k.Int) (λ a. fails_then P (right (taken (t.ty_of a))) _ (hr (taken (t.ty_of a))) (λ b. tt))
+operands_fail P false pr left right hl hr = fails_then P (left k.Int) _ (hl k.Int) (λ a. fails_then P (right (kind_from (t.ty_of a))) _ (hr (kind_from (t.ty_of a))) (λ b. tt))
 
 -- Expressions
 

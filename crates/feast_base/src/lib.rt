@@ -5,6 +5,7 @@
 
 mod file_shelf;
 mod gate;
+mod limits;
 mod mem_shelf;
 mod mem_sink;
 mod memory;
@@ -22,6 +23,9 @@ mod type_name;
 
 pub use file_shelf::{FileShelf, read_whole};
 pub use gate::{ClockGate, Gate, OpenGate, Rest};
+pub use limits::{
+    LAST_STAMP, MOST_ATTEMPTS, MOST_CALLS, MOST_PARAMS, MOST_SITES, MOST_TILES, MOST_TURNS,
+};
 pub use mem_shelf::MemShelf;
 pub use mem_sink::MemSink;
 pub use memory::NoMemory;

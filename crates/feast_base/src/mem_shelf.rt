@@ -29,7 +29,7 @@ impl Model for MemShelf {
 }
 
 /// The bytes of the first file of that name.
-fn found<'a>(files: &'a [Source], name: &str) -> Option<&'a [u8]>
+fn file_of<'a>(files: &'a [Source], name: &str) -> Option<&'a [u8]>
     ensures some { IfSome result (λ bytes. file_of name.now files.now ≡ Some bytes.now) }
     ensures none { IfNone result (file_of name.now files.now ≡ None) }
 {
@@ -92,7 +92,7 @@ impl Shelf for MemShelf {
         if self.fail.contains(&self.calls) {
             return Err(note(self.alloc, &mut self.failed, name));
         }
-        match found(self.files.as_slice(), name) {
+        match file_of(self.files.as_slice(), name) {
             Some(bytes) => append_whole(bytes, limit, into),
             None => Err(note(self.alloc, &mut self.failed, name)),
         }

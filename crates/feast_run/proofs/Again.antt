@@ -17,18 +17,19 @@ use Rattle.feast_run.specs.Again.{IsOwnReport, ReplaysTo, SaysJournal}
 use Rattle.feast_run.specs.Elements.{ElementsValue}
 use Rattle.feast_run.specs.Owing.{IsRun}
 use Rattle.feast_run.specs.Promises.{WorldTold}
-use Rattle.feast_run.specs.Stages.{journal_limit, ready_with}
+use Rattle.feast_run.specs.Stages.{ready_with}
 use Rattle.report_text.proofs.ReadAgain.{read_again}
 use Rattle.report_text.specs.Again.{IsLeft, entries_in}
 use Rattle.report_text.specs.Report.{atoms_text, report, report_value}
 use Rattle.world_runs.proofs.Valid.{read_draft, world_known}
 use Rattle.world_text.specs.Named.{WorldValue}
 use Rattle.world_text.specs.Printed.{IsNamed}
+use Rattle.feast_run.specs.declared.loading.TheConstants.{JOURNAL_LIMIT}
 
 -- a text says this journal, and is no longer than a journal may be
 record IsReadBack (world : WorldValue) (text : List ℕ) (journal : Entries) : Type 0 where
   pub says : SaysJournal world text journal
-  pub within : length text ≤ journal_limit
+  pub within : length text ≤ JOURNAL_LIMIT
 
 -- the report of what a run of a told world left
 read_back : (files : List File) (word : List ℕ) (world : WorldValue) (e : ElementsValue) (grid : GridValue) (records : List Record) (abandoned : List Abandoned) (text : List ℕ) → AreSound e →
@@ -47,7 +48,7 @@ read_back files word world e grid records abandoned text sound told run shown =
     let says = read_again names world.plane world.plan sound.named fits (report_value grid records abandoned) left in
     let short = report_short names world.plane world.plan (formed_short names sound.named) fits grid records abandoned left in
     let reads : SaysJournal world text (entries_in (report_value grid records abandoned)) = ap (λ bytes. entries_said (read_report world.plane world.plan.lists bytes)) shown ∙ says in
-    record { says = reads; within = subst (λ bytes. length bytes ≤ journal_limit) (sym shown) short }
+    record { says = reads; within = subst (λ bytes. length bytes ≤ JOURNAL_LIMIT) (sym shown) short }
 
 pub own_report : (files : List File) (word : List ℕ) (world : WorldValue) (e : ElementsValue) (grid : GridValue) (records : List Record) (abandoned : List Abandoned) (text : List ℕ) → AreSound e →
     WorldTold files word e.names world → IsRun (ready_with world e) grid records abandoned → text ≡ report e.names grid records abandoned → IsOwnReport (ready_with world e) text (entries_in (report_value grid records abandoned))

@@ -9,11 +9,12 @@ use Rattle.report_text.specs.Entries.{Entries}
 use Rattle.feast_run.specs.Again.{SaysJournal}
 use Rattle.feast_run.specs.Audited.{Audits, AuditsYes, audit_of, judged_course}
 use Rattle.feast_run.specs.Owing.{IsRun}
-use Rattle.feast_run.specs.Stages.{ReadyValue, journal_limit}
+use Rattle.feast_run.specs.Stages.{ReadyValue}
 use Rattle.report_text.specs.Report.{report}
 use Rattle.report_judge.specs.Judging.{Judges, NamedCourse, judgement_text, own_report}
 use Rattle.report_judge.specs.declared.judgement.Judgement.{Judgement}
 use Rattle.report_judge.specs.declared.judgement.Judgement.TheVariants.{Yes, NoAccounted, NoStamped, NoExcused, NoAtoms}
+use Rattle.feast_run.specs.declared.loading.TheConstants.{JOURNAL_LIMIT}
 
 -- where the journal owes nothing, and the bytes are the report of the journal, no other judgement is right
 only_yes : (s : NamedCourse) (bytes : List ℕ) (j : Entries) (judgement : Judgement) → OwesNothing s.course.map s.course.plan j.records j.abandoned → bytes ≡ own_report s j → Judges s bytes j judgement → judgement ≡ Yes
@@ -26,7 +27,7 @@ only_yes s bytes j NoAtoms owes own h = absurd (h.1 own)
 -- a text that says this journal, which owes nothing, and that is the report of the journal
 record IsRight (r : ReadyValue) (text : List ℕ) (j : Entries) : Type 0 where
   pub says : SaysJournal r.world text j
-  pub within : length text ≤ journal_limit
+  pub within : length text ≤ JOURNAL_LIMIT
   pub owes : OwesNothing r.world.plane r.world.plan j.records j.abandoned
   pub own : text ≡ own_report (judged_course r) j
 
@@ -48,7 +49,7 @@ only r text j h files word line file audited =
     k.rest.shown ∙ ap judgement_text (only_yes (judged_course r) text j k.rest.judgement h.owes h.own judges)
 
 -- the report of what a run left
-pub audits_yes : (r : ReadyValue) (text : List ℕ) (grid : GridValue) (j : Entries) → SaysJournal r.world text j → length text ≤ journal_limit → IsRun r grid j.records j.abandoned → text ≡ report r.names grid j.records j.abandoned → AuditsYes r text
+pub audits_yes : (r : ReadyValue) (text : List ℕ) (grid : GridValue) (j : Entries) → SaysJournal r.world text j → length text ≤ JOURNAL_LIMIT → IsRun r grid j.records j.abandoned → text ≡ report r.names grid j.records j.abandoned → AuditsYes r text
 audits_yes r text grid j says within run shown =
     let right : IsRight r text j = record {
       says = says;

@@ -11,21 +11,21 @@ use Rattle.feast_run.specs.Stepped.{IsOutcomeOf, IsSteppedRun}
 use Rattle.feast_run.specs.Tellings.{MissesNone, Moves}
 use Rattle.feast_run.specs.declared.halt.Halt.{Halt}
 use Rattle.feast_run.specs.declared.halt.Halt.TheVariants.{Refused, Missing, NoMemory}
-use Rattle.generated_world.specs.Generated.{generated}
+use Rattle.generated_world.specs.Generated.{world_of_number}
 use Rattle.generated_world.specs.Summary.{summary}
 use Rattle.serial_order.specs.declared.outcome.Outcome.{Outcome}
 use Rattle.world_runs.specs.Orders.{IsOrder}
 use Rattle.world_text.specs.Named.{WorldValue}
 
 -- its order is drawn
-pub order_drawn : (number : ℕ) (w : WorldValue) → w ≡ generated number → IsOrder w.plane w.order
+pub order_drawn : (number : ℕ) (w : WorldValue) → w ≡ world_of_number number → IsOrder w.plane w.order
 order_drawn number w e = subst (λ (v : WorldValue). IsOrder v.plane v.order) (sym e) tt
 
-pub is_generated_run : (number : ℕ) (w : WorldValue) (es : ElementsValue) (o : Outcome) → w ≡ generated number → IsOutcomeOf (ready_with w es) o → IsSteppedRun (ready_with (generated number) es)
+pub is_generated_run : (number : ℕ) (w : WorldValue) (es : ElementsValue) (o : Outcome) → w ≡ world_of_number number → IsOutcomeOf (ready_with w es) o → IsSteppedRun (ready_with (world_of_number number) es)
 is_generated_run number w es o e h = subst (λ (v : WorldValue). IsSteppedRun (ready_with v es)) e (is_run (ready_with w es) o h)
 
-pub summary_is : (number : ℕ) (w : WorldValue) (es : ElementsValue) (o : Outcome) → w ≡ generated number → IsOutcomeOf (ready_with w es) o →
-    summary number o.grid (records_in o.journal) (abandoned_in o.journal) ≡ stepped_summary number (ready_with (generated number) es)
+pub summary_is : (number : ℕ) (w : WorldValue) (es : ElementsValue) (o : Outcome) → w ≡ world_of_number number → IsOutcomeOf (ready_with w es) o →
+    summary number o.grid (records_in o.journal) (abandoned_in o.journal) ≡ stepped_summary number (ready_with (world_of_number number) es)
 summary_is number w es o e h =
     let r = ready_with w es in
     let of_world : summary number o.grid (records_in o.journal) (abandoned_in o.journal) ≡ stepped_summary number r =

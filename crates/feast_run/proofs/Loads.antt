@@ -8,24 +8,25 @@ use Rattle.feast_base.specs.Stages.{Stage}
 use Rattle.feast_run.proofs.Telling.{tells_exit, tells_more}
 use Rattle.feast_run.specs.Halting.{HaltValue}
 use Rattle.feast_run.specs.Promises.{AreFiles}
-use Rattle.feast_run.specs.Stages.{element_limit, load, load_all, load_more}
+use Rattle.feast_run.specs.Stages.{load, load_all, load_more}
 use Rattle.feast_run.specs.Tellings.{Tells}
 use Rattle.feast_run.specs.declared.halt.Halt.{Halt}
+use Rattle.feast_run.specs.declared.loading.TheConstants.{ELEMENT_LIMIT}
 
 -- the load of one word more
 pub load_step : (files : Option (List File)) (done done' : List File) (word bytes : List ℕ) (left words : List (List ℕ)) (o : Result (List File) HaltValue) →
-    left ≡ word ∷ words → load files element_limit word (Ok bytes) → done' ≡ done ++ (word, bytes) ∷ [] → load_more files done' words o → load_more files done left o
+    left ≡ word ∷ words → load files ELEMENT_LIMIT word (Ok bytes) → done' ≡ done ++ (word, bytes) ∷ [] → load_more files done' words o → load_more files done left o
 load_step files done done' word bytes left words o e h d rest =
     rw e (inr (record { value = bytes; passed = h; rest = subst (λ (v : List File). load_more files v words o) d rest }))
 
 -- the load of one word went no further, and so do the loads of all
 pub load_exit : {X Y : Type 0} (one : X → List ℕ) (value : Y → List File) (files : Option (List File)) (done : List File)
     (word : List ℕ) (left words : List (List ℕ)) (all : Stage (List File) HaltValue) (halt : Halt) (r : Result Y Halt) →
-    left ≡ word ∷ words → IsErrAnd r (λ e. e ≡ halt) → Tells {X = X} one (load files element_limit word) (Err halt) →
+    left ≡ word ∷ words → IsErrAnd r (λ e. e ≡ halt) → Tells {X = X} one (load files ELEMENT_LIMIT word) (Err halt) →
     ((o : Result (List File) HaltValue) → load_more files done left o → all o) → Tells value all r
 load_exit one value files done word left words all halt r e is h f =
     let rest = λ (bytes : List ℕ). load_more files (done ++ (word, bytes) ∷ []) words in
-    let whole = tells_exit one value (load files element_limit word) rest halt r is h in
+    let whole = tells_exit one value (load files ELEMENT_LIMIT word) rest halt r is h in
     tells_more value (load_more files done left) all f r (rw e whole)
 
 -- files that were loaded after some: the files of the words that were left

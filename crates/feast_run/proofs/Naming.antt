@@ -15,20 +15,21 @@ use Rattle.feast_run.proofs.RefusedWorlds.{AreLined, named_refused, text_lined, 
 use Rattle.feast_run.specs.Answer.{form_answer, replay_of, rewind_of, rewinds}
 use Rattle.feast_run.specs.Audited.{audit_of}
 use Rattle.feast_run.specs.Changes.{Change}
-use Rattle.feast_run.specs.CodeFiles.{code_limit, codes_from, codes_in, ready_packed}
+use Rattle.feast_run.specs.CodeFiles.{codes_from, codes_in, ready_packed}
 use Rattle.feast_run.specs.Elements.{ElementsValue, code_elements, source_elements}
 use Rattle.feast_run.specs.Ending.{Ends, Whole, status_of, status_of_input, text_of}
 use Rattle.feast_run.specs.Forms.{FormValue, check, code, pack, run, step, replay, gen, audit, rewind, steppack, runpack}
 use Rattle.feast_run.specs.Generating.{own_set, summarizes}
-use Rattle.feast_run.specs.Halting.{FormOutcome, HaltValue, RefusedValue, misses, refused, refuses}
+use Rattle.feast_run.specs.Halting.{FormOutcome, HaltValue, RefusedValue, misses, refusal_of, refuses}
 use Rattle.feast_run.specs.Naming.{IsAboutFile, Names, NamesFile, NamesIt, words_at}
 use Rattle.feast_run.specs.Promises.{Gains, IsWordOf}
-use Rattle.feast_run.specs.Stages.{ReadyValue, at_line, builds, draft_of, element_limit, journal_in, journal_limit, journal_of, line_refusal, load, load_more, named_by, ready, ready_by, set_of, whole_file, with_elements, world_limit}
+use Rattle.feast_run.specs.Stages.{ReadyValue, at_line, builds, draft_of, journal_in, journal_of, line_refusal, load, load_more, named_by, ready, ready_by, set_of, whole_file, with_elements}
 use Rattle.feast_run.specs.declared.halt.Input.{Input}
 use Rattle.feast_run.specs.declared.halt.Input.TheVariants as input
 use Rattle.feast_run.specs.declared.status.Status.{Status}
 use Rattle.world_text.specs.Drafts.{DraftValue}
 use Rattle.world_text.specs.Named.{WorldValue}
+use Rattle.feast_run.specs.declared.loading.TheConstants.{CODE_LIMIT, ELEMENT_LIMIT, JOURNAL_LIMIT, WORLD_LIMIT}
 
 -- which words are those of files that may be refused, by what is refused
 abbrev MayName : Type 1
@@ -51,7 +52,7 @@ abbrev IsAtPlace : Input → Type 0
 IsAtPlace input.File = ⊥
 IsAtPlace i = Unit {0}
 
-named_at : (W : MayName) (i : Input) (word : List ℕ) (e : Refusal) → IsAtPlace i → W i word → HasPlace e → IsNamed W (refused i word e)
+named_at : (W : MayName) (i : Input) (word : List ℕ) (e : Refusal) → IsAtPlace i → W i word → HasPlace e → IsNamed W (refusal_of i word e)
 named_at W input.File word e never w h = absurd never
 named_at W input.Elements word e is w h = (w, placed word e h)
 named_at W input.World word e is w h = (w, placed word e h)
@@ -72,13 +73,13 @@ AllMay W i words = (word : List ℕ) → IsWordOf words word → W i word
 loads_named : (W : MayName) (files : Option (List File)) (done : List File) (words : List (List ℕ)) → AllMay W input.File words → AllNamed W (load_more files done words)
 loads_named W files done [] may = λ r h. absurd h
 loads_named W files done (word ∷ words) may =
-    then_named W (load files element_limit word) (λ bytes. load_more files (done ++ (word, bytes) ∷ []) words) (load_named W files element_limit word (may word (inl refl)))
+    then_named W (load files ELEMENT_LIMIT word) (λ bytes. load_more files (done ++ (word, bytes) ∷ []) words) (load_named W files ELEMENT_LIMIT word (may word (inl refl)))
     (λ bytes h. loads_named W files (done ++ (word, bytes) ∷ []) words (λ w is. may w (inr is)))
 
 loads_many : (files : Option (List File)) (done : List File) (words : List (List ℕ)) (sources : List File) → load_more files done words (Ok sources) → length sources ≡ length done + length words
 loads_many files done [] sources h = omega (arith, ap length h)
 loads_many files done (word ∷ words) sources h =
-    let g = went (load files element_limit word) (λ bytes. load_more files (done ++ (word, bytes) ∷ []) words) sources h in
+    let g = went (load files ELEMENT_LIMIT word) (λ bytes. load_more files (done ++ (word, bytes) ∷ []) words) sources h in
     let rest = loads_many files (done ++ (word, g.value) ∷ []) words sources g.rest in
     omega (arith, rest, length-append done ((word, g.value) ∷ []))
 
@@ -106,20 +107,20 @@ codes_in_named W word bytes w = λ r h.
     subst (IsNamed W) (sym is.is) (named_at W input.Codes word is.refusal tt w is.place)
 
 codes_named : (W : MayName) (files : Option (List File)) (word : List ℕ) → W input.File word → W input.Codes word → AllNamed W (codes_from files word)
-codes_named W files word load_may may = then_named W (load files code_limit word) (codes_in word) (load_named W files code_limit word load_may) (λ bytes h. codes_in_named W word bytes may)
+codes_named W files word load_may may = then_named W (load files CODE_LIMIT word) (codes_in word) (load_named W files CODE_LIMIT word load_may) (λ bytes h. codes_in_named W word bytes may)
 
 -- A world
 
-line_named : (W : MayName) (word : List ℕ) (r : RefusedValue) (number line : ℕ) → W input.World word → 3 ≤ number → 1 ≤ line → r ≡ refused input.World word (at_line number line 0) → IsNamed W r
+line_named : (W : MayName) (word : List ℕ) (r : RefusedValue) (number line : ℕ) → W input.World word → 3 ≤ number → 1 ≤ line → r ≡ refusal_of input.World word (at_line number line 0) → IsNamed W r
 line_named W word r number line w shown some is = subst (IsNamed W) (sym is) (named_at W input.World word (at_line number line 0) tt w (line_placed number line 0 shown some))
 
 draft_named : (W : MayName) (files : Option (List File)) (word : List ℕ) → W input.File word → W input.World word → AllNamed W (draft_of files word)
 draft_named W files word load_may may =
-    then_named W (load files world_limit word) _ (load_named W files world_limit word load_may)
+    then_named W (load files WORLD_LIMIT word) _ (load_named W files WORLD_LIMIT word load_may)
     (λ bytes loaded r h. let at = text_refused bytes h.0 h.1 in line_named W word r h.0.0 h.0.1 may at.code at.line h.2)
 
 draft_lined : (files : Option (List File)) (word : List ℕ) (d : DraftValue) → draft_of files word (Ok d) → AreLined d
-draft_lined files word d h = let g = went (load files world_limit word) _ d h in text_lined g.value d g.rest
+draft_lined files word d h = let g = went (load files WORLD_LIMIT word) _ d h in text_lined g.value d g.rest
 
 with_named : {X : Type 0} (W : MayName) (elements : X → ElementsValue) (S : Stage X HaltValue) (word : List ℕ) (d : DraftValue) → AreLined d → W input.World word → AllNamed W S → AllNamed W (with_elements elements S word d)
 with_named W elements S word d lined may all =
@@ -153,14 +154,14 @@ journal_in_named W word world bytes may = λ r h.
 
 journal_named : (W : MayName) (files : Option (List File)) (word : List ℕ) (world : WorldValue) → W input.File word → W input.Journal word → AllNamed W (journal_of files word world)
 journal_named W files word world load_may may =
-    then_named W (load files journal_limit word) (journal_in word world) (load_named W files journal_limit word load_may) (λ bytes h. journal_in_named W word world bytes may)
+    then_named W (load files JOURNAL_LIMIT word) (journal_in word world) (load_named W files JOURNAL_LIMIT word load_may) (λ bytes h. journal_in_named W word world bytes may)
 
 replay_named : (W : MayName) (files : Option (List File)) (word : List ℕ) (r : ReadyValue) → W input.File word → W input.Journal word → AllNamed W (replay_of files word r)
 replay_named W files word r load_may may = then_named W (journal_of files word r.world) _ (journal_named W files word r.world load_may may) (λ j h s never. absurd never)
 
 audit_named : (W : MayName) (files : Option (List File)) (word : List ℕ) (r : ReadyValue) → W input.File word → W input.Journal word → AllNamed W (audit_of files word r)
 audit_named W files word r load_may may =
-    then_named W (load files journal_limit word) _ (load_named W files journal_limit word load_may)
+    then_named W (load files JOURNAL_LIMIT word) _ (load_named W files JOURNAL_LIMIT word load_may)
     (λ bytes h. then_named W (journal_in word r.world bytes) _ (journal_in_named W word r.world bytes may) (λ j is s never. absurd never))
 
 rewind_named : (W : MayName) (files : Option (List File)) (word : List ℕ) (k : ℕ) (r : ReadyValue) → W input.File word → W input.Journal word → AllNamed W (rewind_of files word k r)

@@ -28,14 +28,15 @@ use Rattle.feast_run.specs.Generating.{generates}
 use Rattle.feast_base.specs.Stages.{IsSure, Stage, and_then}
 use Rattle.feast_run.specs.Halting.{Accepts, FormOutcome, HaltValue, IsRefusal, RefusedValue, misses, refuses}
 use Rattle.feast_run.specs.Promises.{Agrees, AuditTold, Complete, Exactly, Gains, GainsLine, GenTold, HasShown, Headline, IsCodeFile, IsDue, IsReadAgain, IsSet, KnownReport, NoneNoted, RanTold, ReplayTold, ReportWords, RewindTold, SetTold, Shows, SteppedTold, UsageExactly, report_words}
-use Rattle.feast_run.specs.Owing.{Reports, reported}
-use Rattle.feast_run.specs.Stages.{ReadyValue, journal_in, journal_limit, load, ready_by, ready_with, set_of, sourced}
+use Rattle.feast_run.specs.Owing.{Reports, entries_of}
+use Rattle.feast_run.specs.Stages.{ReadyValue, journal_in, load, ready_by, ready_with, set_of, ready_of_set}
 use Rattle.feast_run.specs.Stepped.{IsSteppedRun, machine_of, stepped_journal, stepped_logs, stepped_report}
 use Rattle.feast_run.specs.declared.status.Status.{Status}
 use Rattle.feast_run.specs.declared.status.Status.TheVariants as how
 use Rattle.feast_run.specs.declared.halt.Input.{Input}
 use Rattle.feast_run.specs.declared.halt.Input.TheVariants as input
 use Rattle.feast_run.proofs.GeneratedSource.Accepted.{two_names}
+use Rattle.feast_run.specs.declared.loading.TheConstants.{JOURNAL_LIMIT}
 
 -- a form of element files that showed a text, part by part
 set_told : (text : SetValue → List ℕ) (files : List File) (words : List (List ℕ)) (appended : List ℕ) → and_then (set_of (Some files) words) (shows text) (Ok appended) → SetTold text files words appended
@@ -91,7 +92,7 @@ stepped_told elements S IsTold files world text are h =
 
 -- a world with the elements of a set, and the journal that its report says
 abbrev report_known : (files : List File) (words : ReportWords) (r : ReadyValue) (s : ReadyTold source_elements (set_of (Some files) words.elements) files words.world r) (bytes : List ℕ) (journal : Entries) →
-    load (Some files) journal_limit words.report (Ok bytes) → journal_in words.report s.world bytes (Ok journal) → KnownReport files words
+    load (Some files) JOURNAL_LIMIT words.report (Ok bytes) → journal_in words.report s.world bytes (Ok journal) → KnownReport files words
 report_known files words r s bytes journal loaded read = record {
   world = s.world;
   set = s.given;
@@ -153,7 +154,7 @@ shows_of files (runpack world file) text h = ran_told code_elements (codes_from 
 
 -- the bytes of a run are its own report
 ran_again : {X : Type 0} (elements : X → ElementsValue) (IsTold : X → Type 0) (files : List File) (world text : List ℕ) → ((x : X) → IsTold x → AreSound (elements x)) → (told : RanTold elements IsTold files world text) →
-    IsOwnReport (ready_with told.world (elements told.given)) text (reported told.reports)
+    IsOwnReport (ready_with told.world (elements told.given)) text (entries_of told.reports)
 ran_again elements IsTold files world text sound told =
     let run = told.reports in
     own_report files world told.world (elements told.given) run.grid run.records run.abandoned text (sound told.given told.is_told) told.told_world run.run run.shown
@@ -173,10 +174,10 @@ again_of files (pack words) text told = tt
 again_of files (run world words) text told =
     let own = ran_again source_elements (IsSet files words) files world text (set_sound files words) told in
     let audited = audited_later files world words text told.world told.given told.is_told told.told_world own.audited in
-    (own, audited, rewound_later files world words text told.world told.given (reported told.reports) told.is_told told.told_world own.rewound)
+    (own, audited, rewound_later files world words text told.world told.given (entries_of told.reports) told.is_told told.told_world own.rewound)
 again_of files (step world words) text told =
     let own = stepped_again source_elements (IsSet files words) files world text (set_sound files words) told in
-    let journal = stepped_journal (sourced told.world told.given) in
+    let journal = stepped_journal (ready_of_set told.world told.given) in
     let audited = audited_later files world words text told.world told.given told.is_told told.told_world own.audited in
     (own, audited, rewound_later files world words text told.world told.given journal told.is_told told.told_world own.rewound)
 again_of files (replay world journal words) text told = tt

@@ -21,9 +21,9 @@ use Rattle.fault_places.proofs.Ends.{Any, StageEnds, stage_then, gives_ends}
 use Rattle.fault_places.proofs.Standing.{stands_numbered}
 use Rattle.element_set.proofs.Standing.{refused_stands}
 use Rattle.element_set.specs.declared.fault.BuildFault.TheVariants.{Refused}
-use Rattle.element_set.specs.Faults.{refusal, counted, lex_fault, parse_fault, heirs_fault, name_refusal, layout_fault, type_refusal}
+use Rattle.element_set.specs.Faults.{refusal, refusal_with_value, lex_fault, parse_fault, heirs_fault, name_refusal, layout_fault, type_refusal}
 use Rattle.element_set.specs.Sets.{RefusesFiles}
-use Rattle.element_set.specs.Stages.{lexed, Tree, parsed, tree_of, Trees, no_trees, with_tree, more_trees, flat, named, laid, typed, coded, typed_set, laid_set, named_set, flat_set, set_of}
+use Rattle.element_set.specs.Stages.{lex_stage, Tree, parse_stage, tree_of, Trees, no_trees, with_tree, more_trees, flat, name_stage, layout_stage, type_stage, limit_stage, typed_set, laid_set, named_set, flat_set, set_of}
 use Rattle.element_set.specs.Value.{SetValue}
 use Rattle.feast_run.proofs.Placed.{HasPlace}
 
@@ -62,8 +62,8 @@ name_shown (too_many at) = omega arith
 name_shown (bad_width at) = omega arith
 
 layout_shown : (f : LayoutFault) (e : Refusal) → layout_fault f ≡ Refused e → IsShown e
-layout_shown (l.QuarkTooWide at bits) e is = shown_as (counted 40 at bits) e is (omega arith)
-layout_shown (l.ElementTooWide at bits) e is = shown_as (counted 41 at bits) e is (omega arith)
+layout_shown (l.QuarkTooWide at bits) e is = shown_as (refusal_with_value 40 at bits) e is (omega arith)
+layout_shown (l.ElementTooWide at bits) e is = shown_as (refusal_with_value 41 at bits) e is (omega arith)
 layout_shown l.NoMemory e is = cc
 
 type_shown : (f : y.Fault) → IsShown (type_refusal f)
@@ -77,16 +77,16 @@ type_shown (missing_return at) = omega arith
 
 -- Stage by stage
 
-lexed_shown : (file : ℕ) (bytes : List ℕ) → StageEnds IsShown Any (lexed file bytes)
+lexed_shown : (file : ℕ) (bytes : List ℕ) → StageEnds IsShown Any (lex_stage file bytes)
 lexed_shown file bytes (Ok ts) k = tt
 lexed_shown file bytes (Err e) k = lex_shown k.0 e k.2
 
-parsed_shown : (bytes : List ℕ) (ts : List Token) → StageEnds IsShown Any (parsed bytes ts)
+parsed_shown : (bytes : List ℕ) (ts : List Token) → StageEnds IsShown Any (parse_stage bytes ts)
 parsed_shown bytes ts (Ok tree) k = tt
 parsed_shown bytes ts (Err e) k = parse_shown k.0 e k.2
 
 tree_shown : (file : ℕ) (bytes : List ℕ) → StageEnds IsShown Any (tree_of file bytes)
-tree_shown file bytes = stage_then IsShown Any Any (lexed file bytes) (parsed bytes) (lexed_shown file bytes) (λ ts any. parsed_shown bytes ts)
+tree_shown file bytes = stage_then IsShown Any Any (lex_stage file bytes) (parse_stage bytes) (lexed_shown file bytes) (λ ts any. parsed_shown bytes ts)
 
 trees_shown : (done : Trees) (files : List File) → StageEnds IsShown Any (more_trees done files)
 trees_shown done [] = gives_ends IsShown Any done tt
@@ -98,32 +98,32 @@ flat_shown : (trees : Trees) → StageEnds IsShown Any (flat trees)
 flat_shown trees (Ok xs) k = tt
 flat_shown trees (Err e) k = heirs_shown k.0 e k.2
 
-named_shown : (xs : List Item) → StageEnds IsShown Any (named xs)
+named_shown : (xs : List Item) → StageEnds IsShown Any (name_stage xs)
 named_shown xs (Ok cs) k = tt
 named_shown xs (Err e) k = subst IsShown (sym k.2) (name_shown k.0)
 
-laid_shown : (cs : List r.Class) → StageEnds IsShown Any (laid cs)
+laid_shown : (cs : List r.Class) → StageEnds IsShown Any (layout_stage cs)
 laid_shown cs (Ok layout) k = tt
 laid_shown cs (Err e) k = layout_shown k.0 e k.2
 
-typed_shown : (cs : List r.Class) → StageEnds IsShown Any (typed cs)
+typed_shown : (cs : List r.Class) → StageEnds IsShown Any (type_stage cs)
 typed_shown cs (Ok us) k = tt
 typed_shown cs (Err e) k = subst IsShown (sym k.2) (type_shown k.0)
 
-coded_shown : (s : SetValue) → StageEnds IsShown Any (coded s)
+coded_shown : (s : SetValue) → StageEnds IsShown Any (limit_stage s)
 coded_shown s (Ok u) k = tt
 coded_shown s (Err e) k = let is = ap (λ (v : Refusal). v.code) k.2 in omega (arith, is)
 
 -- All stages
 
 typed_set_shown : (cs : List r.Class) (layout : List (List ℕ)) → StageEnds IsShown Any (typed_set cs layout)
-typed_set_shown cs layout = stage_then IsShown Any Any (typed cs) _ (typed_shown cs) (λ us any. coded_shown (record { classes = us; layout = layout }))
+typed_set_shown cs layout = stage_then IsShown Any Any (type_stage cs) _ (typed_shown cs) (λ us any. coded_shown (record { classes = us; layout = layout }))
 
 laid_set_shown : (cs : List r.Class) → StageEnds IsShown Any (laid_set cs)
-laid_set_shown cs = stage_then IsShown Any Any (laid cs) (typed_set cs) (laid_shown cs) (λ layout any. typed_set_shown cs layout)
+laid_set_shown cs = stage_then IsShown Any Any (layout_stage cs) (typed_set cs) (laid_shown cs) (λ layout any. typed_set_shown cs layout)
 
 named_set_shown : (xs : List Item) → StageEnds IsShown Any (named_set xs)
-named_set_shown xs = stage_then IsShown Any Any (named xs) laid_set (named_shown xs) (λ cs any. laid_set_shown cs)
+named_set_shown xs = stage_then IsShown Any Any (name_stage xs) laid_set (named_shown xs) (λ cs any. laid_set_shown cs)
 
 flat_set_shown : (trees : Trees) → StageEnds IsShown Any (flat_set trees)
 flat_set_shown trees = stage_then IsShown Any Any (flat trees) named_set (flat_shown trees) (λ xs any. named_set_shown xs)

@@ -1,7 +1,7 @@
 -- The fault of a journal has a line, and that of a code file a byte.
 use Rattle.std.proofs.Common.{ℕ, ◌≡◌, ◌≤◌, ◌+◌, ◌++◌, Bool, true, false, List, [], ◌∷◌, Option, Result, Ok, Err, refl, subst, arith, if◌then◌else◌}
 use Rattle.code_file.specs.Form.{CodesValue, names_of}
-use Rattle.code_file.specs.Judging.{Reads, column_behind, is_among, judged}
+use Rattle.code_file.specs.Judging.{Reads, column_behind, is_among, right_elements}
 use Rattle.code_file.specs.declared.fault.CodeFault.{CodeFault}
 use Rattle.code_file.specs.declared.fault.CodeFault.TheVariants.{BadMagic, BadForm, NotValid, SameName, NoMemory}
 use Rattle.draw_stream.specs.declared.attempt.Attempt.{Attempt}
@@ -11,7 +11,7 @@ use Rattle.report_text.specs.declared.journal_fault.LineFault.TheVariants.{BadFo
 use Rattle.feast_base.specs.declared.place.Refusal.{Refusal}
 use Rattle.feast_run.proofs.Placed.{HasPlace, byte_placed, line_placed}
 use Rattle.feast_run.specs.CodeFiles.{IsCodeRefused, at_byte}
-use Rattle.feast_run.specs.Halting.{RefusedValue, refused}
+use Rattle.feast_run.specs.Halting.{RefusedValue, refusal_of}
 use Rattle.feast_run.specs.Stages.{line_refusal}
 use Rattle.feast_run.specs.declared.halt.Input.TheVariants as input
 use Rattle.stack_code.specs.Valid.{valid}
@@ -64,11 +64,11 @@ IsFrom fault = Unit {0}
 abbrev fails : CodeFault → Result CodesValue CodeFault
 fails fault = Err fault
 
-judged_from : (done es : CodesValue) (f : CodeFault) → judged done es ≡ Err f → IsFrom f
+judged_from : (done es : CodesValue) (f : CodeFault) → right_elements done es ≡ Err f → IsFrom f
 judged_from done [] f h = cc
 judged_from done (e ∷ es) f h = by (is_among e.name (names_of done)) (valid e.code) h (λ g. judged_from (done ++ e ∷ []) es f g)
   where
-    by : (a b : Bool) → (if a then fails (SameName (column_behind done)) else (if b then judged (done ++ e ∷ []) es else fails (NotValid (column_behind done)))) ≡ Err f → (judged (done ++ e ∷ []) es ≡ Err f → IsFrom f) → IsFrom f
+    by : (a b : Bool) → (if a then fails (SameName (column_behind done)) else (if b then right_elements (done ++ e ∷ []) es else fails (NotValid (column_behind done)))) ≡ Err f → (right_elements (done ++ e ∷ []) es ≡ Err f → IsFrom f) → IsFrom f
     by true b g rest = let same : SameName (column_behind done) ≡ f = cc in subst IsFrom same (omega arith)
     by false true g rest = rest g
     by false false g rest = let same : NotValid (column_behind done) ≡ f = cc in subst IsFrom same (omega arith)
@@ -76,10 +76,10 @@ judged_from done (e ∷ es) f h = by (is_among e.name (names_of done)) (valid e.
 -- a refusal of a code file at a byte
 pub record IsCodesRefused (word : List ℕ) (r : RefusedValue) : Type 0 where
   pub refusal : Refusal
-  pub is : r ≡ refused input.Codes word refusal
+  pub is : r ≡ refusal_of input.Codes word refusal
   pub place : HasPlace refusal
 
-at_column : (word : List ℕ) (code column : ℕ) (r : RefusedValue) → 3 ≤ code → 1 ≤ column → r ≡ refused input.Codes word (at_byte code column) → IsCodesRefused word r
+at_column : (word : List ℕ) (code column : ℕ) (r : RefusedValue) → 3 ≤ code → 1 ≤ column → r ≡ refusal_of input.Codes word (at_byte code column) → IsCodesRefused word r
 at_column word code column r shown some is = record { refusal = at_byte code column; is = is; place = byte_placed code column shown some }
 
 pub codes_refused : (word bytes : List ℕ) (fault : CodeFault) (r : RefusedValue) → Reads bytes (Err fault) → IsCodeRefused word fault r → IsCodesRefused word r

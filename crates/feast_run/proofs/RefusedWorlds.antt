@@ -5,10 +5,10 @@ use Rattle.std.specs.List.{list_any}
 use Rattle.std.specs.Prelude.{◌==◌}
 use Rattle.std.proofs.lemmas.List.Elements.{All-append, All-cons, All-head, All-nil, All-tail}
 use Rattle.text_lines.specs.Lines.{is_skipped, lines}
-use Rattle.world_text.specs.Drafts.{DraftValue, in_range, kind_of, may_follow, misplaced, missing, nothing_said, put, raw_atom, step, too_many}
+use Rattle.world_text.specs.Drafts.{DraftValue, in_range, kind_of, may_follow, misplaced_code, missing, nothing_said, put, raw_atom, step, too_many}
 use Rattle.world_text.specs.Forms.{line_of}
 use Rattle.world_text.specs.Line.{Line, header, tiles, size, off, seed, attempts, try, atom, order_seed, order}
-use Rattle.world_text.specs.Named.{atom_place, name_fault, named, type_of, unless, world_of}
+use Rattle.world_text.specs.Named.{atom_place, name_fault, world_with_names, type_of, unless, world_of}
 use Rattle.world_text.specs.Reading.{go_on, line_step, over, read_lines, read_text}
 use Rattle.world_text.specs.declared.draft.RawAtom.{RawAtom}
 use Rattle.world_text.specs.declared.kind.Kind.{Kind}
@@ -24,7 +24,7 @@ lined_as code line f is shown some = subst IsLined is (record { code = shown; li
 
 -- The codes of lines
 
-misplaced_shown : (k : Kind) → 3 ≤ misplaced k
+misplaced_shown : (k : Kind) → 3 ≤ misplaced_code k
 misplaced_shown Start = omega arith
 misplaced_shown Header = omega arith
 misplaced_shown Tiles = omega arith
@@ -62,11 +62,11 @@ refused_as a code is shown = let same : a ≡ code = cc in omega (arith, same, s
 
 step_shown : (n : ℕ) (d : DraftValue) (o : Option Line) (code : ℕ) → step n d o ≡ Err code → 3 ≤ code
 unfolding step
-step_shown n d None code h = refused_as (misplaced d.last) code h (misplaced_shown d.last)
+step_shown n d None code h = refused_as (misplaced_code d.last) code h (misplaced_shown d.last)
 step_shown n d (Some l) code h = by (may_follow d.second d.last (kind_of l)) (in_range d.plane l) (too_many d l) h
   where
-    by : (a b c : Bool) → (if not a then refused (misplaced d.last) else (if not b then refused 72 else (if c then refused 75 else Ok (put n d l)))) ≡ Err code → 3 ≤ code
-    by false b c h = refused_as (misplaced d.last) code h (misplaced_shown d.last)
+    by : (a b c : Bool) → (if not a then refused (misplaced_code d.last) else (if not b then refused 72 else (if c then refused 75 else Ok (put n d l)))) ≡ Err code → 3 ≤ code
+    by false b c h = refused_as (misplaced_code d.last) code h (misplaced_shown d.last)
     by true false c h = refused_as 72 code h (omega arith)
     by true true true h = refused_as 75 code h (omega arith)
     by true true false h = cc
@@ -105,7 +105,7 @@ unfolding step
 step_lined n d e None some k h = cc
 step_lined n d e (Some l) some k h = by (may_follow d.second d.last (kind_of l)) (in_range d.plane l) (too_many d l) h
   where
-    by : (a b c : Bool) → (if not a then refused (misplaced d.last) else (if not b then refused 72 else (if c then refused 75 else Ok (put n d l)))) ≡ Ok e → AreLined e
+    by : (a b c : Bool) → (if not a then refused (misplaced_code d.last) else (if not b then refused 72 else (if c then refused 75 else Ok (put n d l)))) ≡ Ok e → AreLined e
     by false b c h = cc
     by true false c h = cc
     by true true true h = cc
@@ -169,7 +169,7 @@ name_refused names width before (a ∷ more) f k h =
     by true true h rest = let same : (74, a.line) ≡ f = cc in lined_as 74 a.line f same (omega arith) (All-head HasLine a more k)
     by true false h rest = rest h
 
-pub named_refused : (names : List (List ℕ)) (d : DraftValue) (f : ℕ × ℕ) → AreLined d → named names d ≡ Err f → IsLined f
+pub named_refused : (names : List (List ℕ)) (d : DraftValue) (f : ℕ × ℕ) → AreLined d → world_with_names names d ≡ Err f → IsLined f
 named_refused names d f k h = on (name_fault names (d.plane.tx * d.plane.w) [] d.atoms) refl h
   where
     on : (o : Option (ℕ × ℕ)) → name_fault names (d.plane.tx * d.plane.w) [] d.atoms ≡ o → unless (world_of names d) o ≡ Err f → IsLined f

@@ -22,18 +22,19 @@ use Rattle.event_journal.specs.declared.abandoned.Abandoned.{Abandoned}
 use Rattle.report_text.specs.JournalText.{abandoned_fields, abandoned_lines, count_fields, record_fields, record_lines}
 use Rattle.report_text.proofs.WrittenLines.{long_number, short_number}
 use Rattle.feast_base.specs.Digits.{hex}
-use Rattle.feast_base.specs.TypeNames.{is_type_name, is_word_byte, longest_name, name_of}
-use Rattle.feast_run.specs.Stages.{journal_limit}
+use Rattle.feast_base.specs.TypeNames.{is_type_name, is_word_byte, name_of}
+use Rattle.feast_base.specs.declared.type_name.TheConstants.{LONGEST_NAME}
 use Rattle.text_lines.specs.Lines.{ended_line, more_text, text_of}
 use Rattle.tile_map.specs.Plane.{MapValue}
 use Rattle.report_text.proofs.Bounds.{abandoned_small, events_few, given_up_few, records_small}
 use Rattle.report_text.specs.ReportForm.{IsSmallAbandoned, IsSmallRecord}
 use Rattle.report_text.specs.Again.{AreFormed, IsLeft, IsDrawablePlan}
-use Rattle.report_text.specs.Report.{Shown, atom_fields, atom_lines, report, report_lines, report_value, shown, shown_at, shown_from}
+use Rattle.report_text.specs.Report.{Shown, atom_fields, atom_lines, report, report_lines, report_value, shown_atoms, shown_at, shown_from}
+use Rattle.feast_run.specs.declared.loading.TheConstants.{JOURNAL_LIMIT}
 
 -- names that are no longer than names are
 abbrev pub AreShort : List (List ℕ) → Type 0
-AreShort names = All (λ n. length n ≤ longest_name) names
+AreShort names = All (λ n. length n ≤ LONGEST_NAME) names
 
 -- such are the names of types
 pub formed_short : (names : List (List ℕ)) → AreFormed names → AreShort names
@@ -42,10 +43,10 @@ formed_short names formed = λ k d lt. one (get_or names k d) (formed k d lt)
     le_of : (a b : ℕ) → nat_le a b ≡ true → a ≤ b
     le_of a b h = grind arith
 
-    one : (name : List ℕ) → is_type_name name ≡ true → length name ≤ longest_name
+    one : (name : List ℕ) → is_type_name name ≡ true → length name ≤ LONGEST_NAME
     one [] h = omega arith
     one (b ∷ bs) h =
-        let long = le_of (length bs + 1) longest_name (both (is_ascii_uppercase b && list_all is_word_byte bs) (nat_le (length bs + 1) longest_name) h).1 in
+        let long = le_of (length bs + 1) LONGEST_NAME (both (is_ascii_uppercase b && list_all is_word_byte bs) (nat_le (length bs + 1) LONGEST_NAME) h).1 in
         omega (arith, long)
 
 -- the bytes of some fields, with one more for each
@@ -101,7 +102,7 @@ abandoned_low a p =
 
 name_low : (names : List (List ℕ)) (kind : ℕ) → AreShort names → length (name_of names kind) ≤ 255
 name_low names kind short = elim (cases_lt (kind - 1) (length names)) [
-  | inl inside ↦ All-get_or (λ n. length n ≤ longest_name) names (kind - 1) [] inside short
+  | inl inside ↦ All-get_or (λ n. length n ≤ LONGEST_NAME) names (kind - 1) [] inside short
   | inr past ↦ (let none = ap length (get_or-eq_default names [] {n = kind - 1} past) in omega (arith, none))
 ]
 
@@ -155,7 +156,7 @@ counted_low word f k most xs short all few low =
 
 -- a report of few lines with small numbers
 report_low : (names : List (List ℕ)) (ss : List Shown) (rs : List Record) (gs : List Abandoned) → All (IsLowAtom names) ss → All IsSmallRecord rs → All IsSmallAbandoned gs → length ss ≤ 262144 → length rs ≤ 1000000 → length gs ≤ 1000000 →
-    length (text_of (report_lines names ss rs gs)) ≤ journal_limit
+    length (text_of (report_lines names ss rs gs)) ≤ JOURNAL_LIMIT
 report_low names ss rs gs atoms records abandoned few_atoms few_records few_abandoned =
     let first = counted_low (codes "atoms") (atom_fields names) 297 262144 ss (omega arith) atoms few_atoms (omega arith) in
     let second = counted_low (codes "journal") record_fields 82 1000000 rs (omega arith) (λ k d lt. record_low _ (records k d lt)) few_records (omega arith) in
@@ -168,7 +169,7 @@ report_low names ss rs gs atoms records abandoned few_atoms few_records few_aban
     omega (arith, first, second, third, header, whole, front, back)
 
 -- the report of what a run of a plan left
-pub report_short : (names : List (List ℕ)) (m : MapValue) (plan : PlanValue) → AreShort names → IsDrawablePlan m plan → (g : GridValue) (rs : List Record) (gs : List Abandoned) → IsLeft names m plan (report_value g rs gs) → length (report names g rs gs) ≤ journal_limit
+pub report_short : (names : List (List ℕ)) (m : MapValue) (plan : PlanValue) → AreShort names → IsDrawablePlan m plan → (g : GridValue) (rs : List Record) (gs : List Abandoned) → IsLeft names m plan (report_value g rs gs) → length (report names g rs gs) ≤ JOURNAL_LIMIT
 report_short names m plan short p g rs gs left =
     let plane = plane_low m p.map in
     let wide = left.wide in
@@ -177,4 +178,4 @@ report_short names m plan short p g rs gs left =
     let few = atoms.few in
     let records = records_small m plan p rs gs left.owes.accounted left.owes.stamped in
     let abandoned = abandoned_small m plan p rs gs left.owes.accounted left.owes.excused in
-    report_low names (shown g) rs gs atoms.each records abandoned (omega (arith, few, sites, plane.1)) (events_few m plan p rs gs left.owes.accounted) (given_up_few m plan p rs gs left.owes.accounted)
+    report_low names (shown_atoms g) rs gs atoms.each records abandoned (omega (arith, few, sites, plane.1)) (events_few m plan p rs gs left.owes.accounted) (given_up_few m plan p rs gs left.owes.accounted)

@@ -11,8 +11,9 @@ use Rattle.feast_run.proofs.Sure.{sources_one}
 use Rattle.feast_run.specs.Again.{RewindsTo, SaysJournal}
 use Rattle.feast_run.specs.Answer.{AreFirstAtoms, rewind_of}
 use Rattle.feast_run.specs.Promises.{IsRewoundLater, IsSet, RewindTold, WorldTold, report_words}
-use Rattle.feast_run.specs.Stages.{ReadyValue, journal_limit, ready, sourced}
+use Rattle.feast_run.specs.Stages.{ReadyValue, ready, ready_of_set}
 use Rattle.world_text.specs.Named.{WorldValue}
+use Rattle.feast_run.specs.declared.loading.TheConstants.{JOURNAL_LIMIT}
 
 only : (r : ReadyValue) (text : List ℕ) (j : Entries) → SaysJournal r.world text j → (files : List File) (word : List ℕ) (k : ℕ) (atoms : List ℕ) → file_of word files ≡ Some text → rewind_of (Some files) word k r (Ok atoms) → AreFirstAtoms r j k atoms
 only r text j says files word k atoms file h =
@@ -25,27 +26,27 @@ only r text j says files word k atoms file h =
     subst (λ (v : Entries). AreFirstAtoms r v k atoms) journal g.rest
 
 -- a text that says this journal, and is no longer than a journal may be
-pub rewinds_to : (r : ReadyValue) (text : List ℕ) (j : Entries) → SaysJournal r.world text j → length text ≤ journal_limit → RewindsTo r text j
+pub rewinds_to : (r : ReadyValue) (text : List ℕ) (j : Entries) → SaysJournal r.world text j → length text ≤ JOURNAL_LIMIT → RewindsTo r text j
 rewinds_to r text j says within = record {
   comes = λ files word k atoms file right. inr (record { value = j; passed = inr (record { value = text; passed = (file, within); rest = says }); rest = right });
   only = only r text j says;
 }
 
 -- a told rewind is of the same world with the same set
-same_rewind : (files : List File) (world report : List ℕ) (words : List (List ℕ)) (w : WorldValue) (set : SetValue) (k : ℕ) (atoms : List ℕ) → ready (Some files) world words (Ok (sourced w set)) → RewindTold files (report_words world report words) k atoms →
-    rewind_of (Some files) report k (sourced w set) (Ok atoms)
+same_rewind : (files : List File) (world report : List ℕ) (words : List (List ℕ)) (w : WorldValue) (set : SetValue) (k : ℕ) (atoms : List ℕ) → ready (Some files) world words (Ok (ready_of_set w set)) → RewindTold files (report_words world report words) k atoms →
+    rewind_of (Some files) report k (ready_of_set w set) (Ok atoms)
 same_rewind files world report words w set k atoms passed h =
     let n = h.known in
     let goes : Goes (ready (Some files) world words) (rewind_of (Some files) report k) (Ok atoms) = record {
-      value = sourced n.world n.set;
+      value = ready_of_set n.world n.set;
       passed = passes files world words n.world n.set n.told_world n.is_set;
       rest = inr (record { value = n.journal; passed = inr (record { value = n.bytes; passed = (n.told_report.file, n.told_report.within); rest = n.told_report.reads }); rest = (h.enough, h.shown) });
     } in
-    goes_at _ _ (sources_one files world words) (sourced w set) passed (Ok atoms) goes
+    goes_at _ _ (sources_one files world words) (ready_of_set w set) passed (Ok atoms) goes
 
-pub rewound_later : (files : List File) (world : List ℕ) (words : List (List ℕ)) (text : List ℕ) (w : WorldValue) (set : SetValue) (j : Entries) → IsSet files words set → WorldTold files world (element_names set) w → RewindsTo (sourced w set) text j →
-    IsRewoundLater files world words text (AreFirstAtoms (sourced w set) j)
+pub rewound_later : (files : List File) (world : List ℕ) (words : List (List ℕ)) (text : List ℕ) (w : WorldValue) (set : SetValue) (j : Entries) → IsSet files words set → WorldTold files world (element_names set) w → RewindsTo (ready_of_set w set) text j →
+    IsRewoundLater files world words text (AreFirstAtoms (ready_of_set w set) j)
 rewound_later files world words text w set j is_set told rewinds = record {
-  comes = λ later k atoms right. inr (record { value = sourced w set; passed = passes_later files world words text w set is_set told later; rest = rewinds.comes later.others later.report k atoms later.report_is right });
+  comes = λ later k atoms right. inr (record { value = ready_of_set w set; passed = passes_later files world words text w set is_set told later; rest = rewinds.comes later.others later.report k atoms later.report_is right });
   only = λ later k atoms h. rewinds.only later.others later.report k atoms later.report_is (same_rewind later.others world later.report words w set k atoms (passes_later files world words text w set is_set told later) h);
 }

@@ -22,7 +22,7 @@ use Rattle.feast_base.specs.Stages.{Stage}
 use Rattle.feast_run.specs.Halting.{HaltValue, RefusedValue, decides}
 use Rattle.feast_run.specs.Owing.{Reports}
 use Rattle.feast_run.specs.Promises.{IsSet, WorldTold}
-use Rattle.feast_run.specs.Stages.{ReadyValue, journal_in, journal_of, ready_by, ready_with, set_of, with_elements, world_limit, world_refused}
+use Rattle.feast_run.specs.Stages.{ReadyValue, journal_in, journal_of, ready_by, ready_with, set_of, with_elements, world_refused}
 use Rattle.feast_run.specs.Tellings.{Tells}
 use Rattle.feast_run.specs.Values.{IsReady, elements_value}
 use Rattle.feast_run.specs.declared.halt.Halt.{Halt}
@@ -40,10 +40,11 @@ use Rattle.cell_grid.specs.Known.{BringsNone, IsKnown}
 use Rattle.world_runs.specs.Known.{ArePlacedKnown}
 use Rattle.world_runs.specs.Worlds.{IsLiveEvent, IsWorld}
 use Rattle.world_text.specs.Drafts.{DraftValue}
-use Rattle.world_text.specs.Named.{WorldValue, named}
+use Rattle.world_text.specs.Named.{WorldValue, world_with_names}
 use Rattle.world_text.specs.Reading.{read_text, IsFault as IsNameFault}
 use Rattle.world_text.specs.Values.{world_value}
 use Rattle.world_text.specs.declared.world.Placed.{Placed}
+use Rattle.feast_run.specs.declared.loading.TheConstants.{WORLD_LIMIT}
 
 pub set_is : (files : List File) (words : List (List ℕ)) (set : SetValue) → set_of (Some files) words (Ok set) → IsSet files words set
 set_is files words set h = let l = went _ _ set h in record { sources = l.value; are_files = loaded_files files words l.value l.passed; accepted = l.rest }
@@ -56,7 +57,7 @@ pub record ReadyTold {X : Type 0} (elements : X → ElementsValue) (S : Stage X 
   pub is : r ≡ ready_with world (elements given)
   pub told : WorldTold files word (elements given).names world
 
-with_told : {X : Type 0} (elements : X → ElementsValue) (S : Stage X HaltValue) (files : List File) (word : List ℕ) (d : DraftValue) (bytes : List ℕ) (r : ReadyValue) → file_of word files ≡ Some bytes → length bytes ≤ world_limit → read_text bytes ≡ Ok d →
+with_told : {X : Type 0} (elements : X → ElementsValue) (S : Stage X HaltValue) (files : List File) (word : List ℕ) (d : DraftValue) (bytes : List ℕ) (r : ReadyValue) → file_of word files ≡ Some bytes → length bytes ≤ WORLD_LIMIT → read_text bytes ≡ Ok d →
     with_elements elements S word d (Ok r) → ReadyTold elements S files word r
 with_told elements S files word d bytes r file within reads h =
     let w = went _ _ r h in
@@ -160,7 +161,7 @@ journal_halts word w bytes (Some fault) (Refused s) asked is = ((fault, ap entri
 journal_halts word w bytes (Some fault) (Missing v) asked is = absurd is
 journal_halts word w bytes (Some fault) NoMemory asked is = absurd is
 
-pub names_halt : {X : Type 0} (value : X → WorldValue) (word : List ℕ) (draft : DraftValue) (names : List (List ℕ)) (o : Option (ℕ × ℕ)) (halt : Halt) → IsNameFault (named names draft) o → IsWorldHalt word o halt → Tells value (decides (world_refused word) (named names draft)) (Err halt)
+pub names_halt : {X : Type 0} (value : X → WorldValue) (word : List ℕ) (draft : DraftValue) (names : List (List ℕ)) (o : Option (ℕ × ℕ)) (halt : Halt) → IsNameFault (world_with_names names draft) o → IsWorldHalt word o halt → Tells value (decides (world_refused word) (world_with_names names draft)) (Err halt)
 names_halt value word draft names None (Refused s) asked is = absurd is
 names_halt value word draft names None (Missing v) asked is = absurd is
 names_halt value word draft names None NoMemory asked is = tt

@@ -15,20 +15,21 @@ use Rattle.feast_run.specs.Packed.{pack_text}
 use Rattle.feast_run.specs.Forms.{FormValue, check, code, pack, run, step, replay, gen, audit, rewind, steppack, runpack}
 use Rattle.feast_run.specs.Generating.{generated_ready, own_set, stepped_summary}
 use Rattle.feast_run.specs.Audited.{Audits}
-use Rattle.feast_run.specs.CodeFiles.{code_limit, codes_from, ready_packed}
+use Rattle.feast_run.specs.CodeFiles.{codes_from, ready_packed}
 use Rattle.feast_run.specs.Elements.{ElementsValue, code_elements, source_elements}
 use Rattle.feast_base.specs.Stages.{Stage, IsSure, IsOne}
-use Rattle.feast_run.specs.Halting.{Accepts, HaltValue, IsRefusal, RefusedValue, refused, refuses}
+use Rattle.feast_run.specs.Halting.{Accepts, HaltValue, IsRefusal, RefusedValue, refusal_of, refuses}
 use Rattle.feast_run.specs.Owing.{Reports}
 use Rattle.feast_run.specs.Promises.{IsCodeFile, IsGood, IsGoodReady, IsGoodWorld, IsSet}
-use Rattle.feast_run.specs.Stages.{ReadyValue, builds, draft_of, element_limit, journal_in, journal_limit, journal_of, journal_refused, load, load_more, coded, named_by, ready, ready_by, ready_with, set_of, sourced, world_limit, world_refused}
+use Rattle.feast_run.specs.Stages.{ReadyValue, builds, draft_of, journal_in, journal_of, journal_refused, load, load_more, ready_of_codes, named_by, ready, ready_by, ready_with, set_of, ready_of_set, world_refused}
 use Rattle.feast_run.specs.Stepped.{IsSteppedRun, stepped_report}
 use Rattle.feast_run.specs.declared.halt.Input.TheVariants as input
 use Rattle.feast_run.proofs.GeneratedSource.Accepted.{accepted}
 use Rattle.feast_run.specs.GeneratedElements.{source_files}
 use Rattle.world_text.specs.Drafts.{DraftValue}
-use Rattle.world_text.specs.Named.{WorldValue, named}
+use Rattle.world_text.specs.Named.{WorldValue, world_with_names}
 use Rattle.world_text.specs.Reading.{read_text}
+use Rattle.feast_run.specs.declared.loading.TheConstants.{CODE_LIMIT, ELEMENT_LIMIT, JOURNAL_LIMIT, WORLD_LIMIT}
 
 load_one : (files : List File) (limit : ℕ) (word : List ℕ) → IsOne IsRefusal (load (Some files) limit word)
 load_one files limit word = record {
@@ -38,12 +39,12 @@ load_one files limit word = record {
 
 loads_one : (files : List File) (done : List File) (words : List (List ℕ)) → IsOne IsRefusal (load_more (Some files) done words)
 loads_one files done [] = gives_one done
-loads_one files done (word ∷ words) = then_one _ _ (load_one files element_limit word) (λ bytes. loads_one files (done ++ (word, bytes) ∷ []) words)
+loads_one files done (word ∷ words) = then_one _ _ (load_one files ELEMENT_LIMIT word) (λ bytes. loads_one files (done ++ (word, bytes) ∷ []) words)
 
 refused_one : (words : List (List ℕ)) (sources : List File) (r s : RefusedValue) → builds words sources (Err (refuses r)) → builds words sources (Err (refuses s)) → r ≡ s
 refused_one words sources r s p q =
     let e = (built_one sources).sure.one_halt r.refusal s.refusal tt tt p.0 q.0 in
-    p.1 ∙ ap (λ v. refused input.Elements (slice_index_or words v.place.file []) v) e ∙ sym q.1
+    p.1 ∙ ap (λ v. refusal_of input.Elements (slice_index_or words v.place.file []) v) e ∙ sym q.1
 
 builds_one : (words : List (List ℕ)) (sources : List File) → IsOne IsRefusal (builds words sources)
 builds_one words sources = record {
@@ -55,10 +56,10 @@ pub set_one : (files : List File) (words : List (List ℕ)) → IsOne IsRefusal 
 set_one files words = then_one _ _ (loads_one files [] words) (builds_one words)
 
 draft_one : (files : List File) (word : List ℕ) → IsOne IsRefusal (draft_of (Some files) word)
-draft_one files word = then_one _ _ (load_one files world_limit word) (λ bytes. decides_one (world_refused word) (read_text bytes))
+draft_one files word = then_one _ _ (load_one files WORLD_LIMIT word) (λ bytes. decides_one (world_refused word) (read_text bytes))
 
 named_one : (word : List ℕ) (draft : DraftValue) (e : ElementsValue) → IsOne IsRefusal (named_by word draft e)
-named_one word draft e = then_one _ _ (decides_one (world_refused word) (named e.names draft)) (λ (world : WorldValue). gives_one (ready_with world e))
+named_one word draft e = then_one _ _ (decides_one (world_refused word) (world_with_names e.names draft)) (λ (world : WorldValue). gives_one (ready_with world e))
 
 ready_one : {X : Type 0} (elements : X → ElementsValue) (S : Stage X HaltValue) (files : List File) (word : List ℕ) → IsOne IsRefusal S → IsOne IsRefusal (ready_by elements S (Some files) word)
 ready_one elements S files word one = then_one _ _ (draft_one files word) (λ draft. then_one S (λ x. named_by word draft (elements x)) one (λ x. named_one word draft (elements x)))
@@ -67,13 +68,13 @@ pub sources_one : (files : List File) (word : List ℕ) (words : List (List ℕ)
 sources_one files word words = ready_one source_elements (set_of (Some files) words) files word (set_one files words)
 
 pub codes_one : (files : List File) (word : List ℕ) → IsOne IsRefusal (codes_from (Some files) word)
-codes_one files word = then_one _ _ (load_one files code_limit word) (codes_in_one word)
+codes_one files word = then_one _ _ (load_one files CODE_LIMIT word) (codes_in_one word)
 
 packed_one : (files : List File) (word file : List ℕ) → IsOne IsRefusal (ready_packed (Some files) word file)
 packed_one files word file = ready_one code_elements (codes_from (Some files) file) files word (codes_one files file)
 
 journal_one : (files : List File) (word : List ℕ) (world : WorldValue) → IsOne IsRefusal (journal_of (Some files) word world)
-journal_one files word world = then_one _ _ (load_one files journal_limit word) (λ bytes. decides_one (journal_refused word) (entries_said (read_report world.plane world.plan.lists bytes)))
+journal_one files word world = then_one _ _ (load_one files JOURNAL_LIMIT word) (λ bytes. decides_one (journal_refused word) (entries_said (read_report world.plane world.plan.lists bytes)))
 
 own_one : IsOne IsRefusal own_set
 own_one = record {
@@ -98,7 +99,7 @@ form_sure files (replay world journal words) =
     then_sure _ _ (sources_one files world words) (λ r. then_sure _ _ (journal_one files journal r.world) (λ j. (gives_one (atoms_after r j.records)).sure))
 form_sure files (gen number) = then_sure _ _ own_one (λ set. (known_one (IsSteppedRun (generated_ready number set)) (stepped_summary number (generated_ready number set))).sure)
 form_sure files (audit world report words) =
-    then_sure _ _ (sources_one files world words) (λ r. then_sure _ _ (load_one files journal_limit report) (λ bytes. then_sure _ _ (in_one report r.world bytes) (λ j. any_sure (Audits r bytes j))))
+    then_sure _ _ (sources_one files world words) (λ r. then_sure _ _ (load_one files JOURNAL_LIMIT report) (λ bytes. then_sure _ _ (in_one report r.world bytes) (λ j. any_sure (Audits r bytes j))))
 form_sure files (rewind world report k words) =
     then_sure _ _ (sources_one files world words) (λ r. then_sure _ _ (journal_one files report r.world) (λ j. rewinds_sure report k r j))
 form_sure files (steppack world file) = then_sure _ _ (packed_one files world file) (λ r. (known_one (IsSteppedRun r) (stepped_report r)).sure)
@@ -114,10 +115,10 @@ ready_passes elements S files word w x p g =
     let named = inr (record { value = w; passed = g.has_names; rest = refl }) in
     inr (record { value = g.draft; passed = g.has_draft; rest = inr (record { value = x; passed = p; rest = named }) })
 
-pub sources_pass : (files : List File) (word : List ℕ) (words : List (List ℕ)) (w : WorldValue) (h : IsGoodReady source_elements (IsSet files words) files word w) → ready (Some files) word words (Ok (sourced w h.given))
+pub sources_pass : (files : List File) (word : List ℕ) (words : List (List ℕ)) (w : WorldValue) (h : IsGoodReady source_elements (IsSet files words) files word w) → ready (Some files) word words (Ok (ready_of_set w h.given))
 sources_pass files word words w h = ready_passes source_elements (set_of (Some files) words) files word w h.given (set_passes files words h.given h.is_told) h.good
 
-packed_pass : (files : List File) (word file : List ℕ) (w : WorldValue) (h : IsGoodReady code_elements (IsCodeFile files file) files word w) → ready_packed (Some files) word file (Ok (coded w h.given))
+packed_pass : (files : List File) (word file : List ℕ) (w : WorldValue) (h : IsGoodReady code_elements (IsCodeFile files file) files word w) → ready_packed (Some files) word file (Ok (ready_of_codes w h.given))
 packed_pass files word file w h = ready_passes code_elements (codes_from (Some files) file) files word w h.given (codes_pass files file h.given h.is_told) h.good
 
 -- good files of a form refuse nothing
@@ -125,19 +126,19 @@ pub form_accepts : (files : List File) (form : FormValue) → IsGood files form 
 form_accepts files (check words) h = then_accepts _ _ (set_one files words) h.0 (set_passes files words h.0 h.1) (λ r p. absurd p)
 form_accepts files (code words) h = then_accepts _ _ (set_one files words) h.0 (set_passes files words h.0 h.1) (λ r p. absurd p)
 form_accepts files (pack words) h = then_accepts _ _ (set_one files words) h.0 (set_passes files words h.0 h.1) (λ r p. absurd p)
-form_accepts files (run world words) h = then_accepts _ _ (sources_one files world words) (sourced h.0 h.1.given) (sources_pass files world words h.0 h.1) (λ s p. absurd p)
-form_accepts files (step world words) h = then_accepts _ _ (sources_one files world words) (sourced h.0 h.1.given) (sources_pass files world words h.0 h.1) (λ s p. absurd p)
+form_accepts files (run world words) h = then_accepts _ _ (sources_one files world words) (ready_of_set h.0 h.1.given) (sources_pass files world words h.0 h.1) (λ s p. absurd p)
+form_accepts files (step world words) h = then_accepts _ _ (sources_one files world words) (ready_of_set h.0 h.1.given) (sources_pass files world words h.0 h.1) (λ s p. absurd p)
 form_accepts files (replay world journal words) h =
-    then_accepts _ _ (sources_one files world words) (sourced h.world h.ready.given) (sources_pass files world words h.world h.ready)
+    then_accepts _ _ (sources_one files world words) (ready_of_set h.world h.ready.given) (sources_pass files world words h.world h.ready)
     (then_accepts _ _ (journal_one files journal h.world) h.journal h.has_journal (λ s p. absurd p))
 form_accepts files (gen number) h = then_accepts _ _ own_one accepted.0 accepted.1 (λ s p. absurd p)
 form_accepts files (audit world report words) h =
     let b = went _ _ h.journal h.has_journal in
-    then_accepts _ _ (sources_one files world words) (sourced h.world h.ready.given) (sources_pass files world words h.world h.ready)
-    (then_accepts _ _ (load_one files journal_limit report) b.value b.passed (then_accepts _ _ (in_one report h.world b.value) h.journal b.rest (λ s p. absurd p)))
+    then_accepts _ _ (sources_one files world words) (ready_of_set h.world h.ready.given) (sources_pass files world words h.world h.ready)
+    (then_accepts _ _ (load_one files JOURNAL_LIMIT report) b.value b.passed (then_accepts _ _ (in_one report h.world b.value) h.journal b.rest (λ s p. absurd p)))
 form_accepts files (rewind world report k words) h =
     let good = h.0 in
-    then_accepts _ _ (sources_one files world words) (sourced good.world good.ready.given) (sources_pass files world words good.world good.ready)
+    then_accepts _ _ (sources_one files world words) (ready_of_set good.world good.ready.given) (sources_pass files world words good.world good.ready)
     (then_accepts _ _ (journal_one files report good.world) good.journal good.has_journal (λ s p. absurd (omega (arith, p.0, h.1))))
-form_accepts files (steppack world file) h = then_accepts _ _ (packed_one files world file) (coded h.0 h.1.given) (packed_pass files world file h.0 h.1) (λ s p. absurd p)
-form_accepts files (runpack world file) h = then_accepts _ _ (packed_one files world file) (coded h.0 h.1.given) (packed_pass files world file h.0 h.1) (λ s p. absurd p)
+form_accepts files (steppack world file) h = then_accepts _ _ (packed_one files world file) (ready_of_codes h.0 h.1.given) (packed_pass files world file h.0 h.1) (λ s p. absurd p)
+form_accepts files (runpack world file) h = then_accepts _ _ (packed_one files world file) (ready_of_codes h.0 h.1.given) (packed_pass files world file h.0 h.1) (λ s p. absurd p)

@@ -5,10 +5,11 @@ use Rattle.feast_base.specs.Stages.{Stage, and_then, gives_any}
 use Rattle.report_text.specs.Entries.{Entries}
 use Rattle.feast_run.specs.Halting.{HaltValue}
 use Rattle.feast_run.specs.Owing.{course_of}
-use Rattle.feast_run.specs.Stages.{ReadyValue, journal_in, journal_limit, load}
+use Rattle.feast_run.specs.Stages.{ReadyValue, journal_in, load}
 use Rattle.report_judge.specs.Judging.{Judges, NamedCourse, judgement_text, named_course}
 use Rattle.report_judge.specs.declared.judgement.Judgement.{Judgement}
 use Rattle.report_judge.specs.declared.judgement.Judgement.TheVariants.{Yes}
+use Rattle.feast_run.specs.declared.loading.TheConstants.{JOURNAL_LIMIT}
 
 -- the course of a world, with what its elements are called
 abbrev pub judged_course : ReadyValue → NamedCourse
@@ -28,7 +29,7 @@ abbrev pub audit_with : List ℕ → ReadyValue → List ℕ → Stage (List ℕ
 audit_with word r bytes = and_then (journal_in word r.world bytes) (audits r bytes)
 
 abbrev pub audit_of : Option (List File) → List ℕ → ReadyValue → Stage (List ℕ) HaltValue
-audit_of files word r = and_then (load files journal_limit word) (audit_with word r)
+audit_of files word r = and_then (load files JOURNAL_LIMIT word) (audit_with word r)
 
 -- in whatever file has this known text, an audit of it by these elements comes to the line `yes`,
 -- and to no other line

@@ -1,5 +1,5 @@
 -- The stages of a code file, and of a world with its elements.
-use Rattle.std.specs.Prelude.{ℕ, ◌≡◌, List, min, Option, Ok, Err}
+use Rattle.std.specs.Prelude.{ℕ, ◌≡◌, List, min, Option, Ok, Err, ◌^◌, ◌-◌}
 use Rattle.code_file.specs.Form.{CodesValue}
 use Rattle.code_file.specs.Judging.{Reads}
 use Rattle.code_file.specs.declared.fault.CodeFault.{CodeFault}
@@ -8,22 +8,19 @@ use Rattle.feast_base.specs.Outside.{File}
 use Rattle.feast_base.specs.declared.place.Refusal.{Refusal}
 use Rattle.feast_run.specs.Elements.{code_elements}
 use Rattle.feast_base.specs.Stages.{Stage, and_then}
-use Rattle.feast_run.specs.Halting.{HaltValue, RefusedValue, misses, refused, refuses}
+use Rattle.feast_run.specs.Halting.{HaltValue, RefusedValue, misses, refusal_of, refuses}
 use Rattle.feast_run.specs.Stages.{ReadyValue, load, ready_by, with_elements}
 use Rattle.feast_run.specs.declared.halt.Input.TheVariants as input
 use Rattle.world_text.specs.Drafts.{DraftValue}
-
--- the longest code file, in bytes
-abbrev pub code_limit : ℕ
-code_limit = 268435456
+use Rattle.feast_run.specs.declared.loading.TheConstants.{CODE_LIMIT}
 
 -- a refusal of a byte, counted from 1; places number bytes up to 2^32 - 1, and no file that is loaded has more
 abbrev pub at_byte : ℕ → ℕ → Refusal
-at_byte code column = record { code = code; place = record { file = 0; line = 1; column = min column 4294967295 }; value = 0 }
+at_byte code column = record { code = code; place = record { file = 0; line = 1; column = min column (2 ^ 32 - 1) }; value = 0 }
 
 -- the refusal of a code file at a byte
 abbrev pub code_refused : List ℕ → ℕ → ℕ → RefusedValue
-code_refused word code column = refused input.Codes word (at_byte code column)
+code_refused word code column = refusal_of input.Codes word (at_byte code column)
 
 -- the refusal of a code file by its fault; running out of memory is none
 abbrev pub IsCodeRefused : List ℕ → CodeFault → RefusedValue → Type 0
@@ -41,7 +38,7 @@ codes_in word bytes (Err (misses w)) = ⊥
 
 -- the elements of a code file
 abbrev pub codes_from : Option (List File) → List ℕ → Stage CodesValue HaltValue
-codes_from files word = and_then (load files code_limit word) (codes_in word)
+codes_from files word = and_then (load files CODE_LIMIT word) (codes_in word)
 
 -- the elements of a world, which are those of a code file
 abbrev pub with_codes : Option (List File) → List ℕ → List ℕ → DraftValue → Stage ReadyValue HaltValue

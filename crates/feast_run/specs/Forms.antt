@@ -5,7 +5,8 @@ use Rattle.std.specs.Str.{bytes_eq}
 use Rattle.std.specs.Global.{Global}
 use Rattle.feast_run.specs.declared.form.Form.{Form}
 use Rattle.feast_run.specs.declared.form.Form.TheVariants as kind
-use Rattle.text_lines.specs.Fields.{number_of}
+use Rattle.text_lines.specs.Fields.{field_number}
+use Rattle.feast_run.specs.declared.form.TheConstants.{MOST_FILES, MOST_LEFT}
 
 -- the words of a call as texts
 abbrev pub texts : List (String Global) → List (List ℕ)
@@ -32,13 +33,9 @@ pub data FormValue : Type 0 where
   steppack : List ℕ → List ℕ → FormValue
   runpack : List ℕ → List ℕ → FormValue
 
--- the most element files
-abbrev pub most_files : ℕ
-most_files = 64
-
 -- 1 to 64 file words
 abbrev pub of_files : List (List ℕ) → Option (List (List ℕ))
-of_files words = if nat_le 1 (length words) && nat_le (length words) most_files then Some words else None
+of_files words = if nat_le 1 (length words) && nat_le (length words) MOST_FILES then Some words else None
 
 -- a form of file words
 abbrev pub form_with : (List (List ℕ) → FormValue) → Option (List (List ℕ)) → Option FormValue
@@ -69,7 +66,7 @@ of_code make (Some words) = Some (make words.0 words.1)
 
 -- a canonical decimal below 2 ^ 64
 abbrev pub small_number : List ℕ → Option ℕ
-small_number word = option_and_then (λ n. if nat_lt n (2 ^ 64) then Some n else None) (number_of word)
+small_number word = option_and_then (λ n. if nat_lt n (2 ^ 64) then Some n else None) (field_number word)
 
 -- one word, which is such a number
 abbrev pub of_number : List (List ℕ) → Option ℕ
@@ -77,12 +74,9 @@ of_number [] = None
 of_number (word ∷ []) = small_number word
 of_number (word ∷ other ∷ words) = None
 
--- how many events remain: a canonical decimal, at most 1,000,000
-abbrev pub most_left : ℕ
-most_left = 1000000
-
+-- how many events a rewind is to leave
 abbrev pub left_of : List ℕ → Option ℕ
-left_of word = option_and_then (λ n. if nat_le n most_left then Some n else None) (number_of word)
+left_of word = option_and_then (λ n. if nat_le n MOST_LEFT then Some n else None) (field_number word)
 
 -- a form of how many remain and file words
 abbrev pub form_left : (ℕ → List (List ℕ) → FormValue) → Option ℕ → Option (List (List ℕ)) → Option FormValue
@@ -139,8 +133,8 @@ form_of (verb ∷ words) =
     else None
 
 -- what the words of a call ask for, if they have a form
-abbrev pub asked : List (String Global) → Option FormValue
-asked words = form_of (texts words)
+abbrev pub form_of_words : List (String Global) → Option FormValue
+form_of_words words = form_of (texts words)
 
 -- the code's form as this
 abbrev pub form_value : Form → FormValue
@@ -158,14 +152,14 @@ form_value (kind.RunPack world file) = runpack world.now file.now
 
 -- it has as many element files as a form may have
 abbrev pub IsFew : Form → Type 0
-IsFew (kind.Check files) = length files.now ≤ most_files
-IsFew (kind.Code files) = length files.now ≤ most_files
-IsFew (kind.Pack files) = length files.now ≤ most_files
-IsFew (kind.Run world files) = length files.now ≤ most_files
-IsFew (kind.Step world files) = length files.now ≤ most_files
-IsFew (kind.Replay world journal files) = length files.now ≤ most_files
+IsFew (kind.Check files) = length files.now ≤ MOST_FILES
+IsFew (kind.Code files) = length files.now ≤ MOST_FILES
+IsFew (kind.Pack files) = length files.now ≤ MOST_FILES
+IsFew (kind.Run world files) = length files.now ≤ MOST_FILES
+IsFew (kind.Step world files) = length files.now ≤ MOST_FILES
+IsFew (kind.Replay world journal files) = length files.now ≤ MOST_FILES
 IsFew (kind.Gen number) = Unit {0}
-IsFew (kind.Audit world report files) = length files.now ≤ most_files
-IsFew (kind.Rewind world report left files) = length files.now ≤ most_files
+IsFew (kind.Audit world report files) = length files.now ≤ MOST_FILES
+IsFew (kind.Rewind world report left files) = length files.now ≤ MOST_FILES
 IsFew (kind.StepPack world file) = Unit {0}
 IsFew (kind.RunPack world file) = Unit {0}

@@ -8,7 +8,7 @@ use Rattle.feast_run.specs.Elements.{ElementsValue, source_elements}
 use Rattle.feast_run.specs.Stages.{ReadyValue, ready_with}
 use Rattle.feast_run.specs.Stepped.{IsSteppedRun, machine_of, stepped_logs}
 use Rattle.feast_run.specs.GeneratedElements.{source_files}
-use Rattle.generated_world.specs.Generated.{generated}
+use Rattle.generated_world.specs.Generated.{world_of_number}
 use Rattle.generated_world.specs.Summary.{summary}
 
 -- the set of the elements of generated worlds: no file is loaded for it, and nothing refuses it
@@ -19,7 +19,7 @@ own_set (Err (misses w)) = ⊥
 
 -- the world of a number with some elements, or with those of a set
 abbrev pub generated_with : ℕ → ElementsValue → ReadyValue
-generated_with number e = ready_with (generated number) e
+generated_with number e = ready_with (world_of_number number) e
 
 abbrev pub generated_ready : ℕ → SetValue → ReadyValue
 generated_ready number set = generated_with number (source_elements set)

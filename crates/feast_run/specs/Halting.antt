@@ -10,8 +10,8 @@ pub record RefusedValue : Type 0 where
   pub word : List ℕ
   pub refusal : Refusal
 
-abbrev pub refused : Input → List ℕ → Refusal → RefusedValue
-refused input word refusal = record { input = input; word = word; refusal = refusal }
+abbrev pub refusal_of : Input → List ℕ → Refusal → RefusedValue
+refusal_of input word refusal = record { input = input; word = word; refusal = refusal }
 
 -- a stage refuses its input, or misses a word whose load failed
 pub data HaltValue : Type 0 where

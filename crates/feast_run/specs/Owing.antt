@@ -35,5 +35,5 @@ pub record Reports (r : ReadyValue) (text : List ℕ) : Type 0 where
   pub shown : text ≡ report r.names grid records abandoned
 
 -- the events and the abandoned attempts of the run that it is the report of
-abbrev pub reported : {r : ReadyValue} {text : List ℕ} → Reports r text → Entries
-reported run = entries_in (report_value run.grid run.records run.abandoned)
+abbrev pub entries_of : {r : ReadyValue} {text : List ℕ} → Reports r text → Entries
+entries_of run = entries_in (report_value run.grid run.records run.abandoned)

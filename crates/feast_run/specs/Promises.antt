@@ -17,18 +17,18 @@ use Rattle.feast_run.specs.Forms.{FormValue, check, code, pack, run, step, repla
 use Rattle.feast_run.specs.Packed.{pack_text}
 use Rattle.feast_run.specs.Generating.{generated_ready, stepped_summary}
 use Rattle.feast_run.specs.Halting.{FormOutcome, misses, refuses}
-use Rattle.feast_run.specs.Owing.{Reports, reported}
+use Rattle.feast_run.specs.Owing.{Reports, entries_of}
 use Rattle.feast_run.specs.Stepped.{IsSteppedRun, machine_of, stepped_journal, stepped_report}
-use Rattle.feast_run.specs.CodeFiles.{code_limit}
 use Rattle.feast_run.specs.Elements.{ElementsValue, code_elements, source_elements}
-use Rattle.feast_run.specs.Stages.{coded, ready_with, sourced, draft_of, element_limit, journal_limit, journal_of, world_limit}
+use Rattle.feast_run.specs.Stages.{ready_of_codes, ready_with, ready_of_set, draft_of, journal_of}
 use Rattle.feast_run.specs.declared.status.Status.{Status}
 use Rattle.feast_run.specs.declared.status.Status.TheVariants as how
 use Rattle.feast_run.specs.GeneratedElements.{source_files}
 use Rattle.report_judge.specs.Judging.{judgement_text}
 use Rattle.report_judge.specs.declared.judgement.Judgement.TheVariants.{Yes}
 use Rattle.world_text.specs.Drafts.{DraftValue}
-use Rattle.world_text.specs.Named.{ReadsWorld, WorldValue, named}
+use Rattle.world_text.specs.Named.{ReadsWorld, WorldValue, world_with_names}
+use Rattle.feast_run.specs.declared.loading.TheConstants.{CODE_LIMIT, ELEMENT_LIMIT, JOURNAL_LIMIT, WORLD_LIMIT}
 
 -- the element files of some words, in order: for each word the first file of that name, within its
 -- limit
@@ -36,7 +36,7 @@ abbrev pub AreFiles : List File → List (List ℕ) → List File → Type 0
 AreFiles files [] [] = Unit {0}
 AreFiles files [] (s ∷ ss) = ⊥
 AreFiles files (w ∷ ws) [] = ⊥
-AreFiles files (w ∷ ws) (s ∷ ss) = (s.0 ≡ w) × (file_of w files ≡ Some s.1) × (length s.1 ≤ element_limit) × AreFiles files ws ss
+AreFiles files (w ∷ ws) (s ∷ ss) = (s.0 ≡ w) × (file_of w files ≡ Some s.1) × (length s.1 ≤ ELEMENT_LIMIT) × AreFiles files ws ss
 
 -- element files that are known, and the set that they are: no stage refuses them
 pub record IsSet (files : List File) (words : List (List ℕ)) (set : SetValue) : Type 0 where
@@ -56,7 +56,7 @@ pub record SetTold (text : SetValue → List ℕ) (files : List File) (words : L
 pub record IsCodeFile (files : List File) (word : List ℕ) (es : CodesValue) : Type 0 where
   pub bytes : List ℕ
   pub file : file_of word files ≡ Some bytes
-  pub within : length bytes ≤ code_limit
+  pub within : length bytes ≤ CODE_LIMIT
   pub is_file : IsFile bytes es
   pub right : AreRight es
 
@@ -64,7 +64,7 @@ pub record IsCodeFile (files : List File) (word : List ℕ) (es : CodesValue) : 
 pub record WorldTold (files : List File) (word : List ℕ) (names : List (List ℕ)) (world : WorldValue) : Type 0 where
   pub bytes : List ℕ
   pub file : file_of word files ≡ Some bytes
-  pub within : length bytes ≤ world_limit
+  pub within : length bytes ≤ WORLD_LIMIT
   pub reads : ReadsWorld bytes names world
 
 -- a run whose files are known, and what its elements were given as: the bytes appended are the
@@ -103,7 +103,7 @@ pub record GenTold (number : ℕ) (appended : List ℕ) : Type 0 where
 -- a report that is known, and the journal that it says, of a world that is known
 pub record ReportTold (files : List File) (report_word : List ℕ) (world : WorldValue) (bytes : List ℕ) (journal : Entries) : Type 0 where
   pub file : file_of report_word files ≡ Some bytes
-  pub within : length bytes ≤ journal_limit
+  pub within : length bytes ≤ JOURNAL_LIMIT
   pub reads : entries_said (read_report world.plane world.plan.lists bytes) ≡ Ok journal
 
 -- the file words of a form that loads a report: those of the world, of the report, and of the
@@ -131,20 +131,20 @@ pub record KnownReport (files : List File) (words : ReportWords) : Type 0 where
 -- source means
 pub record ReplayTold (files : List File) (words : ReportWords) (appended : List ℕ) : Type 0 where
   pub known : KnownReport files words
-  pub shown : appended ≡ atoms_after (sourced known.world known.set) known.journal.records
+  pub shown : appended ≡ atoms_after (ready_of_set known.world known.set) known.journal.records
 
 -- an audit whose files are known: the bytes appended are the line of the judgement on the report,
 -- by what the elements' source means
 pub record AuditTold (files : List File) (words : ReportWords) (appended : List ℕ) : Type 0 where
   pub known : KnownReport files words
-  pub audits : Audits (sourced known.world known.set) known.bytes known.journal appended
+  pub audits : Audits (ready_of_set known.world known.set) known.bytes known.journal appended
 
 -- a rewind whose files are known: the report has this many events, and the bytes appended are the
 -- atoms that its first k events make, as for a replay
 pub record RewindTold (files : List File) (words : ReportWords) (k : ℕ) (appended : List ℕ) : Type 0 where
   pub known : KnownReport files words
   pub enough : k ≤ length known.journal.records
-  pub shown : appended ≡ atoms_after (sourced known.world known.set) (take k known.journal.records)
+  pub shown : appended ≡ atoms_after (ready_of_set known.world known.set) (take k known.journal.records)
 
 -- the text that a form writes, if the files are known
 abbrev pub Shows : List File → FormValue → List ℕ → Type 0
@@ -194,18 +194,18 @@ IsReadAgain files (check words) appended told = Unit {0}
 IsReadAgain files (code words) appended told = Unit {0}
 IsReadAgain files (pack words) appended told = Unit {0}
 IsReadAgain files (run world words) appended told =
-    IsOwnReport (sourced told.world told.given) appended (reported told.reports) × IsAuditedLater files world words appended ×
-    IsRewoundLater files world words appended (AreFirstAtoms (sourced told.world told.given) (reported told.reports))
+    IsOwnReport (ready_of_set told.world told.given) appended (entries_of told.reports) × IsAuditedLater files world words appended ×
+    IsRewoundLater files world words appended (AreFirstAtoms (ready_of_set told.world told.given) (entries_of told.reports))
 IsReadAgain files (step world words) appended told =
-    IsOwnReport (sourced told.world told.given) appended (stepped_journal (sourced told.world told.given)) × IsAuditedLater files world words appended ×
-    IsRewoundLater files world words appended (AreFirstAtoms (sourced told.world told.given) (stepped_journal (sourced told.world told.given)))
+    IsOwnReport (ready_of_set told.world told.given) appended (stepped_journal (ready_of_set told.world told.given)) × IsAuditedLater files world words appended ×
+    IsRewoundLater files world words appended (AreFirstAtoms (ready_of_set told.world told.given) (stepped_journal (ready_of_set told.world told.given)))
 IsReadAgain files (replay world journal words) appended told = Unit {0}
 IsReadAgain files (gen number) appended told = Unit {0}
 IsReadAgain files (audit world report words) appended told = Unit {0}
 IsReadAgain files (rewind world report k words) appended told = Unit {0}
 IsReadAgain files (steppack world file) appended told =
-    IsOwnReport (coded told.world told.given) appended (stepped_journal (coded told.world told.given))
-IsReadAgain files (runpack world file) appended told = IsOwnReport (coded told.world told.given) appended (reported told.reports)
+    IsOwnReport (ready_of_codes told.world told.given) appended (stepped_journal (ready_of_codes told.world told.given))
+IsReadAgain files (runpack world file) appended told = IsOwnReport (ready_of_codes told.world told.given) appended (entries_of told.reports)
 
 -- the words have a form, and its text was appended to what was written before
 pub record HasShown (form : Option FormValue) (files : List File) (before : List ℕ) (sink : SinkState) : Type 0 where
@@ -275,7 +275,7 @@ Exactly form shelf sink status = NoFault sink → IsDue form shelf sink status �
 pub record IsGoodWorld (files : List File) (word : List ℕ) (names : List (List ℕ)) (world : WorldValue) : Type 0 where
   pub draft : DraftValue
   pub has_draft : draft_of (Some files) word (Ok draft)
-  pub has_names : named names draft ≡ Ok world
+  pub has_names : world_with_names names draft ≡ Ok world
 
 -- a world with its elements of which nothing is refused
 pub record IsGoodReady {X : Type 0} (elements : X → ElementsValue) (IsTold : X → Type 0) (files : List File) (word : List ℕ) (world : WorldValue) : Type 0 where
@@ -348,8 +348,8 @@ pub record BothHeld : Type 0 where
   pub shelf : ShelfHeld
   pub sink : SinkHeld
 
-abbrev pub held : ShelfHeld → SinkHeld → BothHeld
-held shelf sink = record { shelf = shelf; sink = sink }
+abbrev pub both_held : ShelfHeld → SinkHeld → BothHeld
+both_held shelf sink = record { shelf = shelf; sink = sink }
 
 -- what a call changes of them, as of any shelf and of any sink
 abbrev pub shelf_change : BothHeld → BothHeld → Change ShelfState

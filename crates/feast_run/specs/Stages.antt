@@ -1,5 +1,5 @@
 -- The stages that the forms are made of.
-use Rattle.std.specs.Prelude.{ℕ, ◌≡◌, ◌≤◌, List, [], ◌∷◌, ◌++◌, All, length, min, Option, Result, Ok, Err, slice_index_or}
+use Rattle.std.specs.Prelude.{ℕ, ◌≡◌, ◌≤◌, List, [], ◌∷◌, ◌++◌, All, length, min, Option, Result, Ok, Err, slice_index_or, ◌^◌, ◌-◌}
 use Rattle.cell_grid.specs.declared.record.Record.{Record}
 use Rattle.code_file.specs.Form.{CodesValue}
 use Rattle.element_set.specs.Sets.{SetValue, AcceptsFiles, RefusesFiles}
@@ -12,26 +12,17 @@ use Rattle.feast_base.specs.declared.place.Refusal.{Refusal}
 use Rattle.report_text.specs.Entries.{Entries}
 use Rattle.feast_run.specs.Elements.{ElementsValue, source_elements, code_elements}
 use Rattle.feast_base.specs.Stages.{Stage, and_then, gives}
-use Rattle.feast_run.specs.Halting.{HaltValue, RefusedValue, decides, misses, refused, refuses}
+use Rattle.feast_run.specs.Halting.{HaltValue, RefusedValue, decides, misses, refusal_of, refuses}
 use Rattle.feast_run.specs.declared.halt.Input.TheVariants as input
 use Rattle.window_sites.specs.Window.{WindowValue}
 use Rattle.world_text.specs.Drafts.{DraftValue}
-use Rattle.world_text.specs.Named.{WorldValue, named}
+use Rattle.world_text.specs.Named.{WorldValue, world_with_names}
 use Rattle.world_text.specs.Reading.{read_text}
-
--- the longest world file, journal file and element file, in bytes
-abbrev pub world_limit : ℕ
-world_limit = 268435456
-
-abbrev pub journal_limit : ℕ
-journal_limit = 268435456
-
-abbrev pub element_limit : ℕ
-element_limit = 1048576
+use Rattle.feast_run.specs.declared.loading.TheConstants.{ELEMENT_LIMIT, JOURNAL_LIMIT, WORLD_LIMIT}
 
 -- each of these files is no longer than an element file may be
 abbrev pub AreWithin : List File → Type 0
-AreWithin files = All (λ (f : File). length (file_bytes f) ≤ element_limit) files
+AreWithin files = All (λ (f : File). length (file_bytes f) ≤ ELEMENT_LIMIT) files
 
 -- a refusal of a whole file, with its place at the file's first byte
 abbrev pub whole_file : ℕ → ℕ → Refusal
@@ -39,15 +30,15 @@ whole_file code value = record { code = code; place = record { file = 0; line = 
 
 -- a refusal of a line; places number lines up to 2^32 - 1, and no file that is loaded has more
 abbrev pub at_line : ℕ → ℕ → ℕ → Refusal
-at_line code line value = record { code = code; place = record { file = 0; line = min line 4294967295; column = 1 }; value = value }
+at_line code line value = record { code = code; place = record { file = 0; line = min line (2 ^ 32 - 1); column = 1 }; value = value }
 
 -- the refusal of a file that is longer than its limit
 abbrev pub too_long : List ℕ → ℕ → RefusedValue
-too_long word limit = refused input.File word (whole_file 2 limit)
+too_long word limit = refusal_of input.File word (whole_file 2 limit)
 
 -- the refusal of a world, by its first fault's code and line
 abbrev pub world_refused : List ℕ → ℕ × ℕ → RefusedValue
-world_refused word fault = refused input.World word (at_line fault.0 fault.1 0)
+world_refused word fault = refusal_of input.World word (at_line fault.0 fault.1 0)
 
 -- what is wrong with a line of a report, as a refusal of that line
 abbrev pub line_refusal : ℕ → LineFault → Refusal
@@ -58,7 +49,7 @@ line_refusal line OtherThanAttempt = at_line 83 line 0
 
 -- the refusal of a journal, by its first fault and that fault's line
 abbrev pub journal_refused : List ℕ → ℕ × LineFault → RefusedValue
-journal_refused word fault = refused input.Journal word (line_refusal fault.0 fault.1)
+journal_refused word fault = refusal_of input.Journal word (line_refusal fault.0 fault.1)
 
 -- the load of one file: its bytes, if files are known those of the first file of that name
 abbrev pub load : Option (List File) → ℕ → List ℕ → Stage (List ℕ) HaltValue
@@ -69,7 +60,7 @@ load files limit word (Err (misses w)) = w ≡ word
 -- the loads of the words that are left, after the files that are loaded
 abbrev pub load_more : Option (List File) → List File → List (List ℕ) → Stage (List File) HaltValue
 load_more files done [] = gives done
-load_more files done (word ∷ words) = and_then (load files element_limit word) (λ bytes. load_more files (done ++ (word, bytes) ∷ []) words)
+load_more files done (word ∷ words) = and_then (load files ELEMENT_LIMIT word) (λ bytes. load_more files (done ++ (word, bytes) ∷ []) words)
 
 -- the loads of element files, in order
 abbrev pub load_all : Option (List File) → List (List ℕ) → Stage (List File) HaltValue
@@ -78,7 +69,7 @@ load_all files words = load_more files [] words
 -- the building of loaded element files; the word of a refusal is that of the file it is in
 abbrev pub builds : List (List ℕ) → List File → Stage SetValue HaltValue
 builds words sources (Ok set) = AcceptsFiles sources set
-builds words sources (Err (refuses r)) = RefusesFiles sources r.refusal × (r ≡ refused input.Elements (slice_index_or words r.refusal.place.file []) r.refusal)
+builds words sources (Err (refuses r)) = RefusesFiles sources r.refusal × (r ≡ refusal_of input.Elements (slice_index_or words r.refusal.place.file []) r.refusal)
 builds words sources (Err (misses w)) = ⊥
 
 -- the set of some element files: all are loaded before the first is read
@@ -87,7 +78,7 @@ set_of files words = and_then (load_all files words) (builds words)
 
 -- what the text of a world says, before its atoms have types
 abbrev pub draft_of : Option (List File) → List ℕ → Stage DraftValue HaltValue
-draft_of files word = and_then (load files world_limit word) (λ bytes. decides (world_refused word) (read_text bytes))
+draft_of files word = and_then (load files WORLD_LIMIT word) (λ bytes. decides (world_refused word) (read_text bytes))
 
 -- a world, and what the elements of its atoms are called, by type number from 1, and do
 pub record ReadyValue : Type 0 where
@@ -100,16 +91,16 @@ abbrev pub ready_with : WorldValue → ElementsValue → ReadyValue
 ready_with world e = record { world = world; names = e.names; meaning = e.meaning }
 
 -- a world with the elements of a set, which do what their source means
-abbrev pub sourced : WorldValue → SetValue → ReadyValue
-sourced world set = ready_with world (source_elements set)
+abbrev pub ready_of_set : WorldValue → SetValue → ReadyValue
+ready_of_set world set = ready_with world (source_elements set)
 
 -- a world with the elements of a code file, which do what their codes do
-abbrev pub coded : WorldValue → CodesValue → ReadyValue
-coded world es = ready_with world (code_elements es)
+abbrev pub ready_of_codes : WorldValue → CodesValue → ReadyValue
+ready_of_codes world es = ready_with world (code_elements es)
 
 -- the names of a world's atoms, which are of these elements
 abbrev pub named_by : List ℕ → DraftValue → ElementsValue → Stage ReadyValue HaltValue
-named_by word draft e = and_then (decides (world_refused word) (named e.names draft)) (λ (world : WorldValue). gives (ready_with world e))
+named_by word draft e = and_then (decides (world_refused word) (world_with_names e.names draft)) (λ (world : WorldValue). gives (ready_with world e))
 
 -- the elements of a world, which a stage gives
 abbrev pub with_elements : {X : Type 0} → (X → ElementsValue) → Stage X HaltValue → List ℕ → DraftValue → Stage ReadyValue HaltValue
@@ -133,8 +124,8 @@ journal_in word world bytes = decides (journal_refused word) (entries_said (read
 
 -- the refusal of a report that has too few events, by how many it has
 abbrev pub records_refused : List ℕ → ℕ → RefusedValue
-records_refused word count = refused input.Journal word (whole_file 84 count)
+records_refused word count = refusal_of input.Journal word (whole_file 84 count)
 
 -- the journal of a world in the text of a report
 abbrev pub journal_of : Option (List File) → List ℕ → WorldValue → Stage Entries HaltValue
-journal_of files word world = and_then (load files journal_limit word) (journal_in word world)
+journal_of files word world = and_then (load files JOURNAL_LIMIT word) (journal_in word world)

@@ -3,13 +3,13 @@ use Rattle.std.specs.Prelude.{ℕ, ◌≡◌, List, [], ◌∷◌, ◌++◌, Res
 use Rattle.element_set.specs.Sets.{Coded}
 use Rattle.feast_base.specs.Outside.{ShelfState}
 use Rattle.feast_base.specs.Stages.{Stage}
-use Rattle.feast_run.specs.Halting.{HaltValue, RefusedValue, misses, refused, refuses}
+use Rattle.feast_run.specs.Halting.{HaltValue, RefusedValue, misses, refusal_of, refuses}
 use Rattle.feast_run.specs.declared.halt.Refused.{Refused as RefusedCode}
 use Rattle.feast_run.specs.declared.halt.Halt.{Halt}
 use Rattle.feast_run.specs.declared.halt.Halt.TheVariants.{Refused, Missing, NoMemory}
 
 abbrev pub refused_value : RefusedCode → RefusedValue
-refused_value r = refused r.input r.word.now r.refusal
+refused_value r = refusal_of r.input r.word.now r.refusal
 
 -- no name was noted, and nothing more may fail than before
 pub record Keeps (old new : ShelfState) : Type 0 where

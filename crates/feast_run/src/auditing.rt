@@ -1,11 +1,14 @@
 //! The stages of an audit.
 ghost use Rattle.std.specs.Prelude.{◌≡◌, ◌<◌, ◌≤◌, ◌^◌, IfOk, length};
 ghost use Rattle.feast_run.specs.Audited.{Audits, audit_of, audit_with};
-ghost use Rattle.feast_run.specs.Forms.{audit, most_files, texts};
+ghost use Rattle.feast_run.specs.Forms.{audit, texts};
 ghost use Rattle.feast_run.specs.Outputs.{IsWritable, output_text};
 ghost use Rattle.feast_run.specs.Replies.{TellsForm};
 ghost use Rattle.feast_run.specs.Tellings.{Moves, Tells};
 ghost use Rattle.feast_run.specs.Values.{IsReady, ready_value};
+ghost use Rattle.feast_run.specs.declared.form.TheConstants.{MOST_FILES};
+ghost use Rattle.report_text.specs.Again.{SaysThese};
+ghost use Rattle.world_text.specs.Values.{world_value};
 
 use crate::halt::Halt;
 use crate::journals::read_loaded;
@@ -13,27 +16,27 @@ use crate::loading::{JOURNAL_LIMIT, load_file};
 use crate::output::Output;
 use crate::worlds::{Ready, make_ready};
 use feast_base::{NoMemory, Shelf};
-use report_judge::{judge, judgement_line};
+use report_judge::{ReadReport, judge, judgement_line};
 use report_text::ReadJournal;
 use std::alloc::Global;
 use world_runs::start;
 
-/// The line of the judgement on a report of a world, whose bytes and journal these are.
+/// The line of the judgement on a report of a world, of whose bytes this journal was read.
 fn audit_line(
     alloc: Global,
     ready: &Ready,
     bytes: &[u8],
     journal: &ReadJournal,
 ) -> Result<Vec<u8>, NoMemory>
-    requires { IsReady ready.now }
+    requires ready { IsReady ready.now }
+    requires read { SaysThese (world_value ready.now.world).plane ready.now.world.plan.lists bytes.now journal.now }
     ensures { IfOk result (λ v. Audits (ready_value ready.now) bytes.now journal.now v.items) }
 {
     let grid = start(alloc, &ready.world)?;
     let mut actor = ready.elements.actor(alloc)?;
     let names = ready.elements.names();
-    let map = &ready.world.map;
-    let plan = &ready.world.plan;
-    let judgement = judge(alloc, map, plan, names, grid, bytes, journal, &mut actor)?;
+    let report = ReadReport::new(&ready.world.map, &ready.world.plan, bytes, journal);
+    let judgement = judge(alloc, &report, names, grid, &mut actor)?;
     judgement_line(alloc, judgement)
 }
 
@@ -79,7 +82,7 @@ pub fn audit_stages<'a, F: Shelf>(
     report: &'a str,
     words: &'a [String],
 ) -> Result<Output, Halt<'a>>
-    requires { length words.now ≤ most_files }
+    requires { length words.now ≤ MOST_FILES }
     ensures files { (F.state shelf.new).files ≡ (F.state shelf.old).files }
     ensures moves { Moves (F.state shelf.old) (F.state shelf.new) result }
     ensures tells { TellsForm (F.state shelf.old) (audit world.now report.now (texts words.now)) result }

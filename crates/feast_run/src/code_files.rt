@@ -13,7 +13,7 @@ use feast_base::Shelf;
 use std::alloc::Global;
 
 /// The refusal of a code file whose file has this word.
-fn refused<'a>(word: &'a str, code: u8, column: u64) -> Halt<'a>
+fn code_refusal<'a>(word: &'a str, code: u8, column: u64) -> Halt<'a>
     requires { Coded code }
     ensures { IsHalt (code_refused word.now code column) result }
 {
@@ -29,10 +29,10 @@ fn code_halt<'a>(word: &'a str, fault: CodeFault) -> Halt<'a>
     ensures { IsCodeHalt word.now fault result }
 {
     match fault {
-        CodeFault::BadMagic => refused(word, 61, 1),
-        CodeFault::BadForm(column) => refused(word, 62, column),
-        CodeFault::NotValid(column) => refused(word, 63, column),
-        CodeFault::SameName(column) => refused(word, 64, column),
+        CodeFault::BadMagic => code_refusal(word, 61, 1),
+        CodeFault::BadForm(column) => code_refusal(word, 62, column),
+        CodeFault::NotValid(column) => code_refusal(word, 63, column),
+        CodeFault::SameName(column) => code_refusal(word, 64, column),
         CodeFault::NoMemory => Halt::NoMemory,
     }
 }

@@ -1,9 +1,11 @@
 //! Loading and building element files.
 ghost use Rattle.std.specs.Prelude.{◌≡◌, ◌≤◌, [], IfOk, length, slice_index_or};
 ghost use Rattle.element_set.specs.Sets.{set_value};
-ghost use Rattle.feast_run.specs.Forms.{most_files, texts};
-ghost use Rattle.feast_run.specs.Stages.{AreWithin, builds, element_limit, load, load_all, set_of};
+ghost use Rattle.feast_run.specs.Forms.{texts};
+ghost use Rattle.feast_run.specs.Stages.{AreWithin, builds, load, load_all, set_of};
 ghost use Rattle.feast_run.specs.Tellings.{Moves, Tells};
+ghost use Rattle.feast_run.specs.declared.loading.TheConstants.{ELEMENT_LIMIT};
+ghost use Rattle.feast_run.specs.declared.form.TheConstants.{MOST_FILES};
 
 use crate::halt::{Halt, Input, Refused};
 use crate::loading::{ELEMENT_LIMIT, load_file};
@@ -19,7 +21,7 @@ fn load_source<'a, F: Shelf>(
 ) -> Result<Source, Halt<'a>>
     ensures files { (F.state shelf.new).files ≡ (F.state shelf.old).files }
     ensures moves { Moves (F.state shelf.old) (F.state shelf.new) result }
-    ensures tells { Tells (λ s. s.1) (load (F.state shelf.old).files element_limit word.now) result }
+    ensures tells { Tells (λ s. s.1) (load (F.state shelf.old).files ELEMENT_LIMIT word.now) result }
     ensures named { IfOk result (λ s. s.0 ≡ word.now) }
 {
     let bytes = load_file(alloc, shelf, word, ELEMENT_LIMIT)?;
@@ -57,8 +59,12 @@ fn word_of(words: &[String], file: u32) -> &str
 }
 
 /// The set of loaded element files, whose words these are.
-fn built<'a>(alloc: Global, words: &'a [String], sources: &[Source]) -> Result<ElementSet, Halt<'a>>
-    requires few { length sources.now ≤ most_files }
+fn build_set<'a>(
+    alloc: Global,
+    words: &'a [String],
+    sources: &[Source],
+) -> Result<ElementSet, Halt<'a>>
+    requires few { length sources.now ≤ MOST_FILES }
     requires short { AreWithin sources.now }
     ensures { Tells set_value (builds (texts words.now) sources.now) result }
 {
@@ -79,11 +85,11 @@ pub fn load_set<'a, F: Shelf>(
     shelf: &mut F,
     words: &'a [String],
 ) -> Result<ElementSet, Halt<'a>>
-    requires { length words.now ≤ most_files }
+    requires { length words.now ≤ MOST_FILES }
     ensures files { (F.state shelf.new).files ≡ (F.state shelf.old).files }
     ensures moves { Moves (F.state shelf.old) (F.state shelf.new) result }
     ensures tells { Tells set_value (set_of (F.state shelf.old).files (texts words.now)) result }
 {
     let sources = load_files(alloc, shelf, words)?;
-    built(alloc, words, sources.as_slice())
+    build_set(alloc, words, sources.as_slice())
 }

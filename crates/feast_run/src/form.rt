@@ -1,14 +1,16 @@
 //! The forms that the words of a call may have.
 ghost use Rattle.std.specs.Prelude.{ℕ, ◌≡◌, ◌≤◌, IfSome, List, MatchOption, None, Some, length, option_map};
-ghost use Rattle.feast_run.specs.Forms.{FormValue, IsFew, asked, form_value, later_form, left_of, most_files, of_files, of_journal, of_number, of_rewind, of_world, texts, two_words, world_form};
+ghost use Rattle.feast_run.specs.Forms.{FormValue, IsFew, form_of_words, form_value, later_form, left_of, of_files, of_journal, of_number, of_rewind, of_world, texts, two_words, world_form};
+ghost use Rattle.feast_run.specs.declared.form.TheConstants.{MOST_FILES};
 
+use feast_base::MOST_ATTEMPTS;
 use text_lines::number;
 
 /// The most element files.
 const MOST_FILES: usize = 64;
 
 /// The most events that a rewind may leave.
-const MOST_LEFT: u128 = 1_000_000;
+const MOST_LEFT: u128 = MOST_ATTEMPTS as u128;
 
 /// What the words of a call ask for.
 #[derive(Clone, Copy)]
@@ -43,7 +45,7 @@ pub enum Form<'a> {
 /// The words, if there are as many as a form may have element files.
 fn of_files(words: &[String]) -> Option<&[String]>
     ensures value { of_files (texts words.now) ≡ option_map (λ files. texts files.now) result }
-    ensures few { IfSome result (λ f. length f.now ≤ most_files) }
+    ensures few { IfSome result (λ f. length f.now ≤ MOST_FILES) }
 {
     if 1 <= words.len() && words.len() <= MOST_FILES {
         Some(words)
@@ -84,7 +86,7 @@ fn two_words(words: &[String]) -> Option<(&str, &str)>
 fn world_words(words: &[String]) -> Option<(&str, &[String])>
     ensures value { (make : List ℕ → List (List ℕ) → FormValue) →
         of_world make (texts words.now) ≡ option_map (λ p. make p.0.now (texts p.1.now)) result }
-    ensures few { IfSome result (λ p. length p.1.now ≤ most_files) }
+    ensures few { IfSome result (λ p. length p.1.now ≤ MOST_FILES) }
 {
     let (world, rest) = words.split_first()?;
     Some((world.as_str(), of_files(rest)?))
@@ -94,7 +96,7 @@ fn world_words(words: &[String]) -> Option<(&str, &[String])>
 fn report_words(words: &[String]) -> Option<(&str, &str, &[String])>
     ensures value { (make : List ℕ → List ℕ → List (List ℕ) → FormValue) →
         of_journal make (texts words.now) ≡ option_map (λ p. make p.0.now p.1.now (texts p.2.now)) result }
-    ensures few { IfSome result (λ p. length p.2.now ≤ most_files) }
+    ensures few { IfSome result (λ p. length p.2.now ≤ MOST_FILES) }
 {
     let (world, rest) = words.split_first()?;
     let (report, files) = world_words(rest)?;
@@ -161,7 +163,7 @@ fn read_world_form<'a>(verb: &str, rest: &'a [String]) -> Option<Form<'a>>
 
 /// The form of the words.
 pub fn read_form(words: &[String]) -> Option<Form<'_>>
-    ensures value { asked words.now ≡ option_map form_value result }
+    ensures value { form_of_words words.now ≡ option_map form_value result }
     ensures few { IfSome result IsFew }
 {
     let (verb, rest) = words.split_first()?;

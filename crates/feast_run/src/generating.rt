@@ -16,7 +16,7 @@ use crate::generated_elements::elements;
 use crate::halt::Halt;
 use crate::output::Output;
 use feast_base::NoMemory;
-use generated_world::{generated, summary};
+use generated_world::{summary, world_of_number};
 use serial_order::Outcome;
 use std::alloc::Global;
 use world_runs::stepped;
@@ -37,13 +37,13 @@ fn summary_of(alloc: Global, number: u64, elements: &Elements) -> Result<Vec<u8>
     ensures run { OnOk result (IsSteppedRun (generated_with number (elements_value elements.now))) }
     ensures text { IfOk result (λ v. v.items ≡ summary_with number (elements_value elements.now)) }
 {
-    let world = generated(alloc, number)?;
+    let world = world_of_number(alloc, number)?;
     let outcome = outcome(alloc, &world, elements)?;
     summary(alloc, number, &outcome.grid, &outcome.journal)
 }
 
 /// The summary of the stepped run of the world of a number, with its elements.
-fn summarized(alloc: Global, number: u64) -> Result<Vec<u8>, NoMemory>
+fn own_summary(alloc: Global, number: u64) -> Result<Vec<u8>, NoMemory>
     ensures { IfOk result (λ v. generates number (Ok v.items)) }
 {
     let own = Elements::Sources(elements(alloc)?);
@@ -56,6 +56,6 @@ pub fn gen_stages<'a>(alloc: Global, number: u64) -> Result<Output, Halt<'a>>
     ensures tells { Tells output_text (generates number) result }
     ensures writable { IfOk result IsWritable }
 {
-    let text = summarized(alloc, number)?;
+    let text = own_summary(alloc, number)?;
     Ok(Output::Text(text))
 }

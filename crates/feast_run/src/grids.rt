@@ -10,7 +10,7 @@ use crate::worlds::Ready;
 use cell_grid::{Grid, Record};
 use feast_base::NoMemory;
 use std::alloc::Global;
-use world_runs::replayed;
+use world_runs::replay_world;
 
 /// The grid that some events leave of a world, by what its elements do.
 pub fn grid_after(alloc: Global, ready: &Ready, records: &[Record]) -> Result<Grid, NoMemory>
@@ -20,5 +20,5 @@ pub fn grid_after(alloc: Global, ready: &Ready, records: &[Record]) -> Result<Gr
     ensures named { IfOk result (λ g. AreNamed (elements_value ready.now.elements).names g.atoms) }
 {
     let mut actor = ready.elements.actor(alloc)?;
-    replayed(alloc, &ready.world, records, &mut actor)
+    replay_world(alloc, &ready.world, records, &mut actor)
 }

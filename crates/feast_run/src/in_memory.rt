@@ -1,7 +1,7 @@
 //! The top call over a shelf and a sink in memory.
 ghost use Rattle.std.specs.Prelude.{◌<◌, ◌^◌, ◌-◌};
-ghost use Rattle.feast_run.specs.Forms.{asked};
-ghost use Rattle.feast_run.specs.Promises.{EndsInMemory, NothingFails, held};
+ghost use Rattle.feast_run.specs.Forms.{form_of_words};
+ghost use Rattle.feast_run.specs.Promises.{EndsInMemory, NothingFails, both_held};
 
 use crate::{Status, feast};
 use feast_base::{Gate, MemShelf, MemSink};
@@ -21,8 +21,8 @@ pub fn feast_in_memory<R: Threads + Sync, G: Gate>(
     gate: &G,
 ) -> Status
     requires { sink.old.faults < 2 ^ 64 - 1 }
-    ensures ends { EndsInMemory (asked words.now) (held shelf.old sink.old) (held shelf.new sink.new) result }
-    ensures nothing_fails { NothingFails (asked words.now) (held shelf.old sink.old) (held shelf.new sink.new) result }
+    ensures ends { EndsInMemory (form_of_words words.now) (both_held shelf.old sink.old) (both_held shelf.new sink.new) result }
+    ensures nothing_fails { NothingFails (form_of_words words.now) (both_held shelf.old sink.old) (both_held shelf.new sink.new) result }
 {
     feast(rt, alloc, words, shelf, sink, gate)
 }

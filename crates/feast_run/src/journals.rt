@@ -4,7 +4,7 @@ ghost use Rattle.report_text.specs.Reading.{fault_of};
 ghost use Rattle.report_text.specs.Cursors.{ReadsJournal};
 ghost use Rattle.report_text.specs.Entries.{Entries};
 ghost use Rattle.feast_run.specs.Faults.{IsJournalHalt, IsHalt};
-ghost use Rattle.feast_run.specs.Halting.{refused};
+ghost use Rattle.feast_run.specs.Halting.{refusal_of};
 ghost use Rattle.feast_run.specs.Stages.{journal_in, journal_of};
 ghost use Rattle.feast_run.specs.Tellings.{Moves, Tells};
 ghost use Rattle.feast_run.specs.declared.halt.Input.TheVariants as input;
@@ -20,9 +20,9 @@ use std::alloc::Global;
 use world_text::World;
 
 /// The halt at a refusal of a journal whose file has this word.
-pub fn refused<'a>(word: &'a str, refusal: Refusal) -> Halt<'a>
+pub fn journal_refusal<'a>(word: &'a str, refusal: Refusal) -> Halt<'a>
     requires { Coded refusal.code }
-    ensures { IsHalt (refused input.Journal word.now refusal) result }
+    ensures { IsHalt (refusal_of input.Journal word.now refusal) result }
 {
     Halt::Refused(Refused {
         input: Input::Journal,
@@ -36,10 +36,13 @@ fn journal_halt<'a>(word: &'a str, fault: JournalFault) -> Halt<'a>
     ensures { IsJournalHalt word.now (fault_of fault) result }
 {
     match fault {
-        JournalFault::BadLine(line) => refused(word, at_line(80, line, 0)),
-        JournalFault::OutOfOrder(line, previous) => refused(word, at_line(81, line, previous)),
-        JournalFault::NotOwned(line) => refused(word, at_line(82, line, 0)),
-        JournalFault::NotDrawn(line) => refused(word, at_line(83, line, 0)),
+        JournalFault::BadLine(line) => journal_refusal(word, at_line(80, line, 0)),
+        JournalFault::OutOfOrder(line, previous) => journal_refusal(
+            word,
+            at_line(81, line, previous),
+        ),
+        JournalFault::NotOwned(line) => journal_refusal(word, at_line(82, line, 0)),
+        JournalFault::NotDrawn(line) => journal_refusal(word, at_line(83, line, 0)),
         JournalFault::NoMemory => Halt::NoMemory,
     }
 }

@@ -31,5 +31,6 @@ mod worlds;
 
 pub use in_memory::feast_in_memory;
 pub use law::wander_and_stone;
+pub use loading::{CODE_LIMIT, ELEMENT_LIMIT, JOURNAL_LIMIT, WORLD_LIMIT};
 pub use status::Status;
 pub use top::feast;

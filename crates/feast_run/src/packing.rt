@@ -2,11 +2,12 @@
 ghost use Rattle.std.specs.Prelude.{◌≡◌, ◌≤◌, IfOk, length};
 ghost use Rattle.element_set.specs.Sets.{set_value};
 ghost use Rattle.feast_run.specs.Answer.{shows};
-ghost use Rattle.feast_run.specs.Forms.{most_files, pack, texts};
+ghost use Rattle.feast_run.specs.Forms.{pack, texts};
 ghost use Rattle.feast_run.specs.Outputs.{IsWritable, output_text};
 ghost use Rattle.feast_run.specs.Packed.{pack_text};
 ghost use Rattle.feast_run.specs.Replies.{TellsForm};
 ghost use Rattle.feast_run.specs.Tellings.{Moves, Tells};
+ghost use Rattle.feast_run.specs.declared.form.TheConstants.{MOST_FILES};
 
 use crate::element_files::load_set;
 use crate::halt::Halt;
@@ -17,7 +18,7 @@ use feast_base::Shelf;
 use std::alloc::Global;
 
 /// The code file of a set's elements.
-fn packed<'a>(alloc: Global, set: &ElementSet) -> Result<Output, Halt<'a>>
+fn pack_output<'a>(alloc: Global, set: &ElementSet) -> Result<Output, Halt<'a>>
     ensures tells { Tells output_text (shows pack_text (set_value set.now)) result }
     ensures writable { IfOk result IsWritable }
 {
@@ -32,12 +33,12 @@ pub fn pack_stages<'a, F: Shelf>(
     shelf: &mut F,
     words: &'a [String],
 ) -> Result<Output, Halt<'a>>
-    requires { length words.now ≤ most_files }
+    requires { length words.now ≤ MOST_FILES }
     ensures files { (F.state shelf.new).files ≡ (F.state shelf.old).files }
     ensures moves { Moves (F.state shelf.old) (F.state shelf.new) result }
     ensures tells { TellsForm (F.state shelf.old) (pack (texts words.now)) result }
     ensures writable { IfOk result IsWritable }
 {
     let set = load_set(alloc, shelf, words)?;
-    packed(alloc, &set)
+    pack_output(alloc, &set)
 }

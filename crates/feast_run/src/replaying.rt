@@ -1,13 +1,14 @@
 //! The stages of a replay.
 ghost use Rattle.std.specs.Prelude.{◌≡◌, ◌≤◌, All, IfOk, length};
 ghost use Rattle.feast_run.specs.Answer.{atoms_after, replay_of};
-ghost use Rattle.feast_run.specs.Forms.{most_files, replay, texts};
+ghost use Rattle.feast_run.specs.Forms.{replay, texts};
 ghost use Rattle.feast_run.specs.Outputs.{IsWritable, output_text};
 ghost use Rattle.feast_run.specs.Replies.{TellsForm};
 ghost use Rattle.feast_run.specs.Tellings.{Moves, Tells};
 ghost use Rattle.feast_run.specs.Values.{IsReady, ready_value};
 ghost use Rattle.world_runs.specs.Worlds.{IsLiveEvent};
 ghost use Rattle.world_text.specs.Values.{world_value};
+ghost use Rattle.feast_run.specs.declared.form.TheConstants.{MOST_FILES};
 
 use crate::grids::grid_after;
 use crate::halt::Halt;
@@ -55,7 +56,7 @@ pub fn replay_stages<'a, F: Shelf>(
     journal: &'a str,
     words: &'a [String],
 ) -> Result<Output, Halt<'a>>
-    requires { length words.now ≤ most_files }
+    requires { length words.now ≤ MOST_FILES }
     ensures files { (F.state shelf.new).files ≡ (F.state shelf.old).files }
     ensures moves { Moves (F.state shelf.old) (F.state shelf.new) result }
     ensures tells { TellsForm (F.state shelf.old) (replay world.now journal.now (texts words.now)) result }

@@ -4,7 +4,7 @@ ghost use Rattle.element_set.specs.Sets.{Coded};
 ghost use Rattle.feast_base.specs.Refusals.{refusal_line};
 ghost use Rattle.feast_run.specs.Changes.{change};
 ghost use Rattle.feast_run.specs.Ending.{status_of_input};
-ghost use Rattle.feast_run.specs.Forms.{IsFew, asked, form_value};
+ghost use Rattle.feast_run.specs.Forms.{IsFew, form_of_words, form_value};
 ghost use Rattle.feast_run.specs.Outputs.{IsWritable};
 ghost use Rattle.feast_run.specs.Replies.{Replies, Says};
 
@@ -98,7 +98,7 @@ pub fn reply_to_words<R: Threads + Sync, F: Shelf, G: Gate>(
     gate: &G,
 ) -> Result<Reply, NoMemory>
     ensures files { (F.state shelf.new).files ≡ (F.state shelf.old).files }
-    ensures says { Replies (asked words.now) (change F.state shelf.old shelf.new) result }
+    ensures says { Replies (form_of_words words.now) (change F.state shelf.old shelf.new) result }
     ensures writable { IfOk result (λ reply. IsWritable reply.output) }
 {
     match read_form(words) {

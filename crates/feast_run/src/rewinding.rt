@@ -2,7 +2,7 @@
 ghost use Rattle.std.specs.Prelude.{◌≡◌, ◌<◌, ◌≤◌, All, Err, IfOk, length, take};
 ghost use Rattle.feast_run.specs.Answer.{atoms_after, rewind_of, rewinds};
 ghost use Rattle.feast_run.specs.Faults.{IsHalt};
-ghost use Rattle.feast_run.specs.Forms.{most_files, rewind, texts};
+ghost use Rattle.feast_run.specs.Forms.{rewind, texts};
 ghost use Rattle.feast_run.specs.Outputs.{IsWritable, output_text};
 ghost use Rattle.feast_run.specs.Replies.{TellsForm};
 ghost use Rattle.feast_run.specs.Stages.{records_refused};
@@ -10,14 +10,15 @@ ghost use Rattle.feast_run.specs.Tellings.{Moves, Tells};
 ghost use Rattle.feast_run.specs.Values.{IsReady, ready_value};
 ghost use Rattle.world_runs.specs.Worlds.{IsLiveEvent};
 ghost use Rattle.world_text.specs.Values.{world_value};
+ghost use Rattle.feast_run.specs.declared.form.TheConstants.{MOST_FILES};
 
 use crate::halt::Halt;
-use crate::journals::{load_journal, refused};
+use crate::journals::{journal_refusal, load_journal};
 use crate::loading::whole_file;
 use crate::output::Output;
 use crate::worlds::{Ready, make_ready};
 use cell_grid::Record;
-use event_film::rewound;
+use event_film::rewind;
 use feast_base::{NoMemory, Shelf};
 use report_text::{ReadJournal, grid_text};
 use std::alloc::Global;
@@ -40,7 +41,7 @@ fn rewind_text(
 {
     let first = start(alloc, &ready.world)?;
     let mut actor = ready.elements.actor(alloc)?;
-    let grid = rewound(alloc, first, records, left, &mut actor)?;
+    let grid = rewind(alloc, first, records, left, &mut actor)?;
     grid_text(alloc, &grid, ready.elements.names())
 }
 
@@ -48,7 +49,7 @@ fn rewind_text(
 fn too_few<'a>(word: &'a str, journal: &ReadJournal) -> Halt<'a>
     ensures { IsHalt (records_refused word.now (length journal.now.records)) result }
 {
-    refused(word, whole_file(TOO_FEW, journal.records().len() as u64))
+    journal_refusal(word, whole_file(TOO_FEW, journal.records().len() as u64))
 }
 
 /// The halt at a journal that has fewer events than are to remain.
@@ -124,7 +125,7 @@ pub fn rewind_stages<'a, F: Shelf>(
     left: u32,
     words: &'a [String],
 ) -> Result<Output, Halt<'a>>
-    requires { length words.now ≤ most_files }
+    requires { length words.now ≤ MOST_FILES }
     ensures files { (F.state shelf.new).files ≡ (F.state shelf.old).files }
     ensures moves { Moves (F.state shelf.old) (F.state shelf.new) result }
     ensures tells { TellsForm (F.state shelf.old) (rewind world.now report.now left (texts words.now)) result }

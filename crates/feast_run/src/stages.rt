@@ -2,10 +2,11 @@
 ghost use Rattle.std.specs.Prelude.{◌≡◌, ◌≤◌, IfOk, length};
 ghost use Rattle.element_set.specs.Sets.{check_text, code_text, set_value};
 ghost use Rattle.feast_run.specs.Answer.{shows};
-ghost use Rattle.feast_run.specs.Forms.{IsFew, check, code, form_value, most_files, texts};
+ghost use Rattle.feast_run.specs.Forms.{IsFew, check, code, form_value, texts};
 ghost use Rattle.feast_run.specs.Outputs.{IsWritable, output_text};
 ghost use Rattle.feast_run.specs.Replies.{TellsForm};
 ghost use Rattle.feast_run.specs.Tellings.{Moves, Tells};
+ghost use Rattle.feast_run.specs.declared.form.TheConstants.{MOST_FILES};
 
 use crate::auditing::audit_stages;
 use crate::element_files::load_set;
@@ -24,7 +25,7 @@ use std::alloc::Global;
 use std::thread::Threads;
 
 /// The text of a check of a set.
-fn checked<'a>(alloc: Global, set: &ElementSet) -> Result<Output, Halt<'a>>
+fn check_output<'a>(alloc: Global, set: &ElementSet) -> Result<Output, Halt<'a>>
     ensures tells { Tells output_text (shows check_text (set_value set.now)) result }
     ensures writable { IfOk result IsWritable }
 {
@@ -39,18 +40,18 @@ fn check_stages<'a, F: Shelf>(
     shelf: &mut F,
     words: &'a [String],
 ) -> Result<Output, Halt<'a>>
-    requires { length words.now ≤ most_files }
+    requires { length words.now ≤ MOST_FILES }
     ensures files { (F.state shelf.new).files ≡ (F.state shelf.old).files }
     ensures moves { Moves (F.state shelf.old) (F.state shelf.new) result }
     ensures tells { TellsForm (F.state shelf.old) (check (texts words.now)) result }
     ensures writable { IfOk result IsWritable }
 {
     let set = load_set(alloc, shelf, words)?;
-    checked(alloc, &set)
+    check_output(alloc, &set)
 }
 
 /// The text of the codes of a set.
-fn coded<'a>(alloc: Global, set: &ElementSet) -> Result<Output, Halt<'a>>
+fn code_output<'a>(alloc: Global, set: &ElementSet) -> Result<Output, Halt<'a>>
     ensures tells { Tells output_text (shows code_text (set_value set.now)) result }
     ensures writable { IfOk result IsWritable }
 {
@@ -65,14 +66,14 @@ fn code_stages<'a, F: Shelf>(
     shelf: &mut F,
     words: &'a [String],
 ) -> Result<Output, Halt<'a>>
-    requires { length words.now ≤ most_files }
+    requires { length words.now ≤ MOST_FILES }
     ensures files { (F.state shelf.new).files ≡ (F.state shelf.old).files }
     ensures moves { Moves (F.state shelf.old) (F.state shelf.new) result }
     ensures tells { TellsForm (F.state shelf.old) (code (texts words.now)) result }
     ensures writable { IfOk result IsWritable }
 {
     let set = load_set(alloc, shelf, words)?;
-    coded(alloc, &set)
+    code_output(alloc, &set)
 }
 
 /// The stages of a form, up to what it writes.

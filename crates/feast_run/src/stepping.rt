@@ -1,12 +1,13 @@
 //! The stages of a stepped run.
 ghost use Rattle.std.specs.Prelude.{◌≡◌, ◌≤◌, IfOk, length};
 ghost use Rattle.feast_run.specs.Answer.{steps};
-ghost use Rattle.feast_run.specs.Forms.{most_files, step, steppack, texts};
+ghost use Rattle.feast_run.specs.Forms.{step, steppack, texts};
 ghost use Rattle.feast_run.specs.Outputs.{IsWritable, output_text};
 ghost use Rattle.feast_run.specs.Replies.{TellsForm};
 ghost use Rattle.feast_run.specs.Stepped.{IsOutcomeOf, IsSteppedRun, stepped_report};
 ghost use Rattle.feast_run.specs.Tellings.{Moves, Tells};
 ghost use Rattle.feast_run.specs.Values.{IsReady, ready_value};
+ghost use Rattle.feast_run.specs.declared.form.TheConstants.{MOST_FILES};
 
 use crate::acting::{actors, tiles_in};
 use crate::halt::Halt;
@@ -59,7 +60,7 @@ pub fn step_stages<'a, F: Shelf>(
     world: &'a str,
     words: &'a [String],
 ) -> Result<Output, Halt<'a>>
-    requires { length words.now ≤ most_files }
+    requires { length words.now ≤ MOST_FILES }
     ensures files { (F.state shelf.new).files ≡ (F.state shelf.old).files }
     ensures moves { Moves (F.state shelf.old) (F.state shelf.new) result }
     ensures tells { TellsForm (F.state shelf.old) (step world.now (texts words.now)) result }

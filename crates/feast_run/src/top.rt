@@ -2,7 +2,7 @@
 ghost use Rattle.std.specs.Prelude.{◌≡◌, ◌<◌, ◌^◌, ◌-◌};
 ghost use Rattle.feast_run.specs.Changes.{change};
 ghost use Rattle.feast_run.specs.Ending.{Ends};
-ghost use Rattle.feast_run.specs.Forms.{asked};
+ghost use Rattle.feast_run.specs.Forms.{form_of_words};
 ghost use Rattle.feast_run.specs.Naming.{Names};
 ghost use Rattle.feast_run.specs.Outputs.{IsWritable, output_text};
 ghost use Rattle.feast_run.specs.Promises.{Complete, Exactly, Headline, Noted, UsageExactly};
@@ -75,7 +75,7 @@ fn call<R: Threads + Sync, F: Shelf, K: Sink, G: Gate>(
 ) -> Status
     requires { (K.state sink.old).faults < 2 ^ 64 - 1 }
     ensures files { (F.state shelf.new).files ≡ (F.state shelf.old).files }
-    ensures ends { Ends (asked words.now) (change F.state shelf.old shelf.new) (change K.state sink.old sink.new) result }
+    ensures ends { Ends (form_of_words words.now) (change F.state shelf.old shelf.new) (change K.state sink.old sink.new) result }
 {
     match reply_to_words(rt, alloc, shelf, words, gate) {
         Ok(reply) => put(alloc, sink, &reply),
@@ -144,13 +144,13 @@ pub fn feast<R: Threads + Sync, F: Shelf, K: Sink, G: Gate>(
 ) -> Status
     requires { (K.state sink.old).faults < 2 ^ 64 - 1 }
     ensures files { (F.state shelf.new).files ≡ (F.state shelf.old).files }
-    ensures ends { Ends (asked words.now) (change F.state shelf.old shelf.new) (change K.state sink.old sink.new) result }
-    ensures headline { Headline (asked words.now) (F.state shelf.old) (change K.state sink.old sink.new) result }
-    ensures usage { UsageExactly (asked words.now) result }
-    ensures exactly { Exactly (asked words.now) (change F.state shelf.old shelf.new) (change K.state sink.old sink.new) result }
-    ensures names { Names (asked words.now) (change K.state sink.old sink.new) result }
-    ensures noted { Noted (asked words.now) (change F.state shelf.old shelf.new) result }
-    ensures complete { Complete (asked words.now) (change F.state shelf.old shelf.new) (change K.state sink.old sink.new) result }
+    ensures ends { Ends (form_of_words words.now) (change F.state shelf.old shelf.new) (change K.state sink.old sink.new) result }
+    ensures headline { Headline (form_of_words words.now) (F.state shelf.old) (change K.state sink.old sink.new) result }
+    ensures usage { UsageExactly (form_of_words words.now) result }
+    ensures exactly { Exactly (form_of_words words.now) (change F.state shelf.old shelf.new) (change K.state sink.old sink.new) result }
+    ensures names { Names (form_of_words words.now) (change K.state sink.old sink.new) result }
+    ensures noted { Noted (form_of_words words.now) (change F.state shelf.old shelf.new) result }
+    ensures complete { Complete (form_of_words words.now) (change F.state shelf.old shelf.new) (change K.state sink.old sink.new) result }
 {
     call(rt, alloc, words, shelf, sink, gate)
 }

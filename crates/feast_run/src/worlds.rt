@@ -3,7 +3,7 @@ ghost use Rattle.std.specs.Prelude.{◌≡◌, ◌≤◌, IfOk, length};
 ghost use Rattle.cell_grid.specs.Known.{BringsNone};
 ghost use Rattle.code_file.specs.Form.{IsSayable};
 ghost use Rattle.feast_run.specs.Faults.{IsHalt, IsWorldHalt};
-ghost use Rattle.feast_run.specs.Forms.{most_files, texts};
+ghost use Rattle.feast_run.specs.Forms.{texts};
 ghost use Rattle.feast_run.specs.CodeFiles.{ready_packed, with_codes};
 ghost use Rattle.feast_run.specs.Elements.{code_elements, source_elements};
 ghost use Rattle.feast_run.specs.Halting.{decides};
@@ -11,10 +11,11 @@ ghost use Rattle.feast_run.specs.Stages.{draft_of, named_by, ready, with_sources
 ghost use Rattle.feast_run.specs.Tellings.{Moves, Tells};
 ghost use Rattle.feast_run.specs.Values.{IsReady, elements_value, ready_value};
 ghost use Rattle.element_set.specs.Sets.{Coded, set_value};
-ghost use Rattle.world_text.specs.Named.{named};
+ghost use Rattle.world_text.specs.Named.{world_with_names};
 ghost use Rattle.world_text.specs.Printed.{IsNamed};
 ghost use Rattle.world_text.specs.Reading.{fault_of};
 ghost use Rattle.world_text.specs.Values.{world_value};
+ghost use Rattle.feast_run.specs.declared.form.TheConstants.{MOST_FILES};
 
 use crate::code_files::load_codes;
 use crate::element_files::load_set;
@@ -41,7 +42,7 @@ impl Drop for Ready {
 }
 
 /// The refusal of a world whose file has this word.
-fn refused<'a>(word: &'a str, code: u8, line: u64) -> Halt<'a>
+fn world_refusal<'a>(word: &'a str, code: u8, line: u64) -> Halt<'a>
     requires { Coded code }
     ensures { IsHalt (world_refused word.now (code, line)) result }
 {
@@ -57,13 +58,13 @@ fn world_halt<'a>(word: &'a str, fault: WorldFault) -> Halt<'a>
     ensures { IsWorldHalt word.now (fault_of fault) result }
 {
     match fault {
-        WorldFault::BadHeader(line) => refused(word, 70, line),
-        WorldFault::BadLine(line) => refused(word, 71, line),
-        WorldFault::OutOfRange(line) => refused(word, 72, line),
-        WorldFault::UnknownElement(line) => refused(word, 73, line),
-        WorldFault::SiteTaken(line) => refused(word, 74, line),
-        WorldFault::TooManyAttempts(line) => refused(word, 75, line),
-        WorldFault::MissingLine(line) => refused(word, 76, line),
+        WorldFault::BadHeader(line) => world_refusal(word, 70, line),
+        WorldFault::BadLine(line) => world_refusal(word, 71, line),
+        WorldFault::OutOfRange(line) => world_refusal(word, 72, line),
+        WorldFault::UnknownElement(line) => world_refusal(word, 73, line),
+        WorldFault::SiteTaken(line) => world_refusal(word, 74, line),
+        WorldFault::TooManyAttempts(line) => world_refusal(word, 75, line),
+        WorldFault::MissingLine(line) => world_refusal(word, 76, line),
         WorldFault::NoMemory => Halt::NoMemory,
     }
 }
@@ -86,14 +87,14 @@ fn load_draft<'a, F: Shelf>(
 }
 
 /// The world of a draft whose elements have these names.
-fn named<'a>(
+fn world_with_names<'a>(
     alloc: Global,
     word: &'a str,
     draft: RawWorld,
     names: &[Name],
 ) -> Result<World, Halt<'a>>
     requires { length names.now ≤ 65535 }
-    ensures tells { Tells world_value (decides (world_refused word.now) (named names.now draft)) result }
+    ensures tells { Tells world_value (decides (world_refused word.now) (world_with_names names.now draft)) result }
     ensures named { IfOk result (λ w. IsNamed names.now (world_value w)) }
 {
     match name(alloc, draft, names) {
@@ -114,7 +115,7 @@ fn with_elements<'a>(
     ensures tells { Tells ready_value (named_by word.now draft (elements_value elements)) result }
     ensures ready { IfOk result IsReady }
 {
-    let world = named(alloc, word, draft, elements.names())?;
+    let world = world_with_names(alloc, word, draft, elements.names())?;
     Ok(Ready { world, elements })
 }
 
@@ -153,7 +154,7 @@ fn with_element_files<'a, F: Shelf>(
     words: &'a [String],
     draft: RawWorld,
 ) -> Result<Ready, Halt<'a>>
-    requires { length words.now ≤ most_files }
+    requires { length words.now ≤ MOST_FILES }
     ensures files { (F.state shelf.new).files ≡ (F.state shelf.old).files }
     ensures moves { Moves (F.state shelf.old) (F.state shelf.new) result }
     ensures tells { Tells ready_value (with_sources (F.state shelf.old).files (texts words.now) word.now draft) result }
@@ -187,7 +188,7 @@ pub fn make_ready<'a, F: Shelf>(
     word: &'a str,
     words: &'a [String],
 ) -> Result<Ready, Halt<'a>>
-    requires { length words.now ≤ most_files }
+    requires { length words.now ≤ MOST_FILES }
     ensures files { (F.state shelf.new).files ≡ (F.state shelf.old).files }
     ensures moves { Moves (F.state shelf.old) (F.state shelf.new) result }
     ensures tells { Tells ready_value (ready (F.state shelf.old).files word.now (texts words.now)) result }

@@ -12,7 +12,7 @@ use Rattle.draw_stream.proofs.Plans.{length_seeded_lists, seeded_lists_at}
 use Rattle.tile_map.specs.Plane.{IsMap, is_on}
 use Rattle.world_runs.specs.Worlds.{IsAttempt, IsWorld}
 use Rattle.world_text.specs.Named.{WorldValue}
-use Rattle.generated_world.specs.Generated.{generated, plane}
+use Rattle.generated_world.specs.Generated.{world_of_number, plane}
 use Rattle.generated_world.proofs.Drawing.{drawn_live}
 
 plane_fits : IsMap plane
@@ -37,7 +37,7 @@ attempts_fit seed tile = elim (cases_lt tile 16) [
   | inr past ↦ subst (All (IsAttempt plane tile)) (sym (get_or-eq_default (seeded seed 500 plane.off 256).lists [] {n = tile} (omega (arith, past, length_seeded_lists seed 500 plane.off 256)))) (All-nil (IsAttempt plane tile))
 ]
 
-generated_fits : (number : ℕ) → IsWorld (generated number)
+generated_fits : (number : ℕ) → IsWorld (world_of_number number)
 generated_fits number = record {
   map = plane_fits;
   lists = length_seeded_lists number 500 plane.off 256;
@@ -45,5 +45,5 @@ generated_fits number = record {
   atoms = drawn_live (stream_seed number 2) 4096 (omega arith);
 }
 
-pub fits_by : (number : ℕ) (w : WorldValue) → w ≡ generated number → IsWorld w
+pub fits_by : (number : ℕ) (w : WorldValue) → w ≡ world_of_number number → IsWorld w
 fits_by number w e = subst IsWorld (sym e) (generated_fits number)

@@ -29,8 +29,8 @@ drawn_atoms seed sites = flat_map (λ place. put_by place (tile_word seed place 
 
 -- the world: each tile draws 500 attempts from the number, the order of a stepped run is drawn from the next number, and
 -- the atoms of its 4,096 sites from the one after that
-abbrev pub generated : ℕ → WorldValue
-generated number = record {
+abbrev pub world_of_number : ℕ → WorldValue
+world_of_number number = record {
   plane = plane;
   plan = seeded number 500 plane.off (16 * 16);
   atoms = drawn_atoms (stream_seed number 2) 4096;

@@ -6,4 +6,4 @@ mod counts;
 mod world;
 
 pub use counts::summary;
-pub use world::generated;
+pub use world::world_of_number;

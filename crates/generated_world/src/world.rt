@@ -2,7 +2,7 @@
 ghost use Rattle.std.specs.Prelude.{◌≡◌, ◌+◌, ◌*◌, ◌<◌, ◌++◌, IfOk, OnOk};
 ghost use Rattle.draw_stream.specs.Attempts.{stream_seed};
 ghost use Rattle.draw_stream.specs.Words.{tile_state};
-ghost use Rattle.generated_world.specs.Generated.{drawn_atoms, generated, placed_at, put_by};
+ghost use Rattle.generated_world.specs.Generated.{drawn_atoms, world_of_number, placed_at, put_by};
 ghost use Rattle.world_runs.specs.Worlds.{IsWorld};
 ghost use Rattle.world_text.specs.Values.{world_value};
 
@@ -79,7 +79,7 @@ fn drawn_atoms(alloc: Global, seed: u64) -> Result<Vec<Placed>, NoMemory>
 
 /// The world of a number.
 fn drawn_world(alloc: Global, number: u64) -> Result<World, NoMemory>
-    ensures { IfOk result (λ w. world_value w ≡ generated number) }
+    ensures { IfOk result (λ w. world_value w ≡ world_of_number number) }
 {
     let off = vec![in alloc; false; 16]?;
     let plan = AttemptPlan::seeded(alloc, number, 500, off.as_slice(), 256)?;
@@ -96,8 +96,8 @@ fn drawn_world(alloc: Global, number: u64) -> Result<World, NoMemory>
 /// The world of a number: 4 by 4 tiles of 16 by 16 sites, whose plan, order and atoms are drawn.
 /// About one of eight sites has a `Wander` (type 1), one a `Stone` (type 2), and the others
 /// nothing. `NoMemory` if there is none for its tiles or for its atoms.
-pub fn generated(alloc: Global, number: u64) -> Result<World, NoMemory>
-    ensures value { IfOk result (λ w. world_value w ≡ generated number) }
+pub fn world_of_number(alloc: Global, number: u64) -> Result<World, NoMemory>
+    ensures value { IfOk result (λ w. world_value w ≡ world_of_number number) }
     ensures world { IfOk result (λ w. IsWorld (world_value w)) }
 {
     let world = drawn_world(alloc, number)?;

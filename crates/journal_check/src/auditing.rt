@@ -6,8 +6,8 @@ ghost use Rattle.journal_check.specs.Entries.{IsPlanOf};
 ghost use Rattle.journal_check.specs.Verdicts.{IsVerdict};
 
 use crate::accounted::is_accounted;
-use crate::excused::unexcused;
-use crate::stamped::misstamped;
+use crate::excused::first_unexcused;
+use crate::stamped::first_misstamped;
 use crate::verdict::Verdict;
 use cell_grid::{Behave, Grid};
 use draw_stream::AttemptPlan;
@@ -44,10 +44,10 @@ pub fn audit<B: Behave>(
     if !is_accounted(alloc, map, plan, records, abandoned)? {
         return Ok(Verdict::NotAccounted);
     }
-    if let Some(k) = misstamped(alloc, map, records)? {
+    if let Some(k) = first_misstamped(alloc, map, records)? {
         return Ok(Verdict::NotStamped(k));
     }
-    if let Some(k) = unexcused(alloc, map, records, abandoned)? {
+    if let Some(k) = first_unexcused(alloc, map, records, abandoned)? {
         return Ok(Verdict::NotExcused(k));
     }
     let mut grid = start;

@@ -91,7 +91,7 @@ fn passed_abandoned<'a>(
 /// The events and the abandoned attempts that come after the entry of an attempt, if the tile's
 /// next event has its number, or else the next attempt that the tile gave up, and that entry is
 /// right.
-fn passed<'a>(
+fn take_entry<'a>(
     map: &Map,
     tile: u32,
     number: u64,
@@ -143,7 +143,7 @@ pub(crate) fn are_entries(
     let mut gone = abandoned;
     let mut number = 0u64;
     while let Some(attempt) = attempts.next() {
-        let Some((others, more)) = passed(map, tile, number, &attempt, events, gone) else {
+        let Some((others, more)) = take_entry(map, tile, number, &attempt, events, gone) else {
             return false;
         };
         events = others;

@@ -166,7 +166,7 @@ fn is_excused(map: &Map, table: &[Marks], abandoned: &[Abandoned], entry: &Aband
 
 /// The first abandoned attempt that is not excused. `NoMemory` if there is none for the events of
 /// each edge.
-pub(crate) fn unexcused(
+pub(crate) fn first_unexcused(
     alloc: Global,
     map: &Map,
     records: &[Record],

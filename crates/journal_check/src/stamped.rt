@@ -69,7 +69,7 @@ fn tick(map: &Map, clocks: &mut Clocks, entry: &Record) -> bool
 
 /// The first event whose stamp is not 1 more than the greatest of those before it that are linked
 /// with it. `NoMemory` if there is none for the clocks.
-pub(crate) fn misstamped(
+pub(crate) fn first_misstamped(
     alloc: Global,
     map: &Map,
     records: &[Record],

@@ -19,10 +19,10 @@ use Rattle.pack_laws.proofs.Empty.{is_set, no_set}
 use Rattle.world_text.proofs.Again.{text_again}
 use Rattle.world_text.specs.Drafts.{DraftValue, in_range, missing, nothing_said, only_plane, put, step as line_step, too_many}
 use Rattle.world_text.specs.Line.{Line, header, size, tiles}
-use Rattle.world_text.specs.Named.{WorldValue, name_fault, named, world_of}
+use Rattle.world_text.specs.Named.{WorldValue, name_fault, world_with_names, world_of}
 use Rattle.world_text.specs.Printed.{lines_text}
 use Rattle.world_text.specs.Reading.{read_text}
-use Rattle.world_text.specs.Saying.{IsPrinted, said}
+use Rattle.world_text.specs.Saying.{IsPrinted, draft_after_lines}
 use Rattle.world_text.specs.declared.kind.Kind.TheVariants.{Size}
 
 abbrev lines : List Line
@@ -49,14 +49,14 @@ spelled : empty_world ≡ lines_text lines
 unfolding digits
 spelled = refl
 
-says : said 1 nothing_said lines ≡ Ok draft
-unfolding said line_step in_range too_many put missing
+says : draft_after_lines 1 nothing_said lines ≡ Ok draft
+unfolding draft_after_lines line_step in_range too_many put missing
 says = refl
 
 reads : read_text empty_world ≡ Ok draft
 reads = ap read_text spelled ∙ text_again lines are_printed ∙ says
 
-is_named : named [] draft ≡ Ok world
+is_named : world_with_names [] draft ≡ Ok world
 unfolding name_fault
 is_named = refl
 

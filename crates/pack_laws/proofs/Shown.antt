@@ -7,7 +7,7 @@ use Rattle.feast_run.specs.Owing.{Reports}
 use Rattle.feast_run.specs.Promises.{RanTold, SteppedTold, WorldTold}
 use Rattle.feast_run.specs.Stages.{ready_with}
 use Rattle.feast_run.specs.Stepped.{IsSteppedRun, machine_of, stepped_report}
-use Rattle.world_text.specs.Named.{WorldValue, named}
+use Rattle.world_text.specs.Named.{WorldValue, world_with_names}
 use Rattle.world_text.specs.Reading.{read_text}
 
 -- this value alone is told
@@ -64,7 +64,7 @@ one_world : (files : List File) (word : List ℕ) (names : List (List ℕ)) (v w
 one_world files word names v w p q =
     let bytes = one_content (file_of word files) p.bytes q.bytes p.file q.file in
     let draft = one_ok (read_text q.bytes) p.reads.0 q.reads.0 (ap read_text (sym bytes) ∙ p.reads.1) q.reads.1 in
-    one_ok (named names q.reads.0) v w (ap (named names) (sym draft) ∙ p.reads.2) q.reads.2
+    one_ok (world_with_names names q.reads.0) v w (ap (world_with_names names) (sym draft) ∙ p.reads.2) q.reads.2
 
 -- the report of a stepped run with the elements that alone are told
 record ReportOf (files : List File) (word text : List ℕ) (e : ElementsValue) : Type 0 where

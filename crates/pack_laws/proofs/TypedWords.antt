@@ -7,7 +7,8 @@ use Rattle.list_laws.proofs.Tests.{or_second}
 use Rattle.ulam_tree.specs.Raw as raw
 use Rattle.ulam_tree.specs.Resolved as r
 use Rattle.ulam_tree.specs.Typed as t
-use Rattle.ulam_names.specs.Scopes.{Head, Names, Text, no_names, most_params}
+use Rattle.ulam_names.specs.Scopes.{Head, Names, Text, no_names}
+use Rattle.feast_base.specs.declared.limits.TheConstants.{MOST_PARAMS}
 use Rattle.ulam_names.specs.Classes.{HalfClass, Half, half_field, half_function, Known, is_behave, is_nothing, no_params}
 use Rattle.ulam_names.specs.ClassRelation.{AllBehave, AreClasses, AreItems, AreMembers, AreParams, own_class, AreWhole, IsMember, IsResolved}
 use Rattle.ulam_types.specs.Programs.{class_sig}
@@ -37,7 +38,7 @@ halves_append (x ∷ xs) ys a b = (a.0, halves_append xs ys a.1 b)
 params_few : (known : Known) (d : Names) (done : List Text) (ps : List raw.Param) (qs : List r.Param) → AreParams known d done ps qs → length done ≤ 8 → length done + length qs ≤ 8
 params_few known d done [] qs h few = subst (λ (l : List r.Param). length done + length l ≤ 8) (sym h) (omega (arith, few))
 params_few known d done (p ∷ ps) qs h few =
-    let room : length done < most_params = h.3 in
+    let room : length done < MOST_PARAMS = h.3 in
     let long = length-append done (p.word.name ∷ []) in
     let rest = params_few known d (done ++ p.word.name ∷ []) ps h.1 h.5 (omega (arith, room, long)) in
     subst (λ (l : List r.Param). length done + length l ≤ 8) (sym h.6) (omega (arith, rest, long))

@@ -10,8 +10,8 @@ use Rattle.code_file.specs.Judging.{Reads}
 use Rattle.code_file.specs.declared.fault.CodeFault.{CodeFault}
 
 -- the names of the elements, each with its code, in the order of their type numbers
-abbrev pub packed : SetValue → CodesValue
-packed set = elements (element_names set) (element_codes (program_of set))
+abbrev pub codes_of_set : SetValue → CodesValue
+codes_of_set set = elements (element_names set) (element_codes (program_of set))
 
 -- the code file of some elements is read as them
 abbrev pub ReadsBack : CodesValue → Type 0

@@ -2,10 +2,10 @@
 use Rattle.std.specs.Prelude.{ℕ, ◌≡◌, ◌≤◌, ◌↔◌, List, Some, length, Result, Ok, Err}
 use Rattle.feast_base.specs.Outside.{File, file_of}
 use Rattle.feast_run.specs.Answer.{form_answer}
-use Rattle.feast_run.specs.CodeFiles.{code_limit}
 use Rattle.feast_run.specs.Forms.{FormValue, pack, run, runpack, step, steppack}
 use Rattle.feast_run.specs.Halting.{HaltValue, misses, refuses}
 use Rattle.feast_run.specs.Promises.{Shows}
+use Rattle.feast_run.specs.declared.loading.TheConstants.{CODE_LIMIT}
 
 -- the first file of a name holds what `pack` writes for some element files, and is no longer than a
 -- code file may be
@@ -13,7 +13,7 @@ pub record IsPacked (files : List File) (words : List (List ℕ)) (file : List �
   pub text : List ℕ
   pub packed : Shows files (pack words) text
   pub stands : file_of file files ≡ Some text
-  pub within : length text ≤ code_limit
+  pub within : length text ≤ CODE_LIMIT
 
 -- no load failed
 abbrev pub IsLoaded : {A : Type 0} → Result A HaltValue → Type 0

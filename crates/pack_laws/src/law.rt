@@ -8,7 +8,7 @@ ghost use Rattle.code_file.specs.Right.{AreRight};
 ghost use Rattle.feast_run.specs.Forms.{runpack, steppack};
 ghost use Rattle.feast_run.specs.Promises.{Shows};
 ghost use Rattle.pack_laws.specs.Example.{empty_word, example_files, packed_word, world_word};
-ghost use Rattle.pack_laws.specs.Packed.{ActsAs, ReadsAsOnly, ReadsBack, packed};
+ghost use Rattle.pack_laws.specs.Packed.{ActsAs, ReadsAsOnly, ReadsBack, codes_of_set};
 ghost use Rattle.pack_laws.specs.PackedFile.{AnswerAlike, IsPacked, PackedCall, ShowAlike, WriteOneText, packed_run, packed_step, plain_run, plain_step};
 
 /// A set has a code for each of its elements. If no stage refuses the files, a code file can say
@@ -17,13 +17,13 @@ ghost use Rattle.pack_laws.specs.PackedFile.{AnswerAlike, IsPacked, PackedCall, 
 /// and seed the codes leave the window that the elements mean. The call does nothing: its contract
 /// is the laws.
 pub fn packed_laws()
-    ensures sayable { (files : List File) (set : SetValue) → AcceptsFiles files set → IsSayable (packed set) }
-    ensures right { (files : List File) (set : SetValue) → AcceptsFiles files set → AreRight (packed set) }
-    ensures names { (set : SetValue) → names_of (packed set) ≡ element_names set }
-    ensures codes { (set : SetValue) → codes_of (packed set) ≡ element_codes (program_of set) }
-    ensures again { (files : List File) (set : SetValue) → AcceptsFiles files set → ReadsBack (packed set) }
-    ensures only { (files : List File) (set : SetValue) → AcceptsFiles files set → ReadsAsOnly (packed set) }
-    ensures same { (files : List File) (set : SetValue) → AcceptsFiles files set → ActsAs (packed set) set }
+    ensures sayable { (files : List File) (set : SetValue) → AcceptsFiles files set → IsSayable (codes_of_set set) }
+    ensures right { (files : List File) (set : SetValue) → AcceptsFiles files set → AreRight (codes_of_set set) }
+    ensures names { (set : SetValue) → names_of (codes_of_set set) ≡ element_names set }
+    ensures codes { (set : SetValue) → codes_of (codes_of_set set) ≡ element_codes (program_of set) }
+    ensures again { (files : List File) (set : SetValue) → AcceptsFiles files set → ReadsBack (codes_of_set set) }
+    ensures only { (files : List File) (set : SetValue) → AcceptsFiles files set → ReadsAsOnly (codes_of_set set) }
+    ensures same { (files : List File) (set : SetValue) → AcceptsFiles files set → ActsAs (codes_of_set set) set }
 {}
 
 /// If a file holds what `pack` writes for some element files, and is no longer than a code file may

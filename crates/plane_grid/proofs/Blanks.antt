@@ -13,7 +13,7 @@ use Rattle.tile_map.proofs.PlaneLaws.{owner_owned, owner_low, owners}
 use Rattle.tile_map.proofs.Sharing.{column_low, row_low}
 use Rattle.tile_map.proofs.Spans.{times_more, plane_test}
 use Rattle.cell_grid.specs.Grid.{GridValue, empty_grid}
-use Rattle.cell_grid.specs.Shut.{rectangle, is_inside, IsEmptyIn, cleared, shut}
+use Rattle.cell_grid.specs.Shut.{rectangle, is_inside, IsEmptyIn, marks_outside, shut}
 use Rattle.cell_grid.proofs.Cleared.{IsGrid-shut}
 use Rattle.plane_grid.specs.BlankGrid.{IsShutTo}
 use Rattle.plane_grid.specs.PlaneGrids.{IsPlaneGrid}
@@ -168,8 +168,8 @@ module _ (m : MapValue) where
     pub empty_in : (r : _) → IsEmptyIn g r
     empty_in r u v lu lv inside = ap (λ atoms. get_or atoms (v * g.width + u) empty_atom) h.empty ∙ get_or-replicate (g.width * g.height) (v * g.width + u) empty_atom empty_atom (mul-add-lt v g.width u g.height lv lu)
 
-    left_of_mark : (r : _) (x y : ℕ) → x < g.width → y < g.height → get_or (cleared g.live g.width r) (y * g.width + x) false ≡ (get_or g.live (y * g.width + x) false && not (is_inside r x y))
-    unfolding cleared
+    left_of_mark : (r : _) (x y : ℕ) → x < g.width → y < g.height → get_or (marks_outside g.live g.width r) (y * g.width + x) false ≡ (get_or g.live (y * g.width + x) false && not (is_inside r x y))
+    unfolding marks_outside
     left_of_mark r x y lx ly =
         let i = y * g.width + x in
         let lt = mul-add-lt y g.width x g.height ly lx in

@@ -1,11 +1,13 @@
 -- The judgement on a report, in one line.
 use Rattle.std.specs.Prelude.{ℕ, ◌≡◌, ◌≢◌, List, [], ◌∷◌, codes, decimal}
 use Rattle.cell_grid.specs.Records.{replay}
+use Rattle.draw_stream.specs.Plans.{PlanValue}
 use Rattle.event_journal.specs.Accounts.{IsAccounted, IsStamped}
 use Rattle.event_journal.specs.Serial.{Course, OwesNothing}
 use Rattle.report_text.specs.Entries.{Entries, abandoned_line, event_line}
 use Rattle.report_text.specs.Report.{report}
 use Rattle.text_lines.specs.Lines.{text_of}
+use Rattle.tile_map.specs.Plane.{MapValue}
 use Rattle.journal_check.specs.Clocks.{IsFirstMisstamped}
 use Rattle.journal_check.specs.Excuses.{IsFirstUnexcused}
 use Rattle.report_judge.specs.declared.judgement.Judgement.{Judgement}
@@ -18,6 +20,16 @@ pub record NamedCourse : Type 0 where
 
 abbrev pub named_course : Course → List (List ℕ) → NamedCourse
 named_course course names = record { course = course; names = names }
+
+-- a report as it was read: the map and the plan that it was read by, its bytes, and the entries that these say
+pub record ReadValue : Type 0 where
+  pub map : MapValue
+  pub plan : PlanValue
+  pub bytes : List ℕ
+  pub entries : Entries
+
+abbrev pub read_value : MapValue → PlanValue → List ℕ → Entries → ReadValue
+read_value map plan bytes entries = record { map = map; plan = plan; bytes = bytes; entries = entries }
 
 -- the report of these events and abandoned attempts: its atoms are those that the events make of
 -- the start

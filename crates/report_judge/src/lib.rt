@@ -3,6 +3,8 @@
 
 mod judgement;
 mod judging;
+mod read_report;
 
 pub use judgement::{Judgement, judgement_line};
 pub use judging::judge;
+pub use read_report::ReadReport;

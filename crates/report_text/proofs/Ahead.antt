@@ -1,24 +1,27 @@
 -- Events that owe what a run's do come one behind another, as a report must have them.
-use Rattle.std.proofs.Common.{ℕ, zero, suc, ◌≡◌, ◌<◌, ◌≤◌, ◌==◌, true, ◌&&◌, List, [], ◌∷◌, cond, drop, get_or, length, replicate, Option, Some, None, refl, ap, sym, subst, ◌∙◌, arith, inl, inr, ◌⊎◌, eq-eqb, lt-ltb}
+use Rattle.std.proofs.Common.{ℕ, zero, suc, ◌≡◌, ◌+◌, ◌*◌, ◌/◌, ◌%◌, ◌<◌, ◌≤◌, ◌==◌, true, ◌&&◌, List, [], ◌∷◌, cond, drop, get_or, length, replicate, Option, Some, None, refl, ap, sym, subst, ◌∙◌, arith, inl, inr, ◌⊎◌, eq-eqb, eqb-true, lt-ltb, ltb-true}
 use Rattle.std.proofs.Math.ListN.{set}
-use Rattle.std.specs.Prelude.{AllPairs, nat_le, slice_get}
+use Rattle.std.proofs.Math.Nat.{div-lt_iff_lt-mul, mul_comm}
+use Rattle.std.specs.Prelude.{AllPairs, nat_le, nat_lt, slice_get}
 use Rattle.std.proofs.lemmas.Bool.{cases_lt}
 use Rattle.std.proofs.lemmas.Bool.Decides.{eqb_tells}
 use Rattle.std.proofs.lemmas.List.{get_or-set_other, get_or-set_same, set_past}
+use Rattle.std.proofs.lemmas.Nat.{rows}
 use Rattle.std.proofs.lemmas.List.Sums.{sum_by-cons}
 use Rattle.list_laws.proofs.Counts.{count_some}
 use Rattle.list_laws.proofs.Members.{In, InOrder, get_in, in_contains}
-use Rattle.list_laws.proofs.Tests.{together}
+use Rattle.list_laws.proofs.Tests.{both, together}
 use Rattle.cell_grid.specs.declared.record.Record.{Record}
 use Rattle.cell_grid.specs.Records.{Precedes}
 use Rattle.draw_stream.specs.declared.attempt.Attempt.{Attempt}
 use Rattle.draw_stream.specs.Plans.{PlanValue, attempts}
 use Rattle.event_journal.specs.Accounts.{IsAccounted, IsEventOf, events_at}
 use Rattle.event_journal.specs.Logs.{is_before}
-use Rattle.report_text.specs.Reading.{first_of, is_attempt, is_behind, not_later, record_fault}
+use Rattle.report_text.specs.Reading.{first_of, is_at_home, is_attempt, is_behind, is_site, not_later, record_fault}
 use Rattle.event_journal.specs.declared.abandoned.Abandoned.{Abandoned}
 use Rattle.event_journal.proofs.Journals.{before_of}
-use Rattle.tile_map.specs.Plane.{MapValue, site_in}
+use Rattle.tile_map.specs.Plane.{IsMap, MapValue, is_inside, is_owned, site, site_in, tiles_of}
+use Rattle.tile_map.proofs.PlaneLaws.{owner_owned}
 use Rattle.report_text.proofs.Bounds.{IsOfPlan, event_of_plan}
 use Rattle.report_text.specs.Again.{IsDrawablePlan}
 use Rattle.report_text.specs.ReportForm.{Comes, IsInPlace}
@@ -121,18 +124,57 @@ first_at [] i a h = cc h
 first_at (x ∷ list) zero a h = h
 first_at (x ∷ list) (suc i) a h = first_at list i a h
 
-pub in_place : (m : MapValue) (plan : PlanValue) (r : Record) (e : IsEventOf m plan r) → IsOfPlan m plan r.tile r.attempt r.x r.y e.0 → 1 ≤ r.stamp → IsInPlace m plan.lists r
-in_place m plan r e is some =
+pub in_place : (m : MapValue) (plan : PlanValue) (r : Record) (e : IsEventOf m plan r) → IsOfPlan m plan r.tile r.attempt r.x r.y e.0 → 1 ≤ r.stamp → IsInPlace m plan r
+in_place m plan r e is some = record {
+  some = some;
+  on_plane = together _ _ (lt-ltb _ _ is.column) (lt-ltb _ _ is.row);
+  owner = is.owner;
+  event = e;
+}
+
+-- the position of a site in its tile's rectangle
+centre_low : (m : MapValue) (plan : PlanValue) (r : Record) → IsMap m → (is : IsInPlace m plan r) → is.event.0.centre < m.w * m.h
+centre_low m plan r map is =
+    let s = site r.x r.y in
+    let k = is.event.0.centre in
+    let owned = subst (λ t. is_owned m t s ≡ true) is.owner (owner_owned m map s is.on_plane) in
+    let inside = both (nat_le (r.tile / m.tx * m.h) r.y) (nat_lt r.y ((r.tile / m.tx + 1) * m.h)) (both (is_inside m.w (r.tile % m.tx) r.x) (is_inside m.h (r.tile / m.tx) r.y) (both (nat_lt r.tile (tiles_of m)) _ owned).1).1 in
+    let row : r.y ≡ r.tile / m.tx * m.h + k / m.w = ap (λ z. z.y) is.event.2 in
+    let below = ltb-true r.y ((r.tile / m.tx + 1) * m.h) inside.1 in
+    let rows : k / m.w < m.h = rows_low (r.tile / m.tx) m.h (k / m.w) r.y row below in
+    let some : 1 ≤ m.w = let low = map.sizes.w_low in omega (arith, low) in
+    low_position k m.w m.h some rows
+  where
+    rows_low : (a h b y : ℕ) → y ≡ a * h + b → y < (a + 1) * h → b < h
+    rows_low a h b y is less = grind (arith, rows)
+
+    low_position : (k w h : ℕ) → 1 ≤ w → k / w < h → k < w * h
+    low_position k w h some less = let low = (div-lt_iff_lt-mul {k = w} {x = k} {y = h} some).0 less in subst (λ z. k < z) (mul_comm h w) low
+
+-- it is found as its tile's attempt
+attempt_true : (m : MapValue) (plan : PlanValue) (r : Record) → IsMap m → IsInPlace m plan r → is_attempt m (first_of (drop r.attempt (attempts plan r.tile))) r ≡ true
+attempt_true m plan r map is =
+    let e = is.event in
     let a = e.0 in
     let s = site_in m r.tile a.centre in
     let x : s.x ≡ r.x = ap (λ z. z.x) (sym e.2) in
     let y : s.y ≡ r.y = ap (λ z. z.y) (sym e.2) in
-    record {
-      some = some;
-      home = together _ _ (together _ _ (lt-ltb _ _ is.column) (lt-ltb _ _ is.row)) (eq-eqb _ _ is.owner);
-      attempt = ap (λ o. is_attempt m o r) (first_at (attempts plan r.tile) r.attempt a e.1)
-          ∙ together _ _ (lt-ltb _ _ is.centre) (together _ _ (together _ _ (eq-eqb _ _ x) (eq-eqb _ _ y)) (eq-eqb _ _ (sym e.3)));
-    }
+    ap (λ o. is_attempt m o r) (first_at (attempts plan r.tile) r.attempt a e.1)
+    ∙ together _ _ (lt-ltb _ _ (centre_low m plan r map is)) (together _ _ (together _ _ (eq-eqb _ _ x) (eq-eqb _ _ y)) (eq-eqb _ _ (sym e.3)))
+
+-- what is found as a tile's attempt is one of its plan
+pub found_event : (m : MapValue) (list : List Attempt) (i : ℕ) (r : Record) → is_attempt m (first_of (drop i list)) r ≡ true →
+    (a : Attempt) × (slice_get list i ≡ Some a) × (site r.x r.y ≡ site_in m r.tile a.centre) × (r.seed ≡ a.seed)
+found_event m [] zero r h = cc h
+found_event m [] (suc i) r h = cc h
+found_event m (a ∷ list) zero r h =
+    let s = site_in m r.tile a.centre in
+    let p = both (is_site s r.x r.y) (a.seed == r.seed) (both (nat_lt a.centre (m.w * m.h)) _ h).1 in
+    let q = both (s.x == r.x) (s.y == r.y) p.0 in
+    let x = eqb-true s.x r.x q.0 in
+    let y = eqb-true s.y r.y q.1 in
+    (a, refl, (λ j. site (sym x j) (sym y j)), sym (eqb-true a.seed r.seed p.1))
+found_event m (a ∷ list) (suc i) r h = found_event m list i r h
 
 behind_true : (before : Option Record) (lasts : List (Option (ℕ × ℕ))) (r : Record) (rs : List Record) → 1 ≤ r.stamp → IsAhead before lasts (r ∷ rs) → is_behind before r ≡ true
 behind_true None lasts r rs some is = le_true 1 r.stamp some
@@ -146,10 +188,11 @@ none_later None attempt less = refl
 none_later (Some q) attempt less = rw (lt-ltb q.1 attempt (less q refl)) refl
 
 -- the line of such an event has no fault
-pub no_fault : (m : MapValue) (lists : List (List Attempt)) (n : ℕ) (before : Option Record) (lasts : List (Option (ℕ × ℕ))) (r : Record) (rs : List Record) → IsInPlace m lists r → IsAhead before lasts (r ∷ rs) →
-    record_fault m n before (get_or lasts r.tile None) (get_or lists r.tile []) r ≡ None
+pub no_fault : (m : MapValue) (plan : PlanValue) (n : ℕ) (before : Option Record) (lasts : List (Option (ℕ × ℕ))) (r : Record) (rs : List Record) → IsMap m → IsInPlace m plan r → IsAhead before lasts (r ∷ rs) →
+    record_fault m n before (get_or lasts r.tile None) (get_or plan.lists r.tile []) r ≡ None
 unfolding record_fault
-no_fault m lists n before lasts r rs is ahead =
+no_fault m plan n before lasts r rs map is ahead =
+    let home : is_at_home m r ≡ true = together _ _ is.on_plane (eq-eqb _ _ is.owner) in
     let behind = behind_true before lasts r rs is.some ahead in
     let later = none_later (get_or lasts r.tile None) r.attempt (λ q e. ahead.later r.tile q e r (inl refl) refl) in
-    rw (behind, later, is.home, is.attempt) refl
+    rw (behind, later, home, attempt_true m plan r map is) refl

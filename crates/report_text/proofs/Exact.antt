@@ -16,11 +16,11 @@ use Rattle.feast_base.specs.Digits.{glyph, hex}
 use Rattle.feast_base.specs.TypeNames.{is_type_name}
 use Rattle.report_text.specs.Forms.{abandoned_form, count_form, is_atom, is_header, is_name_state, is_named_rest, is_one, record_form, site_form, take_attempt, take_below, take_small}
 use Rattle.report_text.specs.JournalText.{abandoned_fields, count_fields, record_fields}
-use Rattle.report_text.specs.ReportForm.{IsSmallAbandoned, IsSmallRecord}
+use Rattle.report_text.specs.ReportForm.{IsSiteLine, IsSmallAbandoned, IsSmallRecord}
 use Rattle.text_lines.proofs.Cuts.{some_field}
 use Rattle.text_lines.proofs.Digits.{digit_in, nibble_in}
 use Rattle.text_lines.proofs.Printed.{decimal_high, hex_high, name_high}
-use Rattle.text_lines.specs.Fields.{fields, fields_after, hex_of, hex_worth, is_canonical, is_digit, is_nibble, nibble, number_of, worth}
+use Rattle.text_lines.specs.Fields.{fields, fields_after, hex_of, hex_worth, is_canonical, is_digit, is_nibble, nibble, field_number, worth}
 use Rattle.text_lines.specs.Forms.{one_field, one_number, one_seed, take_number, with}
 use Rattle.text_lines.specs.Lines.{ended_after, line_text, more_text, text_of}
 use Rattle.text_lines.specs.Printed.{IsLine}
@@ -67,7 +67,7 @@ canonical_parts d ds h =
     first : (d k : ℕ) → (not (d == 48) || k == 0) ≡ true → d ≡ 48 → suc k ≡ 1
     first d k h e = let g = rw (eq-eqb d 48 e) at h in ap (λ n. suc n) (eqb-true k 0 g)
 
-number_exact : (f : List ℕ) (n : ℕ) → n < 2 ^ 64 → number_of f ≡ Some n → f ≡ decimal n
+number_exact : (f : List ℕ) (n : ℕ) → n < 2 ^ 64 → field_number f ≡ Some n → f ≡ decimal n
 number_exact [] n small h = cc
 number_exact (d ∷ ds) n small h =
     let p = if_some (is_canonical (d ∷ ds)) (worth (d ∷ ds)) n h in
@@ -104,9 +104,9 @@ hex_exact k f n h =
 below_exact : (bound : ℕ) (fs : List (List ℕ)) (p : ℕ × List (List ℕ)) → bound ≤ 2 ^ 64 → take_below bound fs ≡ Some p → (fs ≡ decimal p.0 ∷ p.1) × (p.0 < bound)
 unfolding take_number
 below_exact bound [] p most h = cc
-below_exact bound (f ∷ fs) p most h = on (number_of f) refl h
+below_exact bound (f ∷ fs) p most h = on (field_number f) refl h
   where
-    on : (o : Option ℕ) → number_of f ≡ o → with (option_map (λ n. (n, fs)) o) (λ q. if nat_lt q.0 bound then Some q else None) ≡ Some p → (f ∷ fs ≡ decimal p.0 ∷ p.1) × (p.0 < bound)
+    on : (o : Option ℕ) → field_number f ≡ o → with (option_map (λ n. (n, fs)) o) (λ q. if nat_lt q.0 bound then Some q else None) ≡ Some p → (f ∷ fs ≡ decimal p.0 ∷ p.1) × (p.0 < bound)
     on None is g = cc
     on (Some n) is g =
         let q = if_some (nat_lt n bound) (n, fs) p g in
@@ -129,7 +129,7 @@ last_exact bound fs n most h = on (one_number fs) refl h
     on (Some k) is g =
         let q = if_some (nat_lt k bound) k n g in
         let low : k < bound = ltb-true k bound q.0 in
-        let w = with_some (one_field fs) number_of k is in
+        let w = with_some (one_field fs) field_number k is in
         (one_exact fs w.0 w.1 ∙ ap (λ z. z ∷ []) (number_exact w.0 k (omega (arith, low, most)) w.2 ∙ ap decimal q.1), subst (λ j. j < bound) q.1 low)
 
 seed_exact : (fs : List (List ℕ)) (n : ℕ) → one_seed fs ≡ Some n → (fs ≡ hex 16 n ∷ []) × (n < 2 ^ 64)
@@ -226,19 +226,31 @@ state_line (f ∷ fs) h =
     let e = hex_exact 18 w.0 o.0 w.2 in
     (f, o.0, (λ i. f ∷ (one_exact fs w.0 w.1 ∙ ap (λ z. z ∷ []) e.0) i), p.0)
 
--- an atom's line can be printed, and read as its fields
-pub site_line : (fs : List (List ℕ)) → is_atom fs ≡ true → IsLine fs
+pub site_fields : (fs : List (List ℕ)) → is_atom fs ≡ true → IsSiteLine fs
 unfolding is_atom
-site_line fs h =
+site_fields fs h =
     let o = named_of (with (take_small fs) (λ x. take_small x.1)) h in
     let a = with_some (take_small fs) _ o.0 o.1 in
     let x = below_exact (2 ^ 32) fs a.0 (omega arith) a.1 in
     let y = below_exact (2 ^ 32) a.0.1 o.0 (omega arith) a.2 in
     let s = state_line o.0.1 o.2 in
-    let is : fs ≡ decimal a.0.0 ∷ decimal o.0.0 ∷ s.0 ∷ hex 18 s.1 ∷ [] = x.0 ∙ ap (λ z. decimal a.0.0 ∷ z) (y.0 ∙ ap (λ z. decimal o.0.0 ∷ z) s.2) in
-    subst IsLine (sym is) (record {
+    record {
+      x = a.0.0;
+      y = o.0.0;
+      name = s.0;
+      state = s.1;
+      line = x.0 ∙ ap (λ z. decimal a.0.0 ∷ z) (y.0 ∙ ap (λ z. decimal o.0.0 ∷ z) s.2);
+      small_x = x.1;
+      small_y = y.1;
+      named = s.3;
+    }
+
+-- an atom's line can be printed, and read as its fields
+pub site_line : (fs : List (List ℕ)) → IsSiteLine fs → IsLine fs
+site_line fs s =
+    subst IsLine (sym s.line) (record {
       some = omega arith;
-      high = rw (decimal_high a.0.0 (let l = x.1 in omega (arith, l)), decimal_high o.0.0 (let l = y.1 in omega (arith, l)), name_high s.0 s.3, hex_high 18 s.1) refl;
+      high = rw (decimal_high s.x (let l = s.small_x in omega (arith, l)), decimal_high s.y (let l = s.small_y in omega (arith, l)), name_high s.name s.named, hex_high 18 s.state) refl;
     })
 
 -- Texts

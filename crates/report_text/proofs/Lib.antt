@@ -6,6 +6,7 @@ pub mod Exact
 pub mod FormRead
 pub mod LineLengths
 pub mod Lists
+pub mod OnLines
 pub mod Pairs
 pub mod PrintedLines
 pub mod Putting

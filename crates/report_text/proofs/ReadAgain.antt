@@ -1,6 +1,5 @@
 -- The report of what a run left is read as its events and its abandoned attempts.
-use Rattle.std.proofs.Common.{ℕ, zero, suc, ◌≡◌, ◌+◌, ◌*◌, ◌/◌, ◌%◌, ◌^◌, ◌<◌, ◌≤◌, ◌==◌, Bool, true, false, List, [], ◌∷◌, All, decimal, length, get_or, map, refl, ap, arith, ◌-◌, ◌⊎◌, is_some, inl, inr}
-use Rattle.std.specs.List.{list_all}
+use Rattle.std.proofs.Common.{ℕ, ◌≡◌, ◌+◌, ◌/◌, ◌%◌, ◌^◌, ◌<◌, ◌≤◌, ◌==◌, Bool, true, false, List, [], ◌∷◌, All, length, get_or, map, refl, ap, arith, ◌-◌, ◌⊎◌, inl, inr}
 use Rattle.std.proofs.Math.Nat.{div-add-mod'}
 use Rattle.std.proofs.lemmas.List.{length-map}
 use Rattle.std.proofs.lemmas.List.Elements.{All-cons, All-get_or, All-head, All-nil, All-tail}
@@ -9,34 +8,15 @@ use Rattle.list_laws.proofs.Members.{order-pairs}
 use Rattle.bit_field.specs.Atom.{AtomValue, empty_atom}
 use Rattle.cell_grid.specs.declared.record.Record.{Record}
 use Rattle.draw_stream.specs.Plans.{PlanValue}
-use Rattle.report_text.specs.Forms.{is_atom, is_name_state}
-use Rattle.report_text.specs.ReportForm.{Comes}
-use Rattle.feast_base.specs.Digits.{glyph, hex}
+use Rattle.report_text.specs.ReportForm.{Comes, IsSiteLine}
 use Rattle.feast_base.specs.TypeNames.{is_type_name, name_of}
-use Rattle.text_lines.specs.Fields.{hex_of, is_nibble}
-use Rattle.text_lines.specs.Forms.{one_field}
 use Rattle.tile_map.specs.Plane.{MapValue}
 use Rattle.report_text.proofs.Ahead.{events_come, in_place}
-use Rattle.report_text.proofs.FormRead.{form_read, small_taken}
+use Rattle.report_text.proofs.FormRead.{form_read}
 use Rattle.report_text.proofs.Bounds.{abandoned_small, event_of_plan, events_few, given_up_few, records_small}
 use Rattle.report_text.proofs.Stamps.{stamps_low}
 use Rattle.report_text.specs.Again.{AreFormed, AreReadAgain, IsDrawablePlan, entries_in}
-use Rattle.report_text.specs.Report.{AreNamed, Shown, atom_fields, report_of, shown, shown_at, shown_from}
-
--- the digits of a state are such, however great it is
-state_digits : (k n : ℕ) → (length (hex k n) ≡ k) × (list_all is_nibble (hex k n) ≡ true)
-unfolding hex
-state_digits zero n = (refl, refl)
-state_digits (suc k) n =
-    let rest = state_digits k n in
-    let digit : is_nibble (glyph (n / 2 ^ (4 * k) % 16)) ≡ true = nibble_is (n / 2 ^ (4 * k) % 16) (omega arith) in
-    (ap (λ j. suc j) rest.0, rw (digit, rest.1) refl)
-  where
-    nibble_is : (d : ℕ) → d < 16 → is_nibble (glyph d) ≡ true
-    nibble_is d h = grind arith
-
-state_again : (n : ℕ) → is_some (hex_of 18 (hex 18 n)) ≡ true
-state_again n = let d = state_digits 18 n in let size : (length (hex 18 n) == 18) ≡ true = rw d.0 refl in rw (size, d.1) refl
+use Rattle.report_text.specs.Report.{AreNamed, Shown, atom_fields, report_of, shown_atoms, shown_at, shown_from}
 
 -- an atom whose line can be printed and read
 record IsToldAtom (names : List (List ℕ)) (s : Shown) : Type 0 where
@@ -44,16 +24,13 @@ record IsToldAtom (names : List (List ℕ)) (s : Shown) : Type 0 where
   y : s.y < 2 ^ 32
   name : is_type_name (name_of names s.atom.kind) ≡ true
 
-atom_again : (names : List (List ℕ)) (s : Shown) → IsToldAtom names s → is_atom (atom_fields names s) ≡ true
-unfolding is_atom is_name_state one_field
-atom_again names s p =
-    let x = small_taken (2 ^ 32) s.x (decimal s.y ∷ name_of names s.atom.kind ∷ hex 18 s.atom.state ∷ []) p.x (omega arith) in
-    let y = small_taken (2 ^ 32) s.y (name_of names s.atom.kind ∷ hex 18 s.atom.state ∷ []) p.y (omega arith) in
-    rw (x, y, p.name, state_again s.atom.state) refl
-
-each_site : (names : List (List ℕ)) (ss : List Shown) → All (IsToldAtom names) ss → All (λ fs. is_atom fs ≡ true) (map (atom_fields names) ss)
+each_site : (names : List (List ℕ)) (ss : List Shown) → All (IsToldAtom names) ss → All IsSiteLine (map (atom_fields names) ss)
 each_site names [] all = All-nil _
-each_site names (s ∷ ss) all = All-cons (λ fs. is_atom fs ≡ true) (atom_fields names s) (map (atom_fields names) ss) (atom_again names s (All-head (IsToldAtom names) s ss all)) (each_site names ss (All-tail (IsToldAtom names) s ss all))
+each_site names (s ∷ ss) all =
+    let told = All-head (IsToldAtom names) s ss all in
+    All-cons IsSiteLine (atom_fields names s) (map (atom_fields names) ss)
+    (record { x = s.x; y = s.y; name = name_of names s.atom.kind; state = s.atom.state; line = refl; small_x = told.x; small_y = told.y; named = told.name })
+    (each_site names ss (All-tail (IsToldAtom names) s ss all))
 
 -- the atoms of a grid, from place i on
 record AreTold (names : List (List ℕ)) (width i : ℕ) (more : List AtomValue) : Type 0 where
@@ -110,12 +87,12 @@ read_again names m plan formed p = λ v left.
     let atoms_few = told.few in
     let records_few = events_few m plan p rs gs left.owes.accounted in
     let ends_few = given_up_few m plan p rs gs left.owes.accounted in
-    let sites = map (atom_fields names) (shown g) in
-    form_read m plan.lists (report_of names v) (entries_in v) (record {
+    let sites = map (atom_fields names) (shown_atoms g) in
+    form_read m plan p.map (report_of names v) (entries_in v) (record {
       sites = sites;
       text = refl;
-      each = each_site names (shown g) told.each;
-      many = length-map (shown g) (atom_fields names);
+      each = each_site names (shown_atoms g) told.each;
+      many = length-map (shown_atoms g) (atom_fields names);
       small = small;
       placed = place;
       order = order-pairs Comes rs order;

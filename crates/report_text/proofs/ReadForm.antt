@@ -6,10 +6,10 @@ use Rattle.std.proofs.lemmas.List.Elements.{All-cons, All-nil}
 use Rattle.list_laws.proofs.Members.{InOrder, order-pairs}
 use Rattle.list_laws.proofs.Tests.{both}
 use Rattle.cell_grid.specs.declared.record.Record.{Record}
-use Rattle.draw_stream.specs.declared.attempt.Attempt.{Attempt}
+use Rattle.draw_stream.specs.Plans.{PlanValue, attempts}
 use Rattle.event_journal.specs.declared.abandoned.Abandoned.{Abandoned}
-use Rattle.report_text.proofs.Ahead.{IsAhead}
-use Rattle.report_text.proofs.Exact.{abandoned_exact, count_exact, ended, ended_exact, fields_joined, header_exact, record_exact}
+use Rattle.report_text.proofs.Ahead.{IsAhead, found_event}
+use Rattle.report_text.proofs.Exact.{abandoned_exact, count_exact, ended, ended_exact, fields_joined, header_exact, record_exact, site_fields}
 use Rattle.report_text.proofs.FormRead.{form_read}
 use Rattle.report_text.proofs.ReadSteps.{IsStarted, ahead_of, atoms_said, by_fault, given_up_said, gone_said, header_said, record_said, records_said, site_said, stamp_low}
 use Rattle.report_text.specs.Entries.{Entries, entries}
@@ -23,28 +23,28 @@ use Rattle.text_lines.specs.Lines.{ended_lines, line_text}
 use Rattle.tile_map.proofs.PlaneLaws.{owner_low}
 use Rattle.tile_map.specs.Plane.{IsMap, MapValue, in_plane, owner_of, site, tiles_of}
 
-module _ (m : MapValue) (lists : List (List Attempt)) (map_is : IsMap m) where
+module _ (m : MapValue) (plan : PlanValue) (map_is : IsMap m) where
   -- a line where this is wanted
   record Stepped (n : ℕ) (d e : Said) (w : Wants) (ts : List (Option (List ℕ))) : Type 0 where
     text : List ℕ
     rest : List (Option (List ℕ))
     next : Said
     is : ts ≡ Some text ∷ rest
-    step : fields_step m lists n d w (fields text) ≡ Ok next
-    reads : read_lines m lists (n + 1) next rest ≡ Ok e
+    step : fields_step m plan.lists n d w (fields text) ≡ Ok next
+    reads : read_lines m plan.lists (n + 1) next rest ≡ Ok e
 
-  stepped : (n : ℕ) (d e : Said) (w : Wants) (ts : List (Option (List ℕ))) → d.wants ≡ w → is_over w ≡ false → read_lines m lists n d ts ≡ Ok e → Stepped n d e w ts
+  stepped : (n : ℕ) (d e : Said) (w : Wants) (ts : List (Option (List ℕ))) → d.wants ≡ w → is_over w ≡ false → read_lines m plan.lists n d ts ≡ Ok e → Stepped n d e w ts
   unfolding read_lines line_step
   stepped n d e w [] is more h = let over : is_over d.wants ≡ false = ap is_over is ∙ more in let g = rw over at h in cc
   stepped n d e w (None ∷ ts) is more h = cc
-  stepped n d e w (Some t ∷ ts) is more h = on (fields_step m lists n d d.wants (fields t)) refl h
+  stepped n d e w (Some t ∷ ts) is more h = on (fields_step m plan.lists n d d.wants (fields t)) refl h
     where
-      on : (r : Result Said LineFault) → fields_step m lists n d d.wants (fields t) ≡ r → go_on n r (λ x. read_lines m lists (n + 1) x ts) ≡ Ok e → Stepped n d e w (Some t ∷ ts)
+      on : (r : Result Said LineFault) → fields_step m plan.lists n d d.wants (fields t) ≡ r → go_on n r (λ x. read_lines m plan.lists (n + 1) x ts) ≡ Ok e → Stepped n d e w (Some t ∷ ts)
       on (Err fault) at g = cc
-      on (Ok x) at g = record { text = t; rest = ts; next = x; is = refl; step = ap (λ v. fields_step m lists n d v (fields t)) (sym is) ∙ at; reads = g }
+      on (Ok x) at g = record { text = t; rest = ts; next = x; is = refl; step = ap (λ v. fields_step m plan.lists n d v (fields t)) (sym is) ∙ at; reads = g }
 
   -- no line where nothing more is wanted
-  over_said : (n : ℕ) (d e : Said) (ts : List (Option (List ℕ))) → d.wants ≡ nothing → read_lines m lists n d ts ≡ Ok e → (ts ≡ []) × (d ≡ e)
+  over_said : (n : ℕ) (d e : Said) (ts : List (Option (List ℕ))) → d.wants ≡ nothing → read_lines m plan.lists n d ts ≡ Ok e → (ts ≡ []) × (d ≡ e)
   unfolding read_lines line_step fields_step
   over_said n d e [] is h = let over : is_over d.wants ≡ true = ap is_over is in let g = rw over at h in (refl, cc)
   over_said n d e (None ∷ ts) is h = cc
@@ -62,9 +62,9 @@ module _ (m : MapValue) (lists : List (List Attempt)) (map_is : IsMap m) where
     count : length sites ≡ k
     lines : ts ≡ ended sites ++ rest
     each : All (λ fs. is_atom fs ≡ true) sites
-    reads : read_lines m lists last (record d { wants = record_count }) rest ≡ Ok e
+    reads : read_lines m plan.lists last (record d { wants = record_count }) rest ≡ Ok e
 
-  sites_said : (k n : ℕ) (d e : Said) (ts : List (Option (List ℕ))) → d.wants ≡ want_atoms k → read_lines m lists n d ts ≡ Ok e → SitesSaid n k d e ts
+  sites_said : (k n : ℕ) (d e : Said) (ts : List (Option (List ℕ))) → d.wants ≡ want_atoms k → read_lines m plan.lists n d ts ≡ Ok e → SitesSaid n k d e ts
   sites_said zero n d e ts is h = record {
     sites = [];
     rest = ts;
@@ -72,12 +72,12 @@ module _ (m : MapValue) (lists : List (List Attempt)) (map_is : IsMap m) where
     count = refl;
     lines = refl;
     each = All-nil _;
-    reads = (λ i. read_lines m lists n (record d { wants = sym is i }) ts) ∙ h;
+    reads = (λ i. read_lines m plan.lists n (record d { wants = sym is i }) ts) ∙ h;
   }
   sites_said (suc k) n d e ts is h =
       let s = stepped n d e (atoms k) ts is refl h in
-      let w = site_said m lists n k d s.next (fields s.text) s.step in
-      let more = sites_said k (n + 1) (record d { wants = want_atoms k }) e s.rest refl (subst (λ (x : Said). read_lines m lists (n + 1) x s.rest ≡ Ok e) (sym w.1) s.reads) in
+      let w = site_said m plan.lists n k d s.next (fields s.text) s.step in
+      let more = sites_said k (n + 1) (record d { wants = want_atoms k }) e s.rest refl (subst (λ (x : Said). read_lines m plan.lists (n + 1) x s.rest ≡ Ok e) (sym w.1) s.reads) in
       record {
         sites = fields s.text ∷ more.sites;
         rest = more.rest;
@@ -97,34 +97,42 @@ module _ (m : MapValue) (lists : List (List Attempt)) (map_is : IsMap m) where
     count : length rs ≡ k
     lines : ts ≡ ended (map record_fields rs) ++ rest
     small : All IsSmallRecord rs
-    placed : All (IsInPlace m lists) rs
+    placed : All (IsInPlace m plan) rs
     order : InOrder Comes rs
     ahead : IsAhead d.before d.lasts rs
-    reads : read_lines m lists last said rest ≡ Ok e
+    reads : read_lines m plan.lists last said rest ≡ Ok e
     wants : said.wants ≡ abandoned_count
     sites : said.sites ≡ d.sites
     journal : said.journal ≡ d.journal ++ rs
     gone : said.gone ≡ d.gone
 
   -- a site that a tile owns is of one of the tiles
-  inside : (r : Record) → is_at_home m r ≡ true → r.tile < tiles_of m
-  inside r home =
-      let p = both (in_plane m (site r.x r.y)) (owner_of m (site r.x r.y) == r.tile) home in
-      subst (λ t. t < tiles_of m) (eqb-true (owner_of m (site r.x r.y)) r.tile p.1) (owner_low m map_is (site r.x r.y) p.0)
+  inside : (r : Record) → IsInPlace m plan r → r.tile < tiles_of m
+  inside r is = subst (λ t. t < tiles_of m) is.owner (owner_low m map_is (site r.x r.y) is.on_plane)
 
   -- what holds of a record that is taken
   record IsTaken (n : ℕ) (d : Said) (r : Record) : Type 0 where
     behind : is_behind d.before r ≡ true
     later : not_later (get_or d.lasts r.tile None) r.attempt ≡ None
-    placed : IsInPlace m lists r
+    placed : IsInPlace m plan r
 
-  taken : (n : ℕ) (d : Said) (r : Record) → IsStarted d.before → record_fault m n d.before (get_or d.lasts r.tile None) (get_or lists r.tile []) r ≡ None → IsTaken n d r
+  taken : (n : ℕ) (d : Said) (r : Record) → IsStarted d.before → record_fault m n d.before (get_or d.lasts r.tile None) (get_or plan.lists r.tile []) r ≡ None → IsTaken n d r
   unfolding record_fault
   taken n d r started h =
-      let f = by_fault (is_behind d.before r) (not_later (get_or d.lasts r.tile None) r.attempt) (is_at_home m r) (is_attempt m (first_of (drop r.attempt (get_or lists r.tile []))) r) _ _ _ h in
-      record { behind = f.0; later = f.1; placed = record { some = stamp_low d.before r started f.0; home = f.2; attempt = f.3 } }
+      let f = by_fault (is_behind d.before r) (not_later (get_or d.lasts r.tile None) r.attempt) (is_at_home m r) (is_attempt m (first_of (drop r.attempt (get_or plan.lists r.tile []))) r) _ _ _ h in
+      let home = both (in_plane m (site r.x r.y)) (owner_of m (site r.x r.y) == r.tile) f.2 in
+      record {
+        behind = f.0;
+        later = f.1;
+        placed = record {
+          some = stamp_low d.before r started f.0;
+          on_plane = home.0;
+          owner = eqb-true (owner_of m (site r.x r.y)) r.tile home.1;
+          event = found_event m (attempts plan r.tile) r.attempt r f.3;
+        };
+      }
 
-  events_said : (k n : ℕ) (d e : Said) (ts : List (Option (List ℕ))) → d.wants ≡ want_records k → length d.lasts ≡ tiles_of m → IsStarted d.before → read_lines m lists n d ts ≡ Ok e → EventsSaid n k d e ts
+  events_said : (k n : ℕ) (d e : Said) (ts : List (Option (List ℕ))) → d.wants ≡ want_records k → length d.lasts ≡ tiles_of m → IsStarted d.before → read_lines m plan.lists n d ts ≡ Ok e → EventsSaid n k d e ts
   events_said zero n d e ts is size started h = record {
     rs = [];
     rest = ts;
@@ -144,14 +152,14 @@ module _ (m : MapValue) (lists : List (List Attempt)) (map_is : IsMap m) where
   }
   events_said (suc k) n d e ts is size started h =
       let s = stepped n d e (records k) ts is refl h in
-      let w = record_said m lists n k d s.next (fields s.text) s.step in
+      let w = record_said m plan.lists n k d s.next (fields s.text) s.step in
       let r = w.0 in
       let form = record_exact (fields s.text) r w.1 in
       let t = taken n d r started w.2 in
       let lasts = set d.lasts r.tile (Some (n, r.attempt)) in
-      let within : r.tile < length d.lasts = let a = inside r t.placed.home in omega (arith, a, size) in
+      let within : r.tile < length d.lasts = let a = inside r t.placed in omega (arith, a, size) in
       let starts : IsStarted (Some r) = λ p q. let same : r ≡ p = cc q in subst (λ (z : Record). 1 ≤ z.stamp) same t.placed.some in
-      let reads = subst (λ (x : Said). read_lines m lists (n + 1) x s.rest ≡ Ok e) (sym w.3) s.reads in
+      let reads = subst (λ (x : Said). read_lines m plan.lists (n + 1) x s.rest ≡ Ok e) (sym w.3) s.reads in
       let more = events_said k (n + 1) (put_record n d (want_records k) r) e s.rest refl (length-set d.lasts r.tile (Some (n, r.attempt)) ∙ size) starts reads in
       record {
         rs = r ∷ more.rs;
@@ -161,7 +169,7 @@ module _ (m : MapValue) (lists : List (List Attempt)) (map_is : IsMap m) where
         count = ap (λ j. suc j) more.count;
         lines = s.is ∙ (λ i. spelt s.text (record_fields r) form.0 i ∷ more.lines i);
         small = All-cons IsSmallRecord r more.rs form.1 more.small;
-        placed = All-cons (IsInPlace m lists) r more.rs t.placed more.placed;
+        placed = All-cons (IsInPlace m plan) r more.rs t.placed more.placed;
         order = (λ v i. (more.ahead.behind r refl v i, λ tile. more.ahead.later r.tile (n, r.attempt) (get_or-set_same d.lasts r.tile (Some (n, r.attempt)) None within) v i (sym tile)), more.order);
         ahead = ahead_of n d.before d.lasts r more.rs t.behind t.later within more.ahead;
         reads = more.reads;
@@ -181,7 +189,7 @@ module _ (m : MapValue) (lists : List (List Attempt)) (map_is : IsMap m) where
     journal : e.journal ≡ d.journal
     gone : e.gone ≡ d.gone ++ gs
 
-  ends_said : (k n : ℕ) (d e : Said) (ts : List (Option (List ℕ))) → d.wants ≡ want_abandoned k → read_lines m lists n d ts ≡ Ok e → EndsSaid n k d e ts
+  ends_said : (k n : ℕ) (d e : Said) (ts : List (Option (List ℕ))) → d.wants ≡ want_abandoned k → read_lines m plan.lists n d ts ≡ Ok e → EndsSaid n k d e ts
   ends_said zero n d e ts is h =
       let o = over_said n d e ts is h in
       record {
@@ -195,10 +203,10 @@ module _ (m : MapValue) (lists : List (List Attempt)) (map_is : IsMap m) where
       }
   ends_said (suc k) n d e ts is h =
       let s = stepped n d e (abandoned k) ts is refl h in
-      let w = given_up_said m lists n k d s.next (fields s.text) s.step in
+      let w = given_up_said m plan.lists n k d s.next (fields s.text) s.step in
       let g = w.0 in
       let form = abandoned_exact (fields s.text) g w.1 in
-      let reads = subst (λ (x : Said). read_lines m lists (n + 1) x s.rest ≡ Ok e) (sym w.2) s.reads in
+      let reads = subst (λ (x : Said). read_lines m plan.lists (n + 1) x s.rest ≡ Ok e) (sym w.2) s.reads in
       let more = ends_said k (n + 1) (record d { wants = want_abandoned k; gone = d.gone ++ g ∷ [] }) e s.rest refl reads in
       record {
         gs = g ∷ more.gs;
@@ -235,8 +243,8 @@ module _ (m : MapValue) (lists : List (List Attempt)) (map_is : IsMap m) where
 
   tail_step : (n : ℕ) (d e : Said) (ts : List (Option (List ℕ))) → Stepped n d e abandoned_count ts → TailSaid d e ts
   tail_step n d e ts s =
-      let w = gone_said m lists n d s.next (fields s.text) s.step in
-      let reads = subst (λ (x : Said). read_lines m lists (n + 1) x s.rest ≡ Ok e) (sym w.2) s.reads in
+      let w = gone_said m plan.lists n d s.next (fields s.text) s.step in
+      let reads = subst (λ (x : Said). read_lines m plan.lists (n + 1) x s.rest ≡ Ok e) (sym w.2) s.reads in
       subst (TailSaid d e) (sym s.is) (tail_ends (n + 1) w.0 d e s.text s.rest w.1 (ends_said w.0 (n + 1) (record d { wants = want_abandoned w.0 }) e s.rest refl reads))
 
   -- the count of events, their lines, and those behind them
@@ -245,7 +253,7 @@ module _ (m : MapValue) (lists : List (List Attempt)) (map_is : IsMap m) where
     gs : List Abandoned
     lines : ts ≡ ended (record_lines rs ++ abandoned_lines gs)
     small : All IsSmallRecord rs
-    placed : All (IsInPlace m lists) rs
+    placed : All (IsInPlace m plan) rs
     order : InOrder Comes rs
     ends : All IsSmallAbandoned gs
     few_records : length rs < 2 ^ 32
@@ -285,8 +293,8 @@ module _ (m : MapValue) (lists : List (List Attempt)) (map_is : IsMap m) where
 
   journal_step : (n : ℕ) (d e : Said) (ts : List (Option (List ℕ))) → length d.lasts ≡ tiles_of m → IsStarted d.before → Stepped n d e record_count ts → JournalSaid d e ts
   journal_step n d e ts size started s =
-      let w = records_said m lists n d s.next (fields s.text) s.step in
-      let reads = subst (λ (x : Said). read_lines m lists (n + 1) x s.rest ≡ Ok e) (sym w.2) s.reads in
+      let w = records_said m plan.lists n d s.next (fields s.text) s.step in
+      let reads = subst (λ (x : Said). read_lines m plan.lists (n + 1) x s.rest ≡ Ok e) (sym w.2) s.reads in
       subst (JournalSaid d e) (sym s.is) (journal_events (n + 1) w.0 d e s.text s.rest w.1 (events_said w.0 (n + 1) (record d { wants = want_records w.0 }) e s.rest refl size started reads))
 
   -- the count of sites, their lines, and those behind them
@@ -317,8 +325,8 @@ module _ (m : MapValue) (lists : List (List Attempt)) (map_is : IsMap m) where
 
   sites_step : (n : ℕ) (d e : Said) (ts : List (Option (List ℕ))) → length d.lasts ≡ tiles_of m → IsStarted d.before → Stepped n d e atom_count ts → AllSaid d e ts
   sites_step n d e ts size started s =
-      let w = atoms_said m lists n d s.next (fields s.text) s.step in
-      let reads = subst (λ (x : Said). read_lines m lists (n + 1) x s.rest ≡ Ok e) (sym w.2) s.reads in
+      let w = atoms_said m plan.lists n d s.next (fields s.text) s.step in
+      let reads = subst (λ (x : Said). read_lines m plan.lists (n + 1) x s.rest ≡ Ok e) (sym w.2) s.reads in
       subst (AllSaid d e) (sym s.is) (sites_rest (n + 1) w.0 d e s.text s.rest size started w.1 (sites_said w.0 (n + 1) (record d { wants = want_atoms w.0; sites = w.0 }) e s.rest refl reads))
 
   all_lines : (bytes text : List ℕ) (rest more : List (Option (List ℕ))) (k : ℕ) (ss : List (List (List ℕ))) (rs : List Record) (gs : List Abandoned) → ended_lines bytes ≡ Some text ∷ rest → is_header (fields text) ≡ true →
@@ -331,13 +339,13 @@ module _ (m : MapValue) (lists : List (List Attempt)) (map_is : IsMap m) where
       ∷ (sites ∙ ap (λ z. Some (line_text (count_fields (codes "atoms") k)) ∷ (ended ss ++ z)) behind ∙ sym (map-append (λ (l : List (List ℕ)). Some (line_text l)) front back)) i)
 
   form_of : (bytes text : List ℕ) (e : Said) (rest : List (Option (List ℕ))) → ended_lines bytes ≡ Some text ∷ rest → is_header (fields text) ≡ true → AllSaid (record (nothing_said m) { wants = atom_count }) e rest →
-      IsReportOf m lists bytes (entries e.sites e.journal e.gone)
+      IsReportOf m plan bytes (entries e.sites e.journal e.gone)
   form_of bytes text e rest is head a =
       let j = a.behind in
-      let form : IsReportOf m lists bytes (entries a.k j.rs j.gs) = record {
+      let form : IsReportOf m plan bytes (entries a.k j.rs j.gs) = record {
         sites = a.ss;
         text = ended_exact [] bytes (lines_of a.ss (entries a.k j.rs j.gs)) (all_lines bytes text rest a.rest a.k a.ss j.rs j.gs is head a.lines j.lines);
-        each = a.each;
+        each = λ k d lt. site_fields _ (a.each k d lt);
         many = a.count;
         small = j.small;
         placed = j.placed;
@@ -347,26 +355,26 @@ module _ (m : MapValue) (lists : List (List Attempt)) (map_is : IsMap m) where
         few_records = j.few_records;
         few_abandoned = j.few_abandoned;
       } in
-      subst (IsReportOf m lists bytes) (λ i. entries (sym j.sites i) (sym j.journal i) (sym j.gone i)) form
+      subst (IsReportOf m plan bytes) (λ i. entries (sym j.sites i) (sym j.journal i) (sym j.gone i)) form
 
   -- all lines, one kind after another
-  form_said : (bytes : List ℕ) (e : Said) → Stepped 1 (nothing_said m) e header (ended_lines bytes) → IsReportOf m lists bytes (entries e.sites e.journal e.gone)
+  form_said : (bytes : List ℕ) (e : Said) → Stepped 1 (nothing_said m) e header (ended_lines bytes) → IsReportOf m plan bytes (entries e.sites e.journal e.gone)
   form_said bytes e s =
       let start = record (nothing_said m) { wants = atom_count } in
-      let w = header_said m lists 1 (nothing_said m) s.next (fields s.text) s.step in
-      let reads = subst (λ (x : Said). read_lines m lists (1 + 1) x s.rest ≡ Ok e) (sym w.1) s.reads in
+      let w = header_said m plan.lists 1 (nothing_said m) s.next (fields s.text) s.step in
+      let reads = subst (λ (x : Said). read_lines m plan.lists (1 + 1) x s.rest ≡ Ok e) (sym w.1) s.reads in
       form_of bytes s.text e s.rest s.is w.0 (sites_step (1 + 1) start e s.rest (length-replicate (tiles_of m) None) (λ p q. cc q) (stepped (1 + 1) start e atom_count s.rest refl refl reads))
 
-  read_form : (bytes : List ℕ) (e : Entries) → entries_said (read_report m lists bytes) ≡ Ok e → IsReportOf m lists bytes e
+  read_form : (bytes : List ℕ) (e : Entries) → entries_said (read_report m plan.lists bytes) ≡ Ok e → IsReportOf m plan bytes e
   unfolding read_report
-  read_form bytes e h = on (read_lines m lists 1 (nothing_said m) (ended_lines bytes)) refl h
+  read_form bytes e h = on (read_lines m plan.lists 1 (nothing_said m) (ended_lines bytes)) refl h
     where
-      on : (r : Result Said (ℕ × LineFault)) → read_lines m lists 1 (nothing_said m) (ended_lines bytes) ≡ r → entries_said r ≡ Ok e → IsReportOf m lists bytes e
+      on : (r : Result Said (ℕ × LineFault)) → read_lines m plan.lists 1 (nothing_said m) (ended_lines bytes) ≡ r → entries_said r ≡ Ok e → IsReportOf m plan bytes e
       on (Ok d) is g =
           let same : entries d.sites d.journal d.gone ≡ e = cc in
-          subst (IsReportOf m lists bytes) same (form_said bytes d (stepped 1 (nothing_said m) d header (ended_lines bytes) refl refl is))
+          subst (IsReportOf m plan bytes) same (form_said bytes d (stepped 1 (nothing_said m) d header (ended_lines bytes) refl refl is))
       on (Err fault) is g = cc
 
   -- bytes are read as entries exactly if they are their report
-  pub are_reports : AreReports m lists
-  are_reports = λ bytes e. (read_form bytes e, form_read m lists bytes e)
+  pub are_reports : AreReports m plan
+  are_reports = λ bytes e. (read_form bytes e, form_read m plan map_is bytes e)

@@ -11,7 +11,7 @@ use Rattle.event_journal.specs.Logs.{is_before}
 use Rattle.event_journal.specs.declared.abandoned.Abandoned.{Abandoned}
 use Rattle.report_text.proofs.Ahead.{IsAhead}
 use Rattle.report_text.specs.Forms.{abandoned_form, count_form, is_atom, is_header, record_form}
-use Rattle.report_text.specs.Reading.{Said, Wants, abandoned, abandoned_count, atom_count, atoms, counted, earlier, fields_step, header, is_behind, not_later, put_abandoned, put_record, put_sites, record_count, record_fault, record_step, records, unless, want_abandoned, want_atoms, want_records}
+use Rattle.report_text.specs.Reading.{Said, Wants, abandoned, abandoned_count, atom_count, atoms, count_line, earlier, fields_step, header, is_behind, not_later, put_abandoned, put_record, put_sites, record_count, record_fault, record_step, records, unless, want_abandoned, want_atoms, want_records}
 use Rattle.report_text.specs.declared.journal_fault.LineFault.{LineFault}
 use Rattle.report_text.specs.declared.journal_fault.LineFault.TheVariants.{BadForm}
 use Rattle.tile_map.specs.Plane.{MapValue}
@@ -22,7 +22,7 @@ if_ok : (b : Bool) (x y : Said) → if◌then◌else◌ {A = Result Said LineFau
 if_ok true x y h = (refl, cc)
 if_ok false x y h = cc
 
-was_counted : (d x : Said) (next : ℕ → Wants) (o : Option ℕ) → counted d next o ≡ Ok x → (k : ℕ) × (o ≡ Some k) × (record d { wants = next k } ≡ x)
+was_counted : (d x : Said) (next : ℕ → Wants) (o : Option ℕ) → count_line d next o ≡ Ok x → (k : ℕ) × (o ≡ Some k) × (record d { wants = next k } ≡ x)
 was_counted d x next None h = cc
 was_counted d x next (Some k) h = (k, refl, cc)
 

@@ -10,7 +10,7 @@ use Rattle.event_journal.specs.Logs.{LogValue, abandoned_in, records_of}
 use Rattle.event_journal.specs.declared.abandoned.Abandoned.{Abandoned}
 use Rattle.text_lines.proofs.Joined.{text_one}
 use Rattle.report_text.specs.OneReport.{AreAbandonedWords, AreRecordWords, AreTypeNames, AreWords, IsOneReport, IsReported, IsWord}
-use Rattle.report_text.specs.Report.{AreNamed, Shown, report_lines, report_value, shown, shown_at, shown_from, shown_one}
+use Rattle.report_text.specs.Report.{AreNamed, Shown, report_lines, report_value, shown_atoms, shown_at, shown_from, shown_one}
 use Rattle.report_text.proofs.PrintedLines.{ArePrinted, IsShown, lines_one, report_is}
 
 abbrev IsNamedAtom : List (List ℕ) → AtomValue → Type 0
@@ -123,7 +123,7 @@ atoms_one names width i (x ∷ xs) (y ∷ ys) wide small long p q f g e =
         let same = next rest in
         λ j. (first j).atom ∷ same j
 
-printed_of : (names : List (List ℕ)) (g : GridValue) (r : List Record) (a : List Abandoned) → IsReported names (report_value g r a) → ArePrinted names (shown g) r a
+printed_of : (names : List (List ℕ)) (g : GridValue) (r : List Record) (a : List Abandoned) → IsReported names (report_value g r a) → ArePrinted names (shown_atoms g) r a
 printed_of names g r a is =
     let k = is.sites in
     let s = are_shown names g.width 0 g.atoms is.wide (omega (arith, k)) is.named is.states in
@@ -146,8 +146,8 @@ one_report names are = λ one two p q e.
     let b = two.abandoned in
     let x = printed_of names g r a p in
     let y = printed_of names h s b q in
-    let lines = text_one (report_lines names (shown g) r a) (report_lines names (shown h) s b) (report_is names (shown g) r a are x) (report_is names (shown h) s b are y) e in
-    let same = lines_one names (shown g) (shown h) r s a b are x y lines in record {
+    let lines = text_one (report_lines names (shown_atoms g) r a) (report_lines names (shown_atoms h) s b) (report_is names (shown_atoms g) r a are x) (report_is names (shown_atoms h) s b are y) e in
+    let same = lines_one names (shown_atoms g) (shown_atoms h) r s a b are x y lines in record {
       sites = same.0;
       atoms = λ wide long.
           let k = p.sites in

@@ -8,7 +8,8 @@ use Rattle.event_journal.specs.Serial.{OwesNothing}
 use Rattle.feast_base.specs.TypeNames.{is_type_name}
 use Rattle.tile_map.specs.Plane.{MapValue, IsMap, tiles_of}
 use Rattle.report_text.specs.OneReport.{IsWord}
-use Rattle.report_text.specs.Report.{AreNamed, ReportValue, report_of, shown}
+use Rattle.report_text.specs.Report.{AreNamed, ReportValue, report_of, shown_atoms}
+use Rattle.feast_base.specs.declared.limits.TheConstants.{MOST_ATTEMPTS}
 
 -- each is the name of a type
 abbrev pub AreFormed : List (List ℕ) → Type 0
@@ -23,7 +24,7 @@ IsDrawable m a = (a.centre < m.w * m.h) × IsWord a.seed
 pub record IsDrawablePlan (m : MapValue) (plan : PlanValue) : Type 0 where
   pub map : IsMap m
   pub lists : length plan.lists ≡ tiles_of m
-  pub few : sum_by length plan.lists ≤ 1000000
+  pub few : sum_by length plan.lists ≤ MOST_ATTEMPTS
   pub attempts : (t : ℕ) → All (IsDrawable m) (attempts plan t)
 
 -- what a run of a plan left, and what holds of it: a grid of the plane whose atoms are empty or
@@ -36,7 +37,7 @@ pub record IsLeft (names : List (List ℕ)) (m : MapValue) (plan : PlanValue) (v
 
 -- the entries of a report: a site is shown if it is not empty
 abbrev pub entries_in : ReportValue → Entries
-entries_in v = entries (length (shown v.grid)) v.records v.abandoned
+entries_in v = entries (length (shown_atoms v.grid)) v.records v.abandoned
 
 -- the text of a report says these entries
 abbrev pub SaysThese : MapValue → List (List Attempt) → List ℕ → Entries → Type 0

@@ -2,6 +2,7 @@ pub mod Again
 pub mod Cursors
 pub mod Cuts
 pub mod Entries
+pub mod EntryLines
 pub mod Forms
 pub mod JournalText
 pub mod Lengths

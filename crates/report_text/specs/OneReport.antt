@@ -5,7 +5,7 @@ use Rattle.cell_grid.specs.declared.record.Record.{Record}
 use Rattle.event_journal.specs.Logs.{LogValue}
 use Rattle.event_journal.specs.declared.abandoned.Abandoned.{Abandoned}
 use Rattle.feast_base.specs.TypeNames.{is_type_name}
-use Rattle.report_text.specs.Report.{AreNamed, ReportValue, report_of, shown}
+use Rattle.report_text.specs.Report.{AreNamed, ReportValue, report_of, shown_atoms}
 
 -- names of types, no two of which are the same
 pub record AreTypeNames (names : List (List ℕ)) : Type 0 where
@@ -41,7 +41,7 @@ pub record IsReported (names : List (List ℕ)) (v : ReportValue) : Type 0 where
 -- what two reports have in common: the atoms that are not empty with their sites, and so all atoms of grids of one size, the
 -- events, and the attempts that were given up
 pub record AreSame (one two : ReportValue) : Type 0 where
-  pub sites : shown one.grid ≡ shown two.grid
+  pub sites : shown_atoms one.grid ≡ shown_atoms two.grid
   pub atoms : one.grid.width ≡ two.grid.width → length one.grid.atoms ≡ length two.grid.atoms → one.grid.atoms ≡ two.grid.atoms
   pub records : one.records ≡ two.records
   pub abandoned : one.abandoned ≡ two.abandoned

@@ -112,9 +112,9 @@ record_step m lists n d next None = Err BadForm
 record_step m lists n d next (Some r) = unless (record_fault m n d.before (slice_index_or d.lasts r.tile None) (slice_index_or lists r.tile []) r) (put_record n d next r)
 
 -- a count's line
-abbrev pub counted : Said → (ℕ → Wants) → Option ℕ → Result Said LineFault
-counted d next None = Err BadForm
-counted d next (Some k) = Ok (record d { wants = next k })
+abbrev pub count_line : Said → (ℕ → Wants) → Option ℕ → Result Said LineFault
+count_line d next None = Err BadForm
+count_line d next (Some k) = Ok (record d { wants = next k })
 
 -- the line of the count of sites
 abbrev pub put_sites : Said → Option ℕ → Result Said LineFault
@@ -131,9 +131,9 @@ unfoldable pub fields_step : MapValue → List (List Attempt) → ℕ → Said �
 fields_step m lists n d header fs = if is_header fs then Ok (record d { wants = atom_count }) else Err BadForm
 fields_step m lists n d atom_count fs = put_sites d (count_form (codes "atoms") fs)
 fields_step m lists n d (atoms k) fs = if is_atom fs then Ok (record d { wants = want_atoms k }) else Err BadForm
-fields_step m lists n d record_count fs = counted d want_records (count_form (codes "journal") fs)
+fields_step m lists n d record_count fs = count_line d want_records (count_form (codes "journal") fs)
 fields_step m lists n d (records k) fs = record_step m lists n d (want_records k) (record_form fs)
-fields_step m lists n d abandoned_count fs = counted d want_abandoned (count_form (codes "abandoned") fs)
+fields_step m lists n d abandoned_count fs = count_line d want_abandoned (count_form (codes "abandoned") fs)
 fields_step m lists n d (abandoned k) fs = put_abandoned d (want_abandoned k) (abandoned_form fs)
 fields_step m lists n d nothing fs = Err BadForm
 

@@ -29,8 +29,8 @@ shown_from width i [] = []
 shown_from width i (a ∷ more) = shown_one width i a ++ shown_from width (i + 1) more
 
 -- the atoms of a grid that are not empty, with their sites, in row order
-abbrev pub shown : GridValue → List Shown
-shown g = shown_from g.width 0 g.atoms
+abbrev pub shown_atoms : GridValue → List Shown
+shown_atoms g = shown_from g.width 0 g.atoms
 
 -- an atom's line: its site, its name and its state
 abbrev pub atom_fields : List (List ℕ) → Shown → List (List ℕ)
@@ -42,7 +42,7 @@ atom_lines names atoms = count_fields (codes "atoms") (length atoms) ∷ map (at
 
 -- the text of a grid's atoms
 abbrev pub atoms_text : List (List ℕ) → GridValue → List ℕ
-atoms_text names g = text_of (atom_lines names (shown g))
+atoms_text names g = text_of (atom_lines names (shown_atoms g))
 
 -- the lines of a report: its header, the atoms, the events, and the attempts that were given up
 abbrev pub report_lines : List (List ℕ) → List Shown → List Record → List Abandoned → List (List (List ℕ))
@@ -51,7 +51,7 @@ report_lines names atoms records abandoned =
 
 -- the text of a report
 abbrev pub report : List (List ℕ) → GridValue → List Record → List Abandoned → List ℕ
-report names g records abandoned = text_of (report_lines names (shown g) records abandoned)
+report names g records abandoned = text_of (report_lines names (shown_atoms g) records abandoned)
 
 -- each atom is empty or its type has a name
 abbrev pub AreNamed : List (List ℕ) → List AtomValue → Type 0

@@ -1,5 +1,5 @@
 -- A text that is put to a sink.
-use Rattle.std.specs.Prelude.{◌≡◌, ℕ, List, Result, Ok, Err}
+use Rattle.std.specs.Prelude.{◌≡◌, ℕ, List, ◌++◌, Result, Ok, Err}
 use Rattle.feast_base.specs.Loading.{IsPut, IsCut}
 use Rattle.feast_base.specs.Outside.{SinkState}
 use Rattle.feast_base.specs.declared.sink.SinkFailed.{SinkFailed}
@@ -16,3 +16,22 @@ abbrev pub Writes : {T : Type 0} → SinkState → SinkState → List ℕ → Re
 Writes old new text (Ok x) = IsPut old new text
 Writes old new text (Err Sink) = IsCut old new text
 Writes old new text (Err NoMemory) = (new.written ≡ old.written) × (new.faults ≡ old.faults)
+
+-- a sink, and the page of a text that is on its way to it
+pub record Heading : Type 1 where
+  pub sink : SinkState
+  pub page : List ℕ
+
+abbrev pub heading : SinkState → List ℕ → Heading
+heading sink page = record { sink = sink; page = page }
+
+-- bytes came behind those of a page: a first part of all was put, and the page has the others
+pub record IsTurned (old new : SinkState) (page page' text : List ℕ) : Type 0 where
+  pub full : List ℕ
+  pub split : page ++ text ≡ full ++ page'
+  pub put : IsPut old new full
+
+-- a text came behind a page, or the sink failed and has a first part of both
+abbrev pub Streams : {T : Type 0} → Heading → Heading → List ℕ → Result T SinkFailed → Type 0
+Streams old new text (Ok x) = IsTurned old.sink new.sink old.page new.page text
+Streams old new text (Err e) = IsCut old.sink new.sink (old.page ++ text)

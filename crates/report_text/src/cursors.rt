@@ -49,7 +49,7 @@ fn between(cursor: &LogCursor, attempt: u64) -> u64
 }
 
 /// The tile's attempt of this number, if it has one. That attempt was not passed before.
-pub(crate) fn drawn(cursor: &mut LogCursor, attempt: u64, line: u64) -> Option<Attempt>
+pub(crate) fn seek_attempt(cursor: &mut LogCursor, attempt: u64, line: u64) -> Option<Attempt>
     requires later { passed_of cursor.old ≤ attempt }
     requires line { 1 ≤ line }
     ensures value { (list : List Attempt) → Serves cursor.old list → result ≡ first_of (drop attempt list) }

@@ -1,7 +1,7 @@
 //! The forms of the lines of a report.
 ghost use Rattle.std.specs.Prelude.{◌≡◌, ◌^◌, is_some};
 ghost use Rattle.cell_grid.specs.Grid.{below};
-ghost use Rattle.text_lines.specs.Fields.{fields, fields_left, hex_of, taken};
+ghost use Rattle.text_lines.specs.Fields.{fields, fields_left, hex_of, number_and_fields};
 ghost use Rattle.text_lines.specs.Forms.{one_field, one_number, with};
 ghost use Rattle.report_text.specs.Forms.{abandoned_form, count_form, is_atom, is_header, is_name_state, is_one, record_form, site_form, take_attempt, take_small};
 
@@ -12,7 +12,7 @@ use text_lines::{first_field, one_field, one_number, one_seed, state, take_numbe
 
 /// The first field as a number below 2^32, and the other fields.
 fn take_small(args: Option<&[u8]>) -> Option<(u32, Option<&[u8]>)>
-    ensures { taken result ≡ take_small (fields_left args.entry) }
+    ensures { number_and_fields result ≡ take_small (fields_left args.entry) }
 {
     let (n, rest) = take_number(args)?;
     if n < 1u128 << 32 {
@@ -24,7 +24,7 @@ fn take_small(args: Option<&[u8]>) -> Option<(u32, Option<&[u8]>)>
 
 /// The first field as a number below 2^64, and the other fields.
 fn take_attempt(args: Option<&[u8]>) -> Option<(u64, Option<&[u8]>)>
-    ensures { taken result ≡ take_attempt (fields_left args.entry) }
+    ensures { number_and_fields result ≡ take_attempt (fields_left args.entry) }
 {
     let (n, rest) = take_number(args)?;
     if n < 1u128 << 64 {

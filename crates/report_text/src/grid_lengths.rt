@@ -3,7 +3,7 @@
 ghost use Rattle.std.specs.Prelude.{◌≡◌, ◌≤◌, ◌⊎◌, ◌++◌, codes, length, map};
 ghost use Rattle.bit_field.specs.Atom.{empty_atom};
 ghost use Rattle.text_lines.specs.Lines.{text_of};
-ghost use Rattle.report_text.specs.Lengths.{capped};
+ghost use Rattle.report_text.specs.Lengths.{capped_length};
 ghost use Rattle.report_text.specs.Report.{AreNamed, atom_fields, atoms_text, shown_from, shown_one};
 
 use crate::journal_lengths::{count_len, number_len};
@@ -17,7 +17,7 @@ use feast_base::Name;
 fn atom_len(names: &[Name], width: u32, place: usize, atom: Atom) -> usize
     requires width { 1 ≤ width }
     requires named { (atom ≡ empty_atom) ⊎ ((1 ≤ atom.kind) × (atom.kind ≤ length names.now)) }
-    ensures { result ≡ capped (length (text_of (map (atom_fields names.now) (shown_one width place atom)))) }
+    ensures { result ≡ capped_length (length (text_of (map (atom_fields names.now) (shown_one width place atom)))) }
 {
     if atom.kind() == 0 {
         return 0;
@@ -33,7 +33,7 @@ fn atom_len(names: &[Name], width: u32, place: usize, atom: Atom) -> usize
 fn atoms_len(names: &[Name], width: u32, atoms: &[Atom]) -> usize
     requires width { 1 ≤ width }
     requires named { AreNamed names.now atoms.now }
-    ensures { result ≡ capped (length (text_of (map (atom_fields names.now) (shown_from width 0 atoms.now)))) }
+    ensures { result ≡ capped_length (length (text_of (map (atom_fields names.now) (shown_from width 0 atoms.now)))) }
 {
     let mut len = 0usize;
     for (place, atom) in atoms.iter().enumerate() {
@@ -45,7 +45,7 @@ fn atoms_len(names: &[Name], width: u32, atoms: &[Atom]) -> usize
 /// The length of the text that shows a grid.
 pub(crate) fn grid_len(grid: &Grid, names: &[Name]) -> usize
     requires { AreNamed names.now grid.now.atoms }
-    ensures { result ≡ capped (length (codes "feast 1\n" ++ atoms_text names.now grid.now)) }
+    ensures { result ≡ capped_length (length (codes "feast 1\n" ++ atoms_text names.now grid.now)) }
 {
     let heads = b"feast 1\n".len() + count_len(b"atoms", count(grid));
     atoms_len(names, grid.width(), grid.atoms()).saturating_add(heads)

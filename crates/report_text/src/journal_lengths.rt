@@ -1,13 +1,12 @@
 //! How long the text of a journal is, so that memory for it is taken once. A length that is no
 //! number of 64 bits counts as the greatest that is one.
-ghost use Rattle.std.specs.Prelude.{◌≡◌, ◌+◌, ◌<◌, ◌≤◌, ◌^◌, decimal, flat_map, length, map};
+ghost use Rattle.std.specs.Prelude.{◌≡◌, ◌+◌, ◌<◌, ◌≤◌, ◌^◌, decimal, length, map};
 ghost use Rattle.text_lines.specs.Lines.{ended_line, text_of};
-ghost use Rattle.report_text.specs.Lengths.{capped};
-ghost use Rattle.event_journal.specs.Logs.{abandoned_in, records_of};
-ghost use Rattle.report_text.specs.JournalText.{abandoned_fields, abandoned_lines, count_fields, journal_text, logs_text, record_fields, record_lines};
+ghost use Rattle.report_text.specs.Lengths.{capped_length};
+ghost use Rattle.report_text.specs.JournalText.{abandoned_fields, abandoned_lines, count_fields, journal_text, record_fields, record_lines};
 
 use cell_grid::Record;
-use event_journal::{Abandoned, Journal, TileLog};
+use event_journal::Abandoned;
 
 /// How many digits a number below 10,000 has.
 #[inline(always)]
@@ -81,7 +80,7 @@ fn abandoned_line_len(entry: &Abandoned) -> usize
 
 /// The length of the lines of events.
 fn records_len(records: &[Record]) -> usize
-    ensures { result ≡ capped (length (text_of (map record_fields records.now))) }
+    ensures { result ≡ capped_length (length (text_of (map record_fields records.now))) }
 {
     let mut len = 0usize;
     for entry in records {
@@ -92,7 +91,7 @@ fn records_len(records: &[Record]) -> usize
 
 /// The length of the lines of abandoned attempts.
 fn abandoned_lines_len(abandoned: &[Abandoned]) -> usize
-    ensures { result ≡ capped (length (text_of (map abandoned_fields abandoned.now))) }
+    ensures { result ≡ capped_length (length (text_of (map abandoned_fields abandoned.now))) }
 {
     let mut len = 0usize;
     for entry in abandoned {
@@ -101,46 +100,13 @@ fn abandoned_lines_len(abandoned: &[Abandoned]) -> usize
     len
 }
 
-/// The length of the lines of the events of logs.
-fn log_records_len(logs: &[TileLog]) -> usize
-    ensures { result ≡ capped (length (text_of (map record_fields (flat_map records_of logs.now)))) }
-{
-    let mut len = 0usize;
-    for log in logs {
-        len = len.saturating_add(records_len(log.records()));
-    }
-    len
-}
-
-/// The length of the lines of the abandoned attempts of logs.
-fn log_abandoned_len(logs: &[TileLog]) -> usize
-    ensures { result ≡ capped (length (text_of (map abandoned_fields (abandoned_in logs.now)))) }
-{
-    let mut len = 0usize;
-    for log in logs {
-        len = len.saturating_add(abandoned_lines_len(log.abandoned()));
-    }
-    len
-}
-
 /// The length of what `print_entries` appends.
 pub fn entries_text_len(records: &[Record], abandoned: &[Abandoned]) -> usize
-    ensures { result ≡ capped (length (journal_text records.now abandoned.now)) }
+    ensures { result ≡ capped_length (length (journal_text records.now abandoned.now)) }
 {
     let counts = count_len(b"journal", records.len() as u64)
         + count_len(b"abandoned", abandoned.len() as u64);
     records_len(records)
         .saturating_add(abandoned_lines_len(abandoned))
-        .saturating_add(counts)
-}
-
-/// The length of what `print` appends.
-pub fn journal_text_len(journal: &Journal) -> usize
-    ensures { result ≡ capped (length (logs_text journal.now)) }
-{
-    let counts = count_len(b"journal", journal.len())
-        + count_len(b"abandoned", journal.abandoned_len());
-    log_records_len(journal.logs())
-        .saturating_add(log_abandoned_len(journal.logs()))
         .saturating_add(counts)
 }

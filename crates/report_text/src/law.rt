@@ -18,7 +18,7 @@ use tile_map::Map;
 /// form, and are as many as the entries say. The events fit the map and the plan. So `read` answers
 /// `Ok` exactly for such bytes, if there is memory. The call does nothing: its contract is the law.
 pub fn reports(map: &Map, plan: &AttemptPlan)
-    ensures { AreReports map.now plan.now.lists }
+    ensures { AreReports map.now plan.now }
 {
     // The proof takes from the first reading what holds of every map; the plan is read so that it
     // is not unused.

@@ -19,11 +19,12 @@ mod printed;
 mod reader;
 mod reading;
 mod shown;
+mod streamed;
 mod write_fault;
 mod writer;
 
 pub use journal_fault::{JournalFault, LineFault};
-pub use journal_lengths::{count_len, entries_text_len, journal_text_len, number_len};
+pub use journal_lengths::{count_len, entries_text_len, number_len};
 pub use law::{cuts, one_report, reads_again, reports};
 pub use printed::{count_fields, print, print_entries};
 pub use reader::{ReadJournal, read};

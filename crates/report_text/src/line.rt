@@ -1,6 +1,6 @@
 //! Lines that are written from their last byte to their first. A line ends where its array does,
 //! and the array is as long as the longest line of its kind.
-ghost use Rattle.std.specs.Prelude.{◌≡◌, ◌+◌, ◌/◌, ◌%◌, ◌<◌, ◌≤◌, ◌∷◌, ◌++◌, decimal, drop, length};
+ghost use Rattle.std.specs.Prelude.{◌≡◌, ◌+◌, ◌/◌, ◌%◌, ◌<◌, ◌≤◌, ◌∷◌, ◌++◌, [], decimal, drop, length};
 ghost use Rattle.feast_base.specs.Digits.{glyph, hex};
 ghost use Rattle.text_lines.specs.Lines.{ended_line};
 ghost use Rattle.report_text.specs.JournalText.{abandoned_fields, record_fields};
@@ -16,6 +16,18 @@ pub(crate) const LONGEST_RECORD: usize = 82;
 /// The length of the longest line of an abandoned attempt: five numbers of 32 bits and two of 64,
 /// six spaces and an LF.
 pub(crate) const LONGEST_ABANDONED: usize = 97;
+
+/// The length of the longest line of a count, without its word: a space, a number of 64 bits and an
+/// LF.
+pub(crate) const LONGEST_COUNT: usize = 22;
+
+/// The length of the longest site in the line of an atom: two numbers of 64 bits, with a space
+/// behind each.
+pub(crate) const LONGEST_SITE: usize = 42;
+
+/// The length of what comes behind the name in the line of an atom: a space, the 18 digits of a
+/// state and an LF.
+pub(crate) const ATOM_END: usize = 20;
 
 /// The two hexadecimal digits of each byte.
 static PAIRS: [u8; 512] = *b"000102030405060708090a0b0c0d0e0f101112131415161718191a1b1c1d1e1f\
@@ -60,15 +72,25 @@ fn write_next(n: u32, line: &mut [u8], end: usize) -> usize
     write_byte(b' ', line, start)
 }
 
-/// Writes a space and a number of 64 bits, which end at `end`, and returns where they start.
+/// Writes a number of 64 bits that ends at `end`, and returns where it starts.
 #[inline(always)]
 #[tactic(auto, using(crate::proofs::WrittenLines::long_number))]
+fn write_long(n: u64, line: &mut [u8], end: usize) -> usize
+    requires { (20 ≤ end) × (end ≤ length line.old) }
+    ensures start { (result ≤ end) × (end ≤ result + 20) }
+    ensures written { drop result line.new ≡ decimal n ++ drop end line.old }
+{
+    write_digits(n, line, end)
+}
+
+/// Writes a space and a number of 64 bits, which end at `end`, and returns where they start.
+#[inline(always)]
 fn write_next_long(n: u64, line: &mut [u8], end: usize) -> usize
     requires { (21 ≤ end) × (end ≤ length line.old) }
     ensures start { (result ≤ end) × (end ≤ result + 21) }
     ensures written { drop result line.new ≡ 32 ∷ decimal n ++ drop end line.old }
 {
-    let start = write_digits(n, line, end);
+    let start = write_long(n, line, end);
     write_byte(b' ', line, start)
 }
 
@@ -96,6 +118,53 @@ fn write_seed(n: u64, line: &mut [u8], end: usize) -> usize
         left /= 256;
     }
     end - 16
+}
+
+/// Writes the 18 digits of a state, which end at `end`, two at a time, and returns where they start.
+#[inline(always)]
+fn write_state(n: u128, line: &mut [u8], end: usize) -> usize
+    requires { (18 ≤ end) × (end ≤ length line.old) }
+    ensures start { result + 18 ≡ end }
+    ensures written { drop result line.new ≡ hex 18 n ++ drop end line.old }
+{
+    let mut left = n;
+    for pair in 0..9usize {
+        write_pair((left % 256) as usize, line, end - 2 - 2 * pair);
+        left /= 256;
+    }
+    end - 18
+}
+
+/// Writes what follows the word in the line of a count, and returns where it starts.
+pub(crate) fn write_count(count: u64, line: &mut [u8; LONGEST_COUNT]) -> usize
+    ensures within { result ≤ 22 }
+    ensures written { drop result line.new ≡ 32 ∷ decimal count ++ 10 ∷ [] }
+{
+    let at = write_byte(b'\n', line, LONGEST_COUNT);
+    write_next_long(count, line, at)
+}
+
+/// Writes the site of an atom at a place in row order, with a space behind each number, and returns
+/// where it starts.
+pub(crate) fn write_site(width: u32, place: usize, line: &mut [u8; LONGEST_SITE]) -> usize
+    requires { 1 ≤ width }
+    ensures within { result ≤ 42 }
+    ensures written { drop result line.new ≡ decimal (place % width) ++ (32 ∷ (decimal (place / width) ++ 32 ∷ [])) }
+{
+    let width = width as usize;
+    let at = write_byte(b' ', line, LONGEST_SITE);
+    let at = write_next_long((place / width) as u64, line, at);
+    write_long((place % width) as u64, line, at)
+}
+
+/// Writes what follows the name in the line of an atom, and returns where it starts.
+pub(crate) fn write_atom_end(state: u128, line: &mut [u8; ATOM_END]) -> usize
+    ensures within { result ≤ 20 }
+    ensures written { drop result line.new ≡ 32 ∷ hex 18 state ++ 10 ∷ [] }
+{
+    let at = write_byte(b'\n', line, ATOM_END);
+    let at = write_state(state, line, at);
+    write_byte(b' ', line, at)
 }
 
 /// Writes the line of an event, and returns where it starts.

@@ -1,40 +1,119 @@
-//! Putting a text piece by piece.
-ghost use Rattle.std.specs.Prelude.{◌≡◌, ◌≢◌, ◌-◌, ◌^◌, ◌<◌, ◌≤◌, [], IsErr, IsOk, length};
-ghost use Rattle.feast_base.specs.Loading.{FailsNoSooner, MayFailFrom, Puts};
-ghost use Rattle.report_text.specs.Writing.{PutsAll};
+//! A page of a text that is on its way to a sink.
+ghost use Rattle.std.specs.Prelude.{◌≡◌, ℕ, ◌+◌, ◌-◌, ◌^◌, ◌<◌, ◌≤◌, ◌++◌, List, [], length, take};
+ghost use Rattle.report_text.specs.Writing.{PutsAll, Streams, heading};
+ghost use Rattle.report_text.specs.declared.page.TheConstants.{PIECE};
 
 use feast_base::{Sink, SinkFailed};
+use std::marker::Model;
 
-/// How many bytes each piece but the last has.
+/// How many bytes each piece that is put has, but for the last.
 const PIECE: usize = 4096;
 
-/// Puts a piece of 4,096 bytes, or of 1 to 4,096 if it is the last one. What comes after it is
-/// `rest`.
-fn put_piece<K: Sink>(sink: &mut K, piece: &[u8], rest: &[u8]) -> Result<(), SinkFailed>
-    requires room { (K.state sink.old).faults < 2 ^ 64 - 1 }
-    requires some { 1 ≤ length piece.now }
-    requires most { length piece.now ≤ 4096 }
-    requires full { rest.now ≢ [] → length piece.now ≡ 4096 }
-    ensures puts { Puts (K.state sink.old) (K.state sink.new) piece.now result }
-    ensures cause { IsErr result → MayFailFrom (K.state sink.old) (length piece.now) }
-    ensures later { IsOk result → FailsNoSooner (K.state sink.old) (K.state sink.new) (length piece.now) }
-{
-    // Only the contract speaks of the rest.
-    let _ = rest;
-    sink.put(piece)
+/// The bytes that come next to a sink, at most 4,096, seen as a list.
+#[derive(Drop)]
+pub(crate) struct Page {
+    bytes: [u8; PIECE],
+    used: usize,
 }
 
-/// Puts bytes in pieces: each has 4,096 bytes except the last, which has 1 to 4,096. No clause of a
-/// sink can say how a text was cut into puts, so `put_piece` requires these sizes.
-pub(crate) fn put_pieces<K: Sink>(sink: &mut K, bytes: &[u8]) -> Result<(), SinkFailed>
+impl Model for Page {
+    ghost Value = { List ℕ };
+
+    ghost view = { λ p. take p.used p.bytes };
+
+    ghost invariant = { λ p. p.used ≤ PIECE };
+}
+
+impl Page {
+    /// A page without a byte.
+    pub(crate) fn new() -> Page
+        ensures { result ≡ [] }
+    {
+        Page {
+            bytes: [0; PIECE],
+            used: 0,
+        }
+    }
+
+    /// How many bytes more it has room for.
+    #[inline(always)]
+    fn room(&self) -> usize
+        ensures { length self.now + result ≡ PIECE }
+    {
+        PIECE - self.used
+    }
+
+    /// Its bytes.
+    fn as_slice(&self) -> &[u8]
+        ensures value { result.now ≡ self.now }
+        ensures most { length result.now ≤ PIECE }
+    {
+        &self.bytes[..self.used]
+    }
+
+    /// Appends bytes for which there is room.
+    #[inline(always)]
+    fn append(&mut self, bytes: &[u8])
+        requires { length self.old + length bytes.now ≤ PIECE }
+        ensures { self.new ≡ self.old ++ bytes.now }
+    {
+        let end = self.used + bytes.len();
+        self.bytes[self.used..end].copy_from_slice(bytes);
+        self.used = end;
+    }
+
+    /// Takes all its bytes out.
+    fn clear(&mut self)
+        ensures { self.new ≡ [] }
+    {
+        self.used = 0;
+    }
+}
+
+/// Puts a page that is full and empties it.
+fn put_full<K: Sink>(sink: &mut K, page: &mut Page) -> Result<(), SinkFailed>
+    requires room { (K.state sink.old).faults < 2 ^ 64 - 1 }
+    requires full { length page.old ≡ PIECE }
+    ensures puts { PutsAll (K.state sink.old) (K.state sink.new) page.old result }
+    ensures empty { page.new ≡ [] }
+{
+    let put = sink.put(page.as_slice());
+    page.clear();
+    put
+}
+
+/// Puts the last page of a text, unless it is empty.
+#[tactic(auto, using(crate::proofs::Putting::put_nothing))]
+pub(crate) fn put_last<K: Sink>(sink: &mut K, page: Page) -> Result<(), SinkFailed>
     requires { (K.state sink.old).faults < 2 ^ 64 - 1 }
-    ensures { PutsAll (K.state sink.old) (K.state sink.new) bytes.now result }
+    ensures { PutsAll (K.state sink.old) (K.state sink.new) page result }
+{
+    let bytes = page.as_slice();
+    if bytes.is_empty() {
+        return Ok(());
+    }
+    sink.put(bytes)
+}
+
+/// Appends bytes to a text: to its page, which is put and emptied as soon as it is full. So each
+/// piece that is put here has 4,096 bytes. No clause of a sink can say how a text was cut into puts,
+/// so `put_full` requires that size.
+#[inline]
+pub(crate) fn put_bytes<K: Sink>(
+    sink: &mut K,
+    page: &mut Page,
+    bytes: &[u8],
+) -> Result<(), SinkFailed>
+    requires { (K.state sink.old).faults < 2 ^ 64 - 1 }
+    ensures { Streams (heading (K.state sink.old) page.old) (heading (K.state sink.new) page.new) bytes.now result }
 {
     let mut left = bytes;
-    while !left.is_empty() {
-        let (piece, rest) = left.split_at(left.len().min(PIECE));
-        put_piece(sink, piece, rest)?;
+    while left.len() >= page.room() {
+        let (front, rest) = left.split_at(page.room());
+        page.append(front);
+        put_full(sink, page)?;
         left = rest;
     }
+    page.append(left);
     Ok(())
 }

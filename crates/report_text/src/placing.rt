@@ -7,7 +7,7 @@ ghost use Rattle.report_text.specs.Reading.{is_at_home, is_attempt, is_behind, l
 ghost use Rattle.report_text.specs.Cursors.{ForServed, Serves, StillServe, last_in, last_of, lasts_of, passed_of};
 ghost use Rattle.report_text.specs.declared.journal_fault.LineFault.TheVariants.{ElsewhereThanTile, OutOfTurn};
 
-use crate::cursors::{LogCursor, drawn};
+use crate::cursors::{LogCursor, seek_attempt};
 use crate::journal_fault::LineFault;
 use cell_grid::Record;
 use draw_stream::Attempt;
@@ -83,7 +83,7 @@ fn attempt_fault(map: &Map, n: u64, cursor: &mut LogCursor, r: &Record) -> Optio
     if !is_at_home(map, r) {
         return Some(LineFault::ElsewhereThanTile);
     }
-    let found = drawn(cursor, r.attempt, n);
+    let found = seek_attempt(cursor, r.attempt, n);
     if is_attempt(map, found, r) {
         None
     } else {

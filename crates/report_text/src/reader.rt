@@ -1,5 +1,5 @@
 //! Reading the journal of a report.
-ghost use Rattle.std.specs.Prelude.{◌≡◌, ◌+◌, ◌<◌, ◌≤◌, ◌^◌, IfOk, List, None, length, replicate};
+ghost use Rattle.std.specs.Prelude.{◌≡◌, ◌+◌, ◌<◌, ◌^◌, IfOk, List, None, length, replicate};
 ghost use Rattle.draw_stream.specs.declared.attempt.Attempt.{Attempt};
 ghost use Rattle.text_lines.specs.Fields.{Lacks};
 ghost use Rattle.text_lines.specs.Lines.{ended_lines};
@@ -7,6 +7,7 @@ ghost use Rattle.tile_map.specs.Plane.{MapValue, tiles_of};
 ghost use Rattle.report_text.specs.Reading.{read_lines};
 ghost use Rattle.report_text.specs.Cursors.{AllServe, ReadsJournal, ReadsSaid, lasts_of, said_value};
 ghost use Rattle.report_text.specs.Entries.{abandoned_line, event_line};
+ghost use Rattle.report_text.specs.EntryLines.{AreOnLines};
 
 use crate::cursors::LogCursor;
 use crate::journal_fault::JournalFault;
@@ -102,7 +103,7 @@ fn cursors(alloc: Global, plan: &AttemptPlan, tiles: u32) -> Result<Vec<LogCurso
 
 /// What the lines that are read say; `BadLine` with the line after them, of number `n`, if a text
 /// without an LF is left or more lines have to come.
-fn finished(n: u64, left: &[u8], reading: Reading) -> Result<ReadJournal, JournalFault>
+fn finish(n: u64, left: &[u8], reading: Reading) -> Result<ReadJournal, JournalFault>
     requires lacks { Lacks left.now 10 }
     requires few { length reading.journal.items + length reading.gone.items < 2 ^ 63 }
     ensures { (m : MapValue) (lists : List (List Attempt)) →
@@ -146,14 +147,15 @@ fn read_lines(
         n += 1;
         left = rest;
     }
-    finished(n, left, reading)
+    finish(n, left, reading)
 }
 
 /// Reads a whole report for a map and a plan, which has a list of attempts for each tile, and keeps
-/// the events and the abandoned attempts, and how many sites are shown. A fault names the first line that has one; on the line of
-/// a record `BadLine` comes first, then `OutOfOrder`, `NotOwned` and `NotDrawn`. Of atoms and
-/// abandoned attempts only the form is tested. `NoMemory` if there is none for the lists or for the
-/// attempts of the plan.
+/// the events and the abandoned attempts, and how many sites are shown. Each of these entries
+/// stands on the line that `event_line` or `abandoned_line` tells of it. A fault names the first
+/// line that has one; on the line of a record `BadLine` comes first, then `OutOfOrder`, `NotOwned`
+/// and `NotDrawn`. Of atoms and abandoned attempts only the form is tested. `NoMemory` if there is
+/// none for the lists or for the attempts of the plan.
 pub fn read(
     alloc: Global,
     bytes: &[u8],
@@ -162,7 +164,8 @@ pub fn read(
 ) -> Result<ReadJournal, JournalFault>
     requires short { length bytes.now < 2 ^ 63 }
     requires plan { length plan.now.lists ≡ tiles_of map.now }
-    ensures { ReadsJournal map.now plan.now.lists bytes.now result }
+    ensures journal { ReadsJournal map.now plan.now.lists bytes.now result }
+    ensures lines { IfOk result (AreOnLines bytes.now) }
 {
     let cursors = cursors(alloc, plan, map.tiles())?;
     read_lines(alloc, map, cursors, bytes)

@@ -2,7 +2,7 @@
 ghost use Rattle.std.specs.Prelude.{◌≡◌, ◌≤◌, IsOk, length};
 ghost use Rattle.text_lines.specs.Fields.{fields};
 ghost use Rattle.tile_map.specs.Plane.{tiles_of};
-ghost use Rattle.report_text.specs.Reading.{Steps, counted, fields_step, is_over, put_abandoned, put_sites, record_step, want_abandoned, want_atoms, want_records};
+ghost use Rattle.report_text.specs.Reading.{Steps, count_line, fields_step, is_over, put_abandoned, put_sites, record_step, want_abandoned, want_atoms, want_records};
 ghost use Rattle.report_text.specs.Cursors.{IsOneMore, StillServe, TakesLine, said_value, wants_value};
 
 use crate::cursors::LogCursor;

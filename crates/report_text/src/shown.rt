@@ -4,18 +4,20 @@ ghost use Rattle.feast_base.specs.TypeNames.{name_of};
 ghost use Rattle.bit_field.specs.Atom.{empty_atom};
 ghost use Rattle.feast_base.specs.Appending.{Appends};
 ghost use Rattle.text_lines.specs.Lines.{text_of};
-ghost use Rattle.report_text.specs.Report.{AreNamed, atom_fields, atoms_text, shown, shown_from, shown_one};
+ghost use Rattle.report_text.specs.Report.{AreNamed, atom_fields, atoms_text, shown_atoms, shown_from, shown_one};
 
+use crate::line::{ATOM_END, LONGEST_SITE, write_atom_end, write_site};
 use crate::printed::count_fields;
 use bit_field::Atom;
 use cell_grid::Grid;
+use feast_base::text::push;
 use feast_base::{Name, NoMemory};
-use text_lines::{Field, push_line};
+use text_lines::push_line;
 
 /// How many atoms are not empty.
 #[tactic(auto, unfolding(crate::specs::Report::shown_from))]
 pub(crate) fn count(grid: &Grid) -> u64
-    ensures { result ≡ length (shown grid.now) }
+    ensures { result ≡ length (shown_atoms grid.now) }
 {
     let mut count = 0u64;
     for atom in grid.atoms() {
@@ -49,16 +51,12 @@ fn push_atom(
     if atom.kind() == 0 {
         return Ok(());
     }
-    let width = width as usize;
-    push_line(
-        out,
-        &[
-            Field::Number((place % width) as u64),
-            Field::Number((place / width) as u64),
-            Field::Word(name_of(names, atom.kind())),
-            Field::State(atom.state()),
-        ],
-    )
+    let (mut site, mut end) = ([0; LONGEST_SITE], [0; ATOM_END]);
+    let start = write_site(width, place, &mut site);
+    push(out, &site[start..])?;
+    push(out, name_of(names, atom.kind()))?;
+    let start = write_atom_end(atom.state(), &mut end);
+    push(out, &end[start..])
 }
 
 /// Appends the lines of the atoms that are not empty.

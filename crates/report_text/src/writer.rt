@@ -5,10 +5,10 @@ ghost use Rattle.report_text.specs.Report.{AreNamed, atoms_text, of_logs, report
 ghost use Rattle.report_text.specs.Writing.{Writes};
 
 use crate::grid_lengths::grid_len;
-use crate::journal_lengths::{entries_text_len, journal_text_len};
-use crate::page::put_pieces;
-use crate::printed::{print, print_entries};
+use crate::journal_lengths::entries_text_len;
+use crate::printed::print_entries;
 use crate::shown::atoms;
+use crate::streamed::put_report;
 use crate::write_fault::WriteFault;
 use cell_grid::{Grid, Record};
 use event_journal::{Abandoned, Journal};
@@ -57,24 +57,12 @@ pub fn printed_report(
     Ok(out)
 }
 
-/// The text of the report of a run, whose memory is taken once, for its counted length.
-fn text(alloc: Global, grid: &Grid, journal: &Journal, names: &[Name]) -> Result<Vec<u8>, NoMemory>
-    requires { AreNamed names.now grid.now.atoms }
-    ensures { IfOk result (λ v. v.items ≡ report_of names.now (of_logs grid.now journal.now)) }
-{
-    let len = grid_len(grid, names).saturating_add(journal_text_len(journal));
-    let mut out = Vec::with_capacity(alloc, len)?;
-    push_grid(&mut out, grid, names)?;
-    print(alloc, journal, &mut out)?;
-    Ok(out)
-}
-
 /// Puts the report of a run: its grid's atoms and its journal. Each atom is empty or its type has a
 /// name: type numbers count the names from 1. All memory is allocated before the first put, and the
 /// pieces that are put have 4,096 bytes each except the last, which has 1 to 4,096.
 ///
 /// `Sink` only if the sink failed in this call; it then has a first part of the report. `NoMemory`
-/// if there was none for the text; then nothing was put.
+/// if there was none for the walk through the events; then nothing was put.
 pub fn write_report<K: Sink>(
     alloc: Global,
     grid: &Grid,
@@ -86,7 +74,7 @@ pub fn write_report<K: Sink>(
     requires room { (K.state sink.old).faults < 2 ^ 64 - 1 }
     ensures { Writes (K.state sink.old) (K.state sink.new) (report_of names.now (of_logs grid.now journal.now)) result }
 {
-    let text = text(alloc, grid, journal, names)?;
-    put_pieces(sink, text.as_slice())?;
+    let walk = journal.walk(alloc)?;
+    put_report(sink, grid, journal, names, walk)?;
     Ok(())
 }

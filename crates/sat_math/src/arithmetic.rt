@@ -2,7 +2,7 @@
 
 ghost use Rattle.std.specs.Prelude.{◌≡◌, pos, neg_ℤ, ◌+ℤ◌, ◌-ℤ◌, ◌*ℤ◌, int_div, int_rem, ◌↔◌, IsErr, IsTrue, IfOk};
 ghost use Rattle.sat_math.specs.Numbers.{IsNumber, IsInRange};
-ghost use Rattle.sat_math.specs.Operations.{saturated, type_of, IsSigned, Compares, compared};
+ghost use Rattle.sat_math.specs.Operations.{saturate, type_of, IsSigned, Compares, compare};
 
 use crate::ranges::clamp;
 use crate::{Arith, CompareOp, DivideByZero, Kind, NumType};
@@ -23,7 +23,7 @@ fn type_of(how: Arith) -> NumType
 /// The number of the operation's type that is nearest to `v`. Each type has its own arm, so that its
 /// ends are constants where the type is known only at run time.
 fn nearest(how: Arith, v: i128) -> i128
-    ensures value { result ≡ saturated how v }
+    ensures value { result ≡ saturate how v }
     ensures range { IsInRange (type_of how) result }
 {
     match how {
@@ -38,7 +38,7 @@ fn nearest(how: Arith, v: i128) -> i128
 pub fn add(how: Arith, a: i128, b: i128) -> i128
     requires left { IsNumber a }
     requires right { IsNumber b }
-    ensures value { result ≡ saturated how (a +ℤ b) }
+    ensures value { result ≡ saturate how (a +ℤ b) }
     ensures range { IsInRange (type_of how) result }
 {
     nearest(how, a + b)
@@ -48,7 +48,7 @@ pub fn add(how: Arith, a: i128, b: i128) -> i128
 pub fn sub(how: Arith, a: i128, b: i128) -> i128
     requires left { IsNumber a }
     requires right { IsNumber b }
-    ensures value { result ≡ saturated how (a -ℤ b) }
+    ensures value { result ≡ saturate how (a -ℤ b) }
     ensures range { IsInRange (type_of how) result }
 {
     nearest(how, a - b)
@@ -58,7 +58,7 @@ pub fn sub(how: Arith, a: i128, b: i128) -> i128
 pub fn mul(how: Arith, a: i128, b: i128) -> i128
     requires left { IsNumber a }
     requires right { IsNumber b }
-    ensures value { result ≡ saturated how (a *ℤ b) }
+    ensures value { result ≡ saturate how (a *ℤ b) }
     ensures range { IsInRange (type_of how) result }
 {
     nearest(how, a.saturating_mul(b))
@@ -69,7 +69,7 @@ pub fn mul(how: Arith, a: i128, b: i128) -> i128
 pub fn neg(how: Arith, a: i128) -> i128
     requires signed { IsSigned how }
     requires number { IsNumber a }
-    ensures value { result ≡ saturated how (neg_ℤ a) }
+    ensures value { result ≡ saturate how (neg_ℤ a) }
     ensures range { IsInRange (type_of how) result }
 {
     nearest(how, -a)
@@ -81,7 +81,7 @@ pub fn neg(how: Arith, a: i128) -> i128
 pub fn div(how: Arith, a: i128, b: i128) -> Result<i128, DivideByZero>
     requires left { IsNumber a }
     requires right { IsNumber b }
-    ensures value { IfOk result (λ q. q ≡ saturated how (int_div a b)) }
+    ensures value { IfOk result (λ q. q ≡ saturate how (int_div a b)) }
     ensures range { IfOk result (λ q. IsInRange (type_of how) q) }
     ensures zero { IsErr result ↔ (b ≡ pos 0) }
 {
@@ -97,7 +97,7 @@ pub fn div(how: Arith, a: i128, b: i128) -> Result<i128, DivideByZero>
 pub fn rem(how: Arith, a: i128, b: i128) -> Result<i128, DivideByZero>
     requires left { IsNumber a }
     requires right { IsNumber b }
-    ensures value { IfOk result (λ r. r ≡ saturated how (int_rem a b)) }
+    ensures value { IfOk result (λ r. r ≡ saturate how (int_rem a b)) }
     ensures range { IfOk result (λ r. IsInRange (type_of how) r) }
     ensures zero { IsErr result ↔ (b ≡ pos 0) }
 {
@@ -111,7 +111,7 @@ pub fn rem(how: Arith, a: i128, b: i128) -> Result<i128, DivideByZero>
 pub fn compare(op: CompareOp, a: i128, b: i128) -> bool
     requires left { IsNumber a }
     requires right { IsNumber b }
-    ensures value { result ≡ compared op a b }
+    ensures value { result ≡ compare op a b }
     ensures holds { IsTrue result ↔ Compares op a b }
 {
     match op {

@@ -9,13 +9,13 @@ use Rattle.list_laws.proofs.Members.{In, in_filter, filter_in, in_range, range_i
 use Rattle.list_laws.proofs.Ranges.{filter_none}
 use Rattle.list_laws.proofs.Tests.{both}
 use Rattle.bit_field.specs.Atom.{empty_atom}
-use Rattle.window_sites.specs.Sites.{offset_of, shifted}
+use Rattle.window_sites.specs.Sites.{offset_of, shift}
 use Rattle.window_sites.specs.Inner.{site_numbers}
 use Rattle.window_sites.specs.Window.{WindowValue, atom_at}
 use Rattle.tile_map.specs.Plane.{Site, MapValue, site, in_plane, is_on, is_live, owner_of, in_window}
 use Rattle.tile_map.specs.Edges.{window_site, live_site}
 use Rattle.tile_map.specs.Laws.{IsPlane}
-use Rattle.cell_grid.specs.Grid.{GridValue, IsGrid, site_atom, place_by, live_place, place_of, seen, is_place, sites_at, window_of, atom_left, put_window, below}
+use Rattle.cell_grid.specs.Grid.{GridValue, IsGrid, site_atom, place_by, live_place, place_of, atom_at_place, is_place, sites_at, window_of, atom_left, put_window, below}
 use Rattle.cell_grid.proofs.Windows.{put-plane}
 use Rattle.border_cache.specs.Cells.{CellValue}
 use Rattle.plane_grid.specs.PlaneGrids.{IsGridOf}
@@ -55,7 +55,7 @@ module _ (m : MapValue) (plane : IsPlane m) where
 
   -- a window's place on a grid of the plane is that of its live site
   pub place_is : (g : GridValue) → IsGridOf m g → (c : Site) (n : ℕ) → place_of g c.x c.y n ≡ option_map (index g) (window_site m c n)
-  place_is g of c n = go (shifted c.x (offset_of n).0) (shifted c.y (offset_of n).1)
+  place_is g of c n = go (shift c.x (offset_of n).0) (shift c.y (offset_of n).1)
     where
       marked : (u v : ℕ) (a b : Bool) → nat_lt u g.width ≡ a → nat_lt v g.height ≡ b
           → live_place g.live (place_by g.width (if a then Some u else None) (if b then Some v else None)) ≡ option_map (index g) (if is_live m (site u v) then Some (site u v) else None)
@@ -160,7 +160,7 @@ module _ (m : MapValue) (plane : IsPlane m) where
   pub view_is : (g : GridValue) → IsGridOf m g → (c : Site) (cells : ℕ → CellValue) (view : WindowValue) → IsView m c cells view → ((n : ℕ) (s : Site) → n < 41 → window_site m c n ≡ Some s → (cells n).atom ≡ site_atom g s.x s.y) → view ≡ window_of g c.x c.y
   unfolding window_of
   view_is g of c cells view v same =
-      let a = fill_by_all (λ n. seen g (place_of g c.x c.y n)) view.atoms 41 empty_atom v.valid.atoms (λ n lt. atom n lt (window_site m c n) refl) in
+      let a = fill_by_all (λ n. atom_at_place g (place_of g c.x c.y n)) view.atoms 41 empty_atom v.valid.atoms (λ n lt. atom n lt (window_site m c n) refl) in
       let b = fill_by_all (λ n. is_some (place_of g c.x c.y n)) view.live 41 false v.valid.live (λ n lt. v.live n lt ∙ mark n (window_site m c n) refl) in
       λ i. record { atoms = a i; live = b i }
     where
@@ -168,6 +168,6 @@ module _ (m : MapValue) (plane : IsPlane m) where
       mark n None is = ap is_some is ∙ sym (ap is_some (place_is g of c n ∙ ap (option_map (index g)) is))
       mark n (Some s) is = ap is_some is ∙ sym (ap is_some (place_is g of c n ∙ ap (option_map (index g)) is))
 
-      atom : (n : ℕ) → n < 41 → (o : Option Site) → window_site m c n ≡ o → get_or view.atoms n empty_atom ≡ seen g (place_of g c.x c.y n)
-      atom n lt None is = v.valid.hidden n lt (v.live n lt ∙ ap is_some is) ∙ sym (ap (seen g) (place_is g of c n ∙ ap (option_map (index g)) is))
-      atom n lt (Some s) is = v.atoms n lt (ap is_some is) ∙ (same n s lt is ∙ sym (ap (seen g) (place_is g of c n ∙ ap (option_map (index g)) is)))
+      atom : (n : ℕ) → n < 41 → (o : Option Site) → window_site m c n ≡ o → get_or view.atoms n empty_atom ≡ atom_at_place g (place_of g c.x c.y n)
+      atom n lt None is = v.valid.hidden n lt (v.live n lt ∙ ap is_some is) ∙ sym (ap (atom_at_place g) (place_is g of c n ∙ ap (option_map (index g)) is))
+      atom n lt (Some s) is = v.atoms n lt (ap is_some is) ∙ (same n s lt is ∙ sym (ap (atom_at_place g) (place_is g of c n ∙ ap (option_map (index g)) is)))

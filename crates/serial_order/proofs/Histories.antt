@@ -12,7 +12,7 @@ use Rattle.edge_lock.specs.declared.history.Access.TheVariants.{Read, Write}
 use Rattle.edge_lock.specs.declared.history.Hold.{Hold}
 use Rattle.edge_lock.specs.declared.history.Refusal.{Refusal}
 use Rattle.edge_lock.specs.History as edge
-use Rattle.edge_lock.specs.History.{written, found_value, register_value, trace, own, key, keys, attempts_of, IsRising, IsEnd, IsEdgeHistory}
+use Rattle.edge_lock.specs.History.{last_value, found_value, register_value, trace, own, key, keys, attempts_of, IsRising, IsEnd, IsEdgeHistory}
 use Rattle.edge_lock.specs.EndLists.{writes_nothing}
 use Rattle.edge_lock.proofs.HistoryLaws.{finds, trace-append}
 use Rattle.edge_lock.proofs.LastHolds.{written-append}
@@ -28,7 +28,7 @@ left_in accesses register = last_write accesses register None
 -- the registers after these holds
 abbrev pub values : List Hold → ℕ → ℕ
 values [] k = 0
-values (h ∷ hs) k = written h.accesses k (values hs k)
+values (h ∷ hs) k = last_value h.accesses k (values hs k)
 
 -- the cell of the shared site k in these registers
 abbrev pub cell_at : (ℕ → ℕ) → ℕ → CellValue
@@ -58,17 +58,17 @@ pub record IsPlaced (hs : List Hold) (end attempt holder_attempt : ℕ) : Type 0
   pub after : (g : Hold) → In g older → g.end ≡ end → g.attempt < attempt
   pub before : (g : Hold) → In g newer → g.end ≡ end → attempt < g.attempt
 
-put_from : (xs : List Access) (k v : ℕ) (o : Option ℕ) → written xs k (value_or v o) ≡ value_or v (last_write xs k o)
+put_from : (xs : List Access) (k v : ℕ) (o : Option ℕ) → last_value xs k (value_or v o) ≡ value_or v (last_write xs k o)
 put_from [] k v o = refl
 put_from (Read q x ∷ xs) k v o = put_from xs k v o
 put_from (Write q x ∷ xs) k v o = go (k == q) (put_from xs k v o) (put_from xs k v (Some x))
   where
-    go : (b : Bool) → written xs k (value_or v o) ≡ value_or v (last_write xs k o) → written xs k x ≡ value_or v (last_write xs k (Some x)) → written xs k (if b then x else value_or v o) ≡ value_or v (last_write xs k (if b then Some x else o))
+    go : (b : Bool) → last_value xs k (value_or v o) ≡ value_or v (last_write xs k o) → last_value xs k x ≡ value_or v (last_write xs k (Some x)) → last_value xs k (if b then x else value_or v o) ≡ value_or v (last_write xs k (if b then Some x else o))
     go true e f = f
     go false e f = e
 
 -- a register after a hold: what it left there, or what was there before
-pub put_is : (xs : List Access) (k v : ℕ) → written xs k v ≡ value_or v (left_in xs k)
+pub put_is : (xs : List Access) (k v : ℕ) → last_value xs k v ≡ value_or v (left_in xs k)
 put_is xs k v = put_from xs k v None
 
 pub quiet : (h : Hold) → writes_nothing h.accesses ≡ true → IsQuiet h
@@ -79,8 +79,8 @@ pub values_back : (hs : List Hold) → Snoc hs → (r : ℕ) → values (back hs
 values_back hs empty r = refl
 values_back _ (snoc gs h t) r =
     ap (λ q. values q r) (back_snoc gs h)
-    ∙ ap (written h.accesses r) (values_back gs t r)
-    ∙ sym (ap (λ q. written q r 0) (trace-append gs (h ∷ []) ∙ ap (λ q. trace gs ++ q) (append-nil h.accesses)) ∙ written-append (trace gs) h.accesses r 0)
+    ∙ ap (last_value h.accesses r) (values_back gs t r)
+    ∙ sym (ap (λ q. last_value q r 0) (trace-append gs (h ∷ []) ∙ ap (λ q. trace gs ++ q) (append-nil h.accesses)) ∙ written-append (trace gs) h.accesses r 0)
 
 in_keys : (hs : List Hold) (h : Hold) → In h hs → In (key h) (keys hs)
 in_keys [] h i = absurd i

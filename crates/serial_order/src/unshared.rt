@@ -3,6 +3,7 @@ ghost use Rattle.std.specs.Prelude.{◌≡◌, ◌==◌, ◌+◌, ◌-◌, ◌�
 ghost use Rattle.tile_map.specs.Plane.{tiles_of};
 ghost use Rattle.tile_map.specs.Spans.{is_within};
 ghost use Rattle.serial_order.specs.Outcomes.{IsUnshared};
+ghost use Rattle.window_sites.specs.declared.window.TheConstants.{MOST_COLUMNS};
 
 use tile_map::Map;
 
@@ -20,7 +21,7 @@ pub(crate) struct Unshared {
 /// Of the places of a line of some length that a tile reaches, those that no other tile reaches. At
 /// each border with a neighbour both reach 4 places on either side.
 fn unshared_places(first: u32, end: u32, length: u32) -> (u32, u32)
-    requires small { first ≤ 512 }
+    requires small { first ≤ MOST_COLUMNS }
     requires some { 8 ≤ end }
     ensures from { result.0 ≡ (if first == 0 then 0 else first + 8) }
     ensures to { result.1 ≡ (if end == length then end else end - 8) }

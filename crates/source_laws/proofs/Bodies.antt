@@ -13,11 +13,11 @@ use Rattle.ulam_tree.specs.Raw as raw
 use Rattle.ulam_tree.specs.Resolved as r
 use Rattle.ulam_tree.specs.Typed as t
 use Rattle.ulam_tree.specs.Locals.{locals, part_locals, all_locals}
-use Rattle.ulam_names.specs.Scopes.{Context, Entry, Scope, is_element, inside_local, opened, added, slot_named}
-use Rattle.ulam_names.specs.Walk.{shown, narrowed, locals_of, locals_part, after, after_part}
+use Rattle.ulam_names.specs.Scopes.{Context, Entry, Scope, is_element, inside_local, inner_scope, with_entry, slot_named}
+use Rattle.ulam_names.specs.Walk.{shown_element, branch_scope, locals_of, locals_part, after, after_part}
 use Rattle.ulam_names.specs.Relation as names
 use Rattle.ulam_types.specs.Scopes as scopes
-use Rattle.ulam_types.specs.Rows.{taken}
+use Rattle.ulam_types.specs.Rows.{kind_from}
 use Rattle.ulam_types.specs.Bodies.{atom_slot, atom_slot_by, is_element_type}
 use Rattle.ulam_types.specs.Typing as types
 use Rattle.ulam_types.specs.Typing.{IsTyped, IsTypedStatement, IsTypedPart, IsTypedBody}
@@ -97,14 +97,14 @@ module _ (c : Context) (z : Scene) (stands : Stands c z) where
   atom_seen g (Local i ∷ []) n e = local_seen g i n (slice_get g.slots i) refl e
   atom_seen g steps n e = cc
 
-  narrow_atoms : (g : scopes.Scope) (n : ℕ) (ty : Ty) → AtomsIn g → is_element_type g ty ≡ true → AtomsIn (scopes.narrowed g n ty)
+  narrow_atoms : (g : scopes.Scope) (n : ℕ) (ty : Ty) → AtomsIn g → is_element_type g ty ≡ true → AtomsIn (scopes.scope_as g n ty)
   narrow_atoms g n (y.Class d) atoms e i f = atoms i (atom_kept g.slots n d i f)
   narrow_atoms g n ty atoms e i f = cc
 
-  seen_covers : (s : Scope) (w d : raw.Word) (ty : Ty) (n : ℕ) → slot_named w.name s.entries ≡ Some n → HasSlot z n Atom → Covers c.heads z s.entries → Covers c.heads z (narrowed c.heads s (raw.seen w d) ty).entries
+  seen_covers : (s : Scope) (w d : raw.Word) (ty : Ty) (n : ℕ) → slot_named w.name s.entries ≡ Some n → HasSlot z n Atom → Covers c.heads z s.entries → Covers c.heads z (branch_scope c.heads s (raw.seen w d) ty).entries
   seen_covers s w d ty n local atom cover = go (is_element c.heads ty)
     where
-      go : (b : Bool) → Covers c.heads z (cond b (added (record { name = w.name; slot = None; inside = ty }) s) s).entries
+      go : (b : Bool) → Covers c.heads z (cond b (with_entry (record { name = w.name; slot = None; inside = ty }) s) s).entries
       go true = seen_added c.heads z s (record { name = w.name; slot = None; inside = ty }) n refl local (λ name x e. atom) cover
       go false = cover
 
@@ -112,13 +112,13 @@ module _ (c : Context) (z : Scene) (stands : Stands c z) where
   test_typed g e a h = (k.Int, h.0)
 
   value_typed : (g : scopes.Scope) (ty : Ty) (e : r.Expr) (a : t.Expr) → types.IsValueFor g ty e a → (w : Kind) × IsTyped g w e a
-  value_typed g ty e a h = (taken ty, h.0)
+  value_typed g ty e a h = (kind_from ty, h.0)
 
   -- what an `if` asks, and the scopes of its first branch
   record Asks (s : Scope) (q : raw.Cond) (d : r.Cond) (u : t.Cond) (h : scopes.Scope) : Type 0 where
     named : IsNamedCond z c.own u
     atoms : AtomsIn h
-    cover : Covers c.heads z (narrowed c.heads s q (shown d)).entries
+    cover : Covers c.heads z (branch_scope c.heads s q (shown_element d)).entries
 
   cond_asks : (g h : scopes.Scope) (s : Scope) (q : raw.Cond) (d : r.Cond) (u : t.Cond) → AtomsIn g → Covers c.heads z s.entries → names.IsCond c s.entries q d → types.IsCond g d u h → Asks s q d u h
   cond_asks g h s (raw.seen w v) d u atoms cover n i =
@@ -127,7 +127,7 @@ module _ (c : Context) (z : Scene) (stands : Stands c z) where
       record {
         named = subst (IsNamedCond z c.own) (sym j.3) tt;
         atoms = subst AtomsIn (sym j.4) (narrow_atoms g j.0 n.1.ty atoms j.2);
-        cover = seen_covers s w v (shown d) j.0 (one_local c z stands s.entries w n.0 j.0 n.2 seen.is) (atoms j.0 seen.slot) cover;
+        cover = seen_covers s w v (shown_element d) j.0 (one_local c z stands s.entries w n.0 j.0 n.2 seen.is) (atoms j.0 seen.slot) cover;
       }
   cond_asks g h s (raw.test e) d u atoms cover n i =
       let j : types.IsCond g (r.test n.0) u h = subst (λ (d : r.Cond). types.IsCond g d u h) n.2 i in
@@ -147,10 +147,10 @@ module _ (c : Context) (z : Scene) (stands : Stands c z) where
       let j : types.IsLeftBy g q (Some m.0) a ty = subst (λ (i : Option r.Expr). types.IsLeftBy g q i a ty) m.2 h in
       subst (IsNamedLeft z c.own) (sym j.4) (path_named c z stands es x.path q cover n, expr_named c z stands g k.Int es e m.0 j.0 cover m.1 j.2)
 
-  left_named : (g : scopes.Scope) (es : List Entry) (x : raw.Left) (l : r.Left) (a : t.Left) (ty : Ty) → Covers c.heads z es → names.IsLeft c es x l → types.IsLeft g l a ty → IsNamedLeft z c.own a
-  left_named g es x l a ty cover n h = left_by g es x n.0 x.index n.1 a ty cover n.2 n.3 (subst (λ (l : r.Left). types.IsLeft g l a ty) n.4 h)
+  left_named : (g : scopes.Scope) (es : List Entry) (x : raw.Left) (l : r.Left) (a : t.Left) (ty : Ty) → Covers c.heads z es → names.IsLeftSide c es x l → types.IsLeftSide g l a ty → IsNamedLeft z c.own a
+  left_named g es x l a ty cover n h = left_by g es x n.0 x.index n.1 a ty cover n.2 n.3 (subst (λ (l : r.Left). types.IsLeftSide g l a ty) n.4 h)
 
-  assigned_typed : (g : scopes.Scope) (ty : Ty) (op : Option PairOp) (e : r.Expr) (a : t.Expr) → types.IsAssigned g ty op e a → IsTyped g (taken ty) e a
+  assigned_typed : (g : scopes.Scope) (ty : Ty) (op : Option PairOp) (e : r.Expr) (a : t.Expr) → types.IsAssigned g ty op e a → IsTyped g (kind_from ty) e a
   assigned_typed g ty None e a h = h.0
   assigned_typed g ty (Some op) e a h = h.1
 
@@ -160,7 +160,7 @@ module _ (c : Context) (z : Scene) (stands : Stands c z) where
       subst (IfNamed z c.own) (sym j.1) tt
   result_named g es (Some e) x a cover n h =
       let j : types.IsResult g (Some n.0) a = subst (λ (x : Option r.Expr). types.IsResult g x a) n.2 h in
-      subst (IfNamed z c.own) (sym j.3) (expr_named c z stands g (taken g.result) es e n.0 j.0 cover n.1 j.2.0)
+      subst (IfNamed z c.own) (sym j.3) (expr_named c z stands g (kind_from g.result) es e n.0 j.0 cover n.1 j.2.0)
 
   -- Statements
 
@@ -170,38 +170,38 @@ module _ (c : Context) (z : Scene) (stands : Stands c z) where
     statement_named : (g : scopes.Scope) (s : Scope) (n : ℕ) (x : raw.Statement) (a : r.Statement) (u : t.Statement) → AtomsIn g → Covers c.heads z s.entries → At n (locals a) → names.IsStatement c s n x a → IsTypedStatement g a u → IsNamedStatement z c.own u
     statement_named g s n (raw.block b) a u atoms cover at h i =
         let j : IsTypedStatement g (r.block h.0) u = subst (λ (a : r.Statement). IsTypedStatement g a u) h.2 i in
-        subst (IsNamedStatement z c.own) (sym j.2) (body_named g (opened s) n b h.0 j.0 atoms cover (subst (λ (a : r.Statement). At n (locals a)) h.2 at) h.1 j.1)
+        subst (IsNamedStatement z c.own) (sym j.2) (body_named g (inner_scope s) n b h.0 j.0 atoms cover (subst (λ (a : r.Statement). At n (locals a)) h.2 at) h.1 j.1)
     statement_named g s n raw.empty a u atoms cover at h i =
         let j : IsTypedStatement g r.empty u = subst (λ (a : r.Statement). IsTypedStatement g a u) h i in
         subst (IsNamedStatement z c.own) (sym j) tt
     statement_named g s n (raw.if_so q x v) a u atoms cover at h i =
         let j : IsTypedStatement g (r.if_so h.0 h.1 h.2) u = subst (λ (a : r.Statement). IsTypedStatement g a u) h.6 i in
         let asks = cond_asks g j.1 s q h.0 j.0 atoms cover h.3 j.4 in
-        let inner = opened (narrowed c.heads s q (shown h.0)) in
+        let inner = inner_scope (branch_scope c.heads s q (shown_element h.0)) in
         let at : At n (locals h.1 ++ part_locals h.2) = subst (λ (a : r.Statement). At n (locals a)) h.6 at in
         let long = (statement_fits c stands.typedefs inner n x h.1 h.4).long in
         subst (IsNamedStatement z c.own) (sym j.7) (
           asks.named,
           statement_named j.1 inner n x h.1 j.2 asks.atoms asks.cover (first_at n (locals h.1) (part_locals h.2) at) h.4 j.5,
-          part_named g (opened s) (n + locals_of x) v h.2 j.3 atoms cover (second_at n (locals_of x) (locals h.1) (part_locals h.2) long at) h.5 j.6,
+          part_named g (inner_scope s) (n + locals_of x) v h.2 j.3 atoms cover (second_at n (locals_of x) (locals h.1) (part_locals h.2) long at) h.5 j.6,
         )
     statement_named g s n (raw.while_so e x) a u atoms cover at h i =
         let j : IsTypedStatement g (r.while_so h.0 h.1) u = subst (λ (a : r.Statement). IsTypedStatement g a u) h.4 i in
         let at : At n (locals h.1) = subst (λ (a : r.Statement). At n (locals a)) h.4 at in
-        subst (IsNamedStatement z c.own) (sym j.4) (expr_named c z stands g k.Int s.entries e h.0 j.0 cover h.2 j.2.0, statement_named (scopes.in_loop g) (opened s) n x h.1 j.1 atoms cover at h.3 j.3)
+        subst (IsNamedStatement z c.own) (sym j.4) (expr_named c z stands g k.Int s.entries e h.0 j.0 cover h.2 j.2.0, statement_named (scopes.in_loop g) (inner_scope s) n x h.1 j.1 atoms cover at h.3 j.3)
     statement_named g s n (raw.for_all f e f1 x) a u atoms cover at h i =
         let j : IsTypedStatement g (r.for_all h.0 h.1 h.2 h.3) u = subst (λ (a : r.Statement). IsTypedStatement g a u) h.8 i in
-        let inner = after_part c.heads (opened s) n f h.0 in
+        let inner = after_part c.heads (inner_scope s) n f h.0 in
         let at : At n (part_locals h.0 ++ (part_locals h.2 ++ locals h.3)) = subst (λ (a : r.Statement). At n (locals a)) h.8 at in
         let first = first_at n (part_locals h.0) (part_locals h.2 ++ locals h.3) at in
-        let rest = second_at n (locals_part f) (part_locals h.0) (part_locals h.2 ++ locals h.3) (part_fits c stands.typedefs (opened s) n f h.0 h.4).long at in
-        let within = part_covers (opened s) n f h.0 cover first h.4 in
+        let rest = second_at n (locals_part f) (part_locals h.0) (part_locals h.2 ++ locals h.3) (part_fits c stands.typedefs (inner_scope s) n f h.0 h.4).long at in
+        let within = part_covers (inner_scope s) n f h.0 cover first h.4 in
         let last = second_at (n + locals_part f) (locals_part f1) (part_locals h.2) (locals h.3) (part_fits c stands.typedefs inner (n + locals_part f) f1 h.2 h.6).long rest in
         subst (IsNamedStatement z c.own) (sym j.8) (
-          part_named g (opened s) n f h.0 j.0 atoms cover first h.4 j.4,
+          part_named g (inner_scope s) n f h.0 j.0 atoms cover first h.4 j.4,
           maybe_named c z stands (types.IsTest g) g (test_typed g) inner.entries e h.1 j.1 within h.5 j.5,
           part_named g inner (n + locals_part f) f1 h.2 j.2 atoms within (first_at (n + locals_part f) (part_locals h.2) (locals h.3) rest) h.6 j.6,
-          statement_named (scopes.in_loop g) (opened inner) (n + locals_part f + locals_part f1) x h.3 j.3 atoms within last h.7 j.7,
+          statement_named (scopes.in_loop g) (inner_scope inner) (n + locals_part f + locals_part f1) x h.3 j.3 atoms within last h.7 j.7,
         )
     statement_named g s n (raw.returns p e) a u atoms cover at h i =
         let j : IsTypedStatement g (r.returns p h.0) u = subst (λ (a : r.Statement). IsTypedStatement g a u) h.2 i in
@@ -218,7 +218,7 @@ module _ (c : Context) (z : Scene) (stands : Stands c z) where
         subst (IsNamedStatement z c.own) (sym j.3) (slot_is n h.0.ty at, maybe_named c z stands (types.IsValueFor g h.0.ty) g (value_typed g h.0.ty) s.entries e h.1 j.0 cover h.4 j.2)
     statement_named g s n (raw.assigns l op e) a u atoms cover at h i =
         let j : IsTypedStatement g (r.assigns h.0 op h.1) u = subst (λ (a : r.Statement). IsTypedStatement g a u) h.4 i in
-        subst (IsNamedStatement z c.own) (sym j.5) (left_named g s.entries l h.0 j.0 j.1 cover h.2 j.3, expr_named c z stands g (taken j.1) s.entries e h.1 j.2 cover h.3 (assigned_typed g j.1 op h.1 j.2 j.4))
+        subst (IsNamedStatement z c.own) (sym j.5) (left_named g s.entries l h.0 j.0 j.1 cover h.2 j.3, expr_named c z stands g (kind_from j.1) s.entries e h.1 j.2 cover h.3 (assigned_typed g j.1 op h.1 j.2 j.4))
     statement_named g s n (raw.counts l up) a u atoms cover at h i =
         let j : IsTypedStatement g (r.counts h.0 up) u = subst (λ (a : r.Statement). IsTypedStatement g a u) h.2 i in
         subst (IsNamedStatement z c.own) (sym j.6) (left_named g s.entries l h.0 j.0 j.1 cover h.1 j.3)

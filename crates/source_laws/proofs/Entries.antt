@@ -8,7 +8,7 @@ use Rattle.ulam_tree.specs.declared.resolved.Ty.{Ty}
 use Rattle.ulam_tree.specs.declared.resolved.Ty.TheVariants as y
 use Rattle.ulam_tree.specs.declared.resolved.Step.{Step}
 use Rattle.ulam_tree.specs.Resolved as r
-use Rattle.ulam_names.specs.Scopes.{Text, Head, Entry, Scope, is_named, is_local, slot_named, next_name, inside_local, added}
+use Rattle.ulam_names.specs.Scopes.{Text, Head, Entry, Scope, is_named, is_local, slot_named, next_name, inside_local, with_entry}
 use Rattle.ulam_names.specs.Classes.{param_entries}
 use Rattle.ulam_meaning.specs.Paths.{Scene}
 use Rattle.stack_code.specs.declared.instr.Operand.TheVariants.{Atom}
@@ -66,10 +66,10 @@ module _ (heads : List Head) (z : Scene) where
           (i, found, subst (λ (e : Entry). GoesOn i e.inside) same goes)
       go false is h = back name x h
 
-  pub local_added : (s : Scope) (e : Entry) (i : ℕ) → e.slot ≡ Some i → GoesOn i e.inside → Covers s.entries → Covers (added e s).entries
+  pub local_added : (s : Scope) (e : Entry) (i : ℕ) → e.slot ≡ Some i → GoesOn i e.inside → Covers s.entries → Covers (with_entry e s).entries
   local_added s e i slot goes cover = subst Backward (sym (newest s.entries e)) (local_first (reverse s.entries) e i slot goes cover)
 
-  pub seen_added : (s : Scope) (e : Entry) (i : ℕ) → e.slot ≡ None → slot_named e.name s.entries ≡ Some i → GoesOn i e.inside → Covers s.entries → Covers (added e s).entries
+  pub seen_added : (s : Scope) (e : Entry) (i : ℕ) → e.slot ≡ None → slot_named e.name s.entries ≡ Some i → GoesOn i e.inside → Covers s.entries → Covers (with_entry e s).entries
   seen_added s e i slot local goes cover = subst Backward (sym (newest s.entries e)) (seen_first (reverse s.entries) e i slot local goes cover)
 
   -- a local of this type

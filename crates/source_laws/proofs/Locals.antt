@@ -5,8 +5,9 @@ use Rattle.ulam_tree.specs.declared.resolved.Ty.{Ty}
 use Rattle.ulam_tree.specs.Raw as raw
 use Rattle.ulam_tree.specs.Resolved as r
 use Rattle.ulam_tree.specs.Locals.{locals, part_locals, all_locals}
-use Rattle.ulam_names.specs.Scopes.{Context, Scope, opened, most_locals}
-use Rattle.ulam_names.specs.Walk.{shown, narrowed, locals_of, locals_part, locals_in, after, after_part, constant_in}
+use Rattle.ulam_names.specs.Scopes.{Context, Scope, inner_scope}
+use Rattle.ulam_names.specs.declared.limits.TheConstants.{MOST_LOCALS}
+use Rattle.ulam_names.specs.Walk.{shown_element, branch_scope, locals_of, locals_part, locals_in, after, after_part, constant_in}
 use Rattle.ulam_names.specs.Relation.{IsStatement, IsPart, IsBody}
 use Rattle.code_gen.specs.Named.{AllWide}
 use Rattle.source_laws.proofs.Widths.{Each, FitsNum, type_wide, wide_both}
@@ -15,7 +16,7 @@ module _ (c : Context) (typedefs : Each FitsNum c.typedefs) where
   -- so many locals of these types have slots from n on
   pub record Fit (n : ℕ) (types : List Ty) (count : ℕ) : Type 0 where
     pub long : length types ≡ count
-    pub room : n ≤ c.params + most_locals → n + count ≤ c.params + most_locals
+    pub room : n ≤ c.params + MOST_LOCALS → n + count ≤ c.params + MOST_LOCALS
     pub wide : AllWide types
 
   none : (n : ℕ) → Fit n [] 0
@@ -35,17 +36,17 @@ module _ (c : Context) (typedefs : Each FitsNum c.typedefs) where
     unfolding locals
 
     pub statement_fits : (s : Scope) (n : ℕ) (x : raw.Statement) (a : r.Statement) → IsStatement c s n x a → Fit n (locals a) (locals_of x)
-    statement_fits s n (raw.block b) a h = subst (λ (a : r.Statement). Fit n (locals a) (locals_in b)) (sym h.2) (body_fits (opened s) n b h.0 h.1)
+    statement_fits s n (raw.block b) a h = subst (λ (a : r.Statement). Fit n (locals a) (locals_in b)) (sym h.2) (body_fits (inner_scope s) n b h.0 h.1)
     statement_fits s n raw.empty a h = subst (λ (a : r.Statement). Fit n (locals a) 0) (sym h) (none n)
     statement_fits s n (raw.if_so k f g) a h =
         subst (λ (a : r.Statement). Fit n (locals a) (locals_of f + locals_part g)) (sym h.6)
-        (both_fit n (locals_of f) (locals_part g) (locals h.1) (part_locals h.2) (statement_fits (opened (narrowed c.heads s k (shown h.0))) n f h.1 h.4) (part_fits (opened s) (n + locals_of f) g h.2 h.5))
-    statement_fits s n (raw.while_so k f) a h = subst (λ (a : r.Statement). Fit n (locals a) (locals_of f)) (sym h.4) (statement_fits (opened s) n f h.1 h.3)
+        (both_fit n (locals_of f) (locals_part g) (locals h.1) (part_locals h.2) (statement_fits (inner_scope (branch_scope c.heads s k (shown_element h.0))) n f h.1 h.4) (part_fits (inner_scope s) (n + locals_of f) g h.2 h.5))
+    statement_fits s n (raw.while_so k f) a h = subst (λ (a : r.Statement). Fit n (locals a) (locals_of f)) (sym h.4) (statement_fits (inner_scope s) n f h.1 h.3)
     statement_fits s n (raw.for_all f k g x) a h =
-        let inner = after_part c.heads (opened s) n f h.0 in
+        let inner = after_part c.heads (inner_scope s) n f h.0 in
         subst (λ (a : r.Statement). Fit n (locals a) (locals_part f + locals_part g + locals_of x)) (sym h.8)
         (three_fit n (locals_part f) (locals_part g) (locals_of x) (part_locals h.0) (part_locals h.2) (locals h.3)
-        (part_fits (opened s) n f h.0 h.4) (part_fits inner (n + locals_part f) g h.2 h.6) (statement_fits (opened inner) (n + locals_part f + locals_part g) x h.3 h.7))
+        (part_fits (inner_scope s) n f h.0 h.4) (part_fits inner (n + locals_part f) g h.2 h.6) (statement_fits (inner_scope inner) (n + locals_part f + locals_part g) x h.3 h.7))
     statement_fits s n (raw.returns p e) a h = subst (λ (a : r.Statement). Fit n (locals a) 0) (sym h.2) (none n)
     statement_fits s n (raw.breaks p) a h = subst (λ (a : r.Statement). Fit n (locals a) 0) (sym h) (none n)
     statement_fits s n (raw.continues p) a h = subst (λ (a : r.Statement). Fit n (locals a) 0) (sym h) (none n)

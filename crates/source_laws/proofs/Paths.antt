@@ -11,7 +11,7 @@ use Rattle.ulam_tree.specs.declared.resolved.Built.{Built}
 use Rattle.ulam_tree.specs.Raw as raw
 use Rattle.ulam_tree.specs.Resolved as r
 use Rattle.ulam_names.specs.declared.basic.Value.{Value}
-use Rattle.ulam_names.specs.Scopes.{Text, Head, Context, Entry, beside, number_of, numbered, names_of, function_in, in_class, built_step, of_window, of_random, next_name, last_named, slot_named, in_own_class, first_name}
+use Rattle.ulam_names.specs.Scopes.{Text, Head, Context, Entry, beside, number_of, number_and_entry, names_of, function_in, in_class, built_step, of_window, of_random, next_name, last_named, slot_named, in_own_class, first_name}
 use Rattle.ulam_names.specs.Relation.{AreSteps, IsPathFrom, IsPath}
 use Rattle.ulam_meaning.specs.Programs.{Program, field_at}
 use Rattle.ulam_meaning.specs.Paths.{Scene}
@@ -27,7 +27,7 @@ pub record Stands (c : Context) (z : Scene) : Type 0 where
   pub constants : Each FitsValue c.constants
 
 -- what stands beside a name, by its number
-numbered_at : {A : Type 0} (name : Text) (ps : List (Text × A)) (x : ℕ × A) → numbered name ps ≡ Some x → (p : Text × A) × (slice_get ps x.0 ≡ Some p) × (x.1 ≡ p.1)
+numbered_at : {A : Type 0} (name : Text) (ps : List (Text × A)) (x : ℕ × A) → number_and_entry name ps ≡ Some x → (p : Text × A) × (slice_get ps x.0 ≡ Some p) × (x.1 ≡ p.1)
 numbered_at {A = A} name ps x e = by_number (number_of name (names_of ps)) e
   where
     by_pair : (i : ℕ) (o : Option (Text × A)) → slice_get ps i ≡ o → option_map (λ (p : Text × A). (i, p.1)) o ≡ Some x → (p : Text × A) × (slice_get ps x.0 ≡ Some p) × (x.1 ≡ p.1)
@@ -65,7 +65,7 @@ named_in z k (Local i) ss h = absurd h
 
 module _ (c : Context) (z : Scene) (stands : Stands c z) where
   -- one step further
-  field_leads : (k : ℕ) (h : Head) (name : Text) (x : Step × Ty) (more : List Step) (o : Option (ℕ × Ty)) → slice_get c.heads k ≡ Some h → numbered name h.fields ≡ o →
+  field_leads : (k : ℕ) (h : Head) (name : Text) (x : Step × Ty) (more : List Step) (o : Option (ℕ × Ty)) → slice_get c.heads k ≡ Some h → number_and_entry name h.fields ≡ o →
       option_or (option_map (λ (x : ℕ × Ty). (Member k x.0, x.1)) o) (function_in k h name) ≡ Some x →
       PathIn z.program (class_in x.1) more → (x.1 ≡ y.Nothing → IsLast more) → PathIn z.program (Some k) (x.0 ∷ more)
   field_leads k h name x more (Some m) at f e rest last =
@@ -86,7 +86,7 @@ module _ (c : Context) (z : Scene) (stands : Stands c z) where
     where
       by_head : (o : Option Head) → slice_get c.heads k ≡ o → option_and_then (λ (h : Head). in_class k h name) o ≡ Some x → PathIn z.program (Some k) (x.0 ∷ more)
       by_head None f e = cc
-      by_head (Some h) f e = field_leads k h name x more (numbered name h.fields) f refl e rest last
+      by_head (Some h) f e = field_leads k h name x more (number_and_entry name h.fields) f refl e rest last
 
   built_leads : (o : Option Built) (x : Step × Ty) (more : List Step) → option_map built_step o ≡ Some x → (x.1 ≡ y.Nothing → IsLast more) → PathIn z.program None (x.0 ∷ more)
   built_leads None x more e last = cc

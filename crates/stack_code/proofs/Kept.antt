@@ -7,14 +7,14 @@ use Rattle.datum.specs.Fields.{get_field}
 use Rattle.sat_math.specs.Operations.{of_bool, is_zero}
 use Rattle.bit_field.specs.Atom.{AtomValue, empty_atom}
 use Rattle.bit_field.specs.Words.{with_field}
-use Rattle.window_sites.specs.Window.{WindowValue, atom_at, live_at, put_at, swap_at, emptied}
+use Rattle.window_sites.specs.Window.{WindowValue, atom_at, live_at, put_at, swap_at, without_centre}
 use Rattle.window_sites.proofs.Marks.{set_apart}
 use Rattle.draw_stream.specs.Words.{event_step}
 use Rattle.stack_code.specs.Sorts.{Sort, Give, One, Two, Load, Store, Drop, Field, SetField, Part, SetPart, Own, Site, SetSite, Exchange, Ask, Draw, Same, Double, FieldAt, SetFieldAt, PartAt, SetPartAt, Goto, GotoFalse, Take, Enter, GiveBack, Leave, sort}
 use Rattle.datum.specs.declared.Datum.{Datum}
 use Rattle.datum.specs.declared.Datum.TheVariants.{Number as ANumber, Atom as AnAtom}
 use Rattle.stack_code.specs.declared.instr.Instr.{Instr}
-use Rattle.stack_code.specs.Machine.{CodeValue, FunctionValue, Frame, State, Held, Led, Goes, Fails, Ends, Lacks, now, at_self, own_of, on_own, at_site, at_bound, at_index, result_of, with_part, on_slot, atom_in, on_part, on_top, on_number, on_atom, on_numbers, kept, put_own, put_slot, work, onward, on_turn, on_test, enter, enter_with, into, back, back_one, go_by, step, step_on, and_then, iter}
+use Rattle.stack_code.specs.Machine.{CodeValue, FunctionValue, Frame, State, Held, Led, Goes, Fails, Ends, Lacks, now, at_self, own_of, on_own, at_site, at_bound, at_index, result_of, with_part, on_slot, atom_in, on_part, on_top, on_number, on_atom, on_numbers, kept_bits, put_own, put_slot, work, onward, on_turn, on_test, enter, enter_with, into, back, back_one, go_by, step, step_on, and_then, iter}
 
 -- the live marks stay, and so do the sites that are not live
 pub record Kept (v w : WindowValue) : Type 0 where
@@ -114,9 +114,9 @@ work_kept kind (Load i) h = slot_kept h.window (slice_get h.slots i) (λ x. now 
 work_kept kind (Store i) h = on_top_kept h.window h.stack (λ x s. Goes (record h { stack = s; slots = slice_set h.slots i x })) (λ x s. kept_same h.window)
 work_kept kind Drop h = on_top_kept h.window h.stack (λ x s. now h s) (λ x s. kept_same h.window)
 work_kept kind (Field f t) h = own_kept h.window (own_of kind h.window) (λ a. now h (ANumber (get_field a f t) ∷ h.stack)) (λ a. kept_same h.window)
-work_kept kind (SetField f t) h = on_number_kept h.window h.stack (λ v s. at_self kind h.window (λ a. put_own h s (with_field a f t.width (kept t v)))) (λ v s. own_kept h.window (own_of kind h.window) (λ a. put_own h s (with_field a f t.width (kept t v))) (λ a. kept_put h.window 0 (with_field a f t.width (kept t v))))
+work_kept kind (SetField f t) h = on_number_kept h.window h.stack (λ v s. at_self kind h.window (λ a. put_own h s (with_field a f t.width (kept_bits t v)))) (λ v s. own_kept h.window (own_of kind h.window) (λ a. put_own h s (with_field a f t.width (kept_bits t v))) (λ a. kept_put h.window 0 (with_field a f t.width (kept_bits t v))))
 work_kept kind (Part i f t) h = part_kept h.window (atom_in (slice_get h.slots i)) (λ a. now h (ANumber (get_field a f t) ∷ h.stack)) (λ a. kept_same h.window)
-work_kept kind (SetPart i f t) h = on_number_kept h.window h.stack (λ v s. on_part (atom_in (slice_get h.slots i)) (λ a. put_slot h s i (with_part a f t.width (kept t v)))) (λ v s. part_kept h.window (atom_in (slice_get h.slots i)) (λ a. put_slot h s i (with_part a f t.width (kept t v))) (λ a. kept_same h.window))
+work_kept kind (SetPart i f t) h = on_number_kept h.window h.stack (λ v s. on_part (atom_in (slice_get h.slots i)) (λ a. put_slot h s i (with_part a f t.width (kept_bits t v)))) (λ v s. part_kept h.window (atom_in (slice_get h.slots i)) (λ a. put_slot h s i (with_part a f t.width (kept_bits t v))) (λ a. kept_same h.window))
 work_kept kind Own h = own_kept h.window (own_of kind h.window) (λ a. now h (AnAtom a ∷ h.stack)) (λ a. kept_same h.window)
 work_kept kind Site h = on_number_kept h.window h.stack (λ i s. at_site i (λ n. now h (AnAtom (atom_at h.window n) ∷ s))) (λ i s. site_kept h.window i (λ n. now h (AnAtom (atom_at h.window n) ∷ s)) (λ n. kept_same h.window))
 work_kept kind SetSite h = on_atom_kept h.window h.stack (λ a s. on_number s (λ i s1. at_site i (λ n. Goes (record h { stack = s1; window = put_at h.window n a })))) (λ a s. on_number_kept h.window s (λ i s1. at_site i (λ n. Goes (record h { stack = s1; window = put_at h.window n a }))) (λ i s1. site_kept h.window i (λ n. Goes (record h { stack = s1; window = put_at h.window n a })) (λ n. kept_put h.window n a)))
@@ -126,9 +126,9 @@ work_kept kind (Draw f) h = on_number_kept h.window h.stack (λ b s. at_bound b 
 work_kept kind (Same k) h = on_atom_kept h.window h.stack (λ a s. now h (ANumber (of_bool (nat_eq a.kind k)) ∷ s)) (λ a s. kept_same h.window)
 work_kept kind Double h = on_number_kept h.window h.stack (λ v s. now h (ANumber v ∷ ANumber v ∷ s)) (λ v s. kept_same h.window)
 work_kept kind (FieldAt f t n) h = on_number_kept h.window h.stack (λ i s. at_self kind h.window (λ a. at_index i n (λ j. now h (ANumber (get_field a (f + j * t.width) t) ∷ s)))) (λ i s. own_kept h.window (own_of kind h.window) (λ a. at_index i n (λ j. now h (ANumber (get_field a (f + j * t.width) t) ∷ s))) (λ a. index_kept h.window i n (λ j. now h (ANumber (get_field a (f + j * t.width) t) ∷ s)) (λ j. kept_same h.window)))
-work_kept kind (SetFieldAt f t n) h = on_numbers_kept h.window h.stack (λ i v s. at_self kind h.window (λ a. at_index i n (λ j. put_own h s (with_field a (f + j * t.width) t.width (kept t v))))) (λ i v s. own_kept h.window (own_of kind h.window) (λ a. at_index i n (λ j. put_own h s (with_field a (f + j * t.width) t.width (kept t v)))) (λ a. index_kept h.window i n (λ j. put_own h s (with_field a (f + j * t.width) t.width (kept t v))) (λ j. kept_put h.window 0 (with_field a (f + j * t.width) t.width (kept t v)))))
+work_kept kind (SetFieldAt f t n) h = on_numbers_kept h.window h.stack (λ i v s. at_self kind h.window (λ a. at_index i n (λ j. put_own h s (with_field a (f + j * t.width) t.width (kept_bits t v))))) (λ i v s. own_kept h.window (own_of kind h.window) (λ a. at_index i n (λ j. put_own h s (with_field a (f + j * t.width) t.width (kept_bits t v)))) (λ a. index_kept h.window i n (λ j. put_own h s (with_field a (f + j * t.width) t.width (kept_bits t v))) (λ j. kept_put h.window 0 (with_field a (f + j * t.width) t.width (kept_bits t v)))))
 work_kept kind (PartAt l f t n) h = on_number_kept h.window h.stack (λ i s. on_part (atom_in (slice_get h.slots l)) (λ a. at_index i n (λ j. now h (ANumber (get_field a (f + j * t.width) t) ∷ s)))) (λ i s. part_kept h.window (atom_in (slice_get h.slots l)) (λ a. at_index i n (λ j. now h (ANumber (get_field a (f + j * t.width) t) ∷ s))) (λ a. index_kept h.window i n (λ j. now h (ANumber (get_field a (f + j * t.width) t) ∷ s)) (λ j. kept_same h.window)))
-work_kept kind (SetPartAt l f t n) h = on_numbers_kept h.window h.stack (λ i v s. on_part (atom_in (slice_get h.slots l)) (λ a. at_index i n (λ j. put_slot h s l (with_part a (f + j * t.width) t.width (kept t v))))) (λ i v s. part_kept h.window (atom_in (slice_get h.slots l)) (λ a. at_index i n (λ j. put_slot h s l (with_part a (f + j * t.width) t.width (kept t v)))) (λ a. index_kept h.window i n (λ j. put_slot h s l (with_part a (f + j * t.width) t.width (kept t v))) (λ j. kept_same h.window)))
+work_kept kind (SetPartAt l f t n) h = on_numbers_kept h.window h.stack (λ i v s. on_part (atom_in (slice_get h.slots l)) (λ a. at_index i n (λ j. put_slot h s l (with_part a (f + j * t.width) t.width (kept_bits t v))))) (λ i v s. part_kept h.window (atom_in (slice_get h.slots l)) (λ a. at_index i n (λ j. put_slot h s l (with_part a (f + j * t.width) t.width (kept_bits t v)))) (λ a. index_kept h.window i n (λ j. put_slot h s l (with_part a (f + j * t.width) t.width (kept_bits t v))) (λ j. kept_same h.window)))
 work_kept kind (Goto p) h = tt
 work_kept kind (GotoFalse p) h = tt
 work_kept kind Take h = tt
@@ -210,5 +210,5 @@ iter_kept c zero s = kept_same s.held.window
 iter_kept c (suc n) s = then_kept s.held.window (step c s) (iter c n) (step_kept c s (slice_get c.instrs s.place)) (λ t. iter_kept c n t)
 
 -- a failed event empties the centre, if it is live
-pub emptied_kept : (w : WindowValue) → live_at w 0 ≡ true → Kept w (emptied w)
+pub emptied_kept : (w : WindowValue) → live_at w 0 ≡ true → Kept w (without_centre w)
 emptied_kept w live = record { live = refl; dead = λ n h. set_apart w w.atoms 0 n empty_atom live h }

@@ -3,7 +3,7 @@ use Rattle.std.proofs.Common.{◌≡◌, ℕ, zero, suc, ◌+◌, ◌-◌, ◌<�
 use Rattle.std.specs.Prelude.{slice_get, slice_set, map, is_none}
 use Rattle.stack_code.specs.Valid.{◌>>=◌, Kinds, Notes, note, Exits, arrive, Passing, passing, note_exit, take_exit, pass_place, Around, exits_of, pass}
 use Rattle.stack_code.specs.declared.kind_lists.Node.{Node}
-use Rattle.stack_code.specs.KindLists.{list_at, Grows, noted, notes_of, NotesFit, maybe, exit_of, jump_of, passing_of, PassLeaves}
+use Rattle.stack_code.specs.KindLists.{list_at, Grows, list_of_note, notes_of, NotesFit, maybe, exit_of, jump_of, passing_of, PassLeaves}
 use Rattle.stack_code.specs.declared.instr.Instr.{Instr}
 use Rattle.std.proofs.Math.ListN.{drop_of_length-le}
 use Rattle.std.specs.Option.{option_map}
@@ -16,16 +16,16 @@ set_map f (y ∷ xs) zero x = refl
 set_map f (y ∷ xs) (suc i) x = ap (λ l. f y ∷ l) (set_map f xs i x)
 
 -- what is noted at a place that there is
-noted_at : (lists : List Node) (notes : List ℕ) (p : ℕ) → p < length notes → slice_get (notes_of lists notes) p ≡ Some (noted lists (get_or notes p 0))
-noted_at lists notes p lt = slice_get-map (noted lists) notes p ∙ ap (option_map (noted lists)) (slice_get-get_or notes p 0 lt)
+noted_at : (lists : List Node) (notes : List ℕ) (p : ℕ) → p < length notes → slice_get (notes_of lists notes) p ≡ Some (list_of_note lists (get_or notes p 0))
+noted_at lists notes p lt = slice_get-map (list_of_note lists) notes p ∙ ap (option_map (list_of_note lists)) (slice_get-get_or notes p 0 lt)
 
 pub noted_past : (lists : List Node) (notes : List ℕ) (p : ℕ) → length notes ≤ p → slice_get (notes_of lists notes) p ≡ None
-noted_past lists notes p le = slice_get-map (noted lists) notes p ∙ ap (option_map (noted lists)) (slice_get_past notes p le)
+noted_past lists notes p le = slice_get-map (list_of_note lists) notes p ∙ ap (option_map (list_of_note lists)) (slice_get_past notes p le)
 
 pub noted_none : (lists : List Node) (notes : List ℕ) (p : ℕ) → p < length notes → get_or notes p 0 ≡ 0 → slice_get (notes_of lists notes) p ≡ Some None
-noted_none lists notes p lt h = noted_at lists notes p lt ∙ ap (λ e. Some (noted lists e)) h
+noted_none lists notes p lt h = noted_at lists notes p lt ∙ ap (λ e. Some (list_of_note lists e)) h
 
-noted_some : (lists : List Node) (e : ℕ) → 0 < e → noted lists e ≡ Some (list_at lists (e - 1))
+noted_some : (lists : List Node) (e : ℕ) → 0 < e → list_of_note lists e ≡ Some (list_at lists (e - 1))
 noted_some lists zero h = absurd (omega arith)
 noted_some lists (suc e) h = let s : suc e - 1 ≡ e = omega arith in ap (λ k. Some (list_at lists k)) (sym s)
 
@@ -39,7 +39,7 @@ noted_below lists notes p fit lt h = let a = fit p (get_or notes p 0) (slice_get
 pub notes_set : (lists : List Node) (notes : List ℕ) (p id : ℕ) → notes_of lists (slice_set notes p (id + 1)) ≡ slice_set (notes_of lists notes) p (Some (list_at lists id))
 notes_set lists notes p id =
     let s : id + 1 ≡ suc id = omega arith in
-    set_map (noted lists) notes p (id + 1) ∙ ap (λ e. slice_set (notes_of lists notes) p (noted lists e)) s
+    set_map (list_of_note lists) notes p (id + 1) ∙ ap (λ e. slice_set (notes_of lists notes) p (list_of_note lists e)) s
 
 set_or_old : (xs : List ℕ) (p q x e : ℕ) → slice_get (slice_set xs p x) q ≡ Some e → (e ≡ x) ⊎ (slice_get xs q ≡ Some e)
 set_or_old [] p q x e h = inr h
@@ -59,7 +59,7 @@ notes_grow old new (e ∷ notes) g fit =
     let b = notes_grow old new notes g (λ p x h. fit (suc p) x h) in
     cc
   where
-    one : (old new : List Node) (e : ℕ) → Grows old new → e ≤ length old + 1 → noted new e ≡ noted old e
+    one : (old new : List Node) (e : ℕ) → Grows old new → e ≤ length old + 1 → list_of_note new e ≡ list_of_note old e
     one old new zero g le = refl
     one old new (suc e) g le = ap Some (g.by e (omega arith))
 

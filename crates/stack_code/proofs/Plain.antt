@@ -11,7 +11,7 @@ use Rattle.datum.specs.declared.Datum.{Datum}
 use Rattle.datum.specs.declared.Datum.TheVariants.{Number as ANumber, Atom as AnAtom}
 use Rattle.bit_field.specs.Words.{with_field}
 use Rattle.draw_stream.specs.Words.{event_step}
-use Rattle.stack_code.specs.Machine.{Held, Led, Goes, Fails, Ends, Lacks, now, at_self, at_site, at_bound, at_index, result_of, with_part, on_slot, own_of, on_own, atom_in, on_part, on_top, on_number, on_atom, on_numbers, kept, put_own, put_slot, work}
+use Rattle.stack_code.specs.Machine.{Held, Led, Goes, Fails, Ends, Lacks, now, at_self, at_site, at_bound, at_index, result_of, with_part, on_slot, own_of, on_own, atom_in, on_part, on_top, on_number, on_atom, on_numbers, kept_bits, put_own, put_slot, work}
 use Rattle.stack_code.specs.Valid.{Kinds, same_kind, pop, pop_any, and_pop, push, push_slot, pop_slot, if_atom, after}
 use Rattle.stack_code.specs.declared.instr.Operand.{Operand}
 use Rattle.stack_code.specs.declared.instr.Operand.TheVariants.{Number, Atom}
@@ -145,15 +145,15 @@ work_good kind Drop h ks e =
     on_top_good ks _ h.stack (λ x s. now h s) p.0 ks p.1 (λ x s g g1. (g1, refl))
 work_good kind (Field f t) h ks e = self_good ks _ kind h.window (λ a. now h (ANumber (get_field a f t) ∷ h.stack)) (λ a. (cc, refl))
 work_good kind (SetField f t) h ks e =
-    on_number_good ks _ h.stack (λ v s. at_self kind h.window (λ a. put_own h s (with_field a f t.width (kept t v)))) ks (pop_gives Number (kinds_of h.stack) ks e) (λ v s g.
-    self_good ks _ kind h.window (λ a. put_own h s (with_field a f t.width (kept t v))) (λ a. (g, refl)))
+    on_number_good ks _ h.stack (λ v s. at_self kind h.window (λ a. put_own h s (with_field a f t.width (kept_bits t v)))) ks (pop_gives Number (kinds_of h.stack) ks e) (λ v s g.
+    self_good ks _ kind h.window (λ a. put_own h s (with_field a f t.width (kept_bits t v))) (λ a. (g, refl)))
 work_good kind (Part i f t) h ks e =
     let p = if_atom_gives (slice_get (kinds_of h.slots) i) (Some (Number ∷ kinds_of h.stack)) ks e in
     part_good ks _ h.slots i (λ a. now h (ANumber (get_field a f t) ∷ h.stack)) p.0 (λ a. (same_Some _ _ p.1, refl))
 work_good kind (SetPart i f t) h ks e =
     let p = if_atom_gives (slice_get (kinds_of h.slots) i) (pop Number (kinds_of h.stack)) ks e in
-    on_number_good ks _ h.stack (λ v s. on_part (atom_in (slice_get h.slots i)) (λ a. put_slot h s i (with_part a f t.width (kept t v)))) ks (pop_gives Number (kinds_of h.stack) ks p.1) (λ v s g.
-    part_good ks _ h.slots i (λ a. put_slot h s i (with_part a f t.width (kept t v))) p.0 (λ a. (g, kinds_set h.slots i (AnAtom (with_part a f t.width (kept t v))) p.0)))
+    on_number_good ks _ h.stack (λ v s. on_part (atom_in (slice_get h.slots i)) (λ a. put_slot h s i (with_part a f t.width (kept_bits t v)))) ks (pop_gives Number (kinds_of h.stack) ks p.1) (λ v s g.
+    part_good ks _ h.slots i (λ a. put_slot h s i (with_part a f t.width (kept_bits t v))) p.0 (λ a. (g, kinds_set h.slots i (AnAtom (with_part a f t.width (kept_bits t v))) p.0)))
 work_good kind Own h ks e = self_good ks _ kind h.window (λ a. now h (AnAtom a ∷ h.stack)) (λ a. (cc, refl))
 work_good kind Site h ks e =
     let p = push_gives Atom (pop Number (kinds_of h.stack)) ks e in
@@ -187,9 +187,9 @@ work_good kind (FieldAt f t n) h ks e =
     index_good ks _ i n (λ j. now h (ANumber (get_field a (f + j * t.width) t) ∷ s)) (λ j. (ap (λ l. Number ∷ l) g ∙ p.2, refl))))
 work_good kind (SetFieldAt f t n) h ks e =
     let q = and_pop_gives Number (pop Number (kinds_of h.stack)) ks e in
-    on_numbers_good ks _ h.stack (λ i v s. at_self kind h.window (λ a. at_index i n (λ j. put_own h s (with_field a (f + j * t.width) t.width (kept t v))))) q.0 ks q.1 q.2 (λ i v s g1.
-    self_good ks _ kind h.window (λ a. at_index i n (λ j. put_own h s (with_field a (f + j * t.width) t.width (kept t v)))) (λ a.
-    index_good ks _ i n (λ j. put_own h s (with_field a (f + j * t.width) t.width (kept t v))) (λ j. (g1, refl))))
+    on_numbers_good ks _ h.stack (λ i v s. at_self kind h.window (λ a. at_index i n (λ j. put_own h s (with_field a (f + j * t.width) t.width (kept_bits t v))))) q.0 ks q.1 q.2 (λ i v s g1.
+    self_good ks _ kind h.window (λ a. at_index i n (λ j. put_own h s (with_field a (f + j * t.width) t.width (kept_bits t v)))) (λ a.
+    index_good ks _ i n (λ j. put_own h s (with_field a (f + j * t.width) t.width (kept_bits t v))) (λ j. (g1, refl))))
 work_good kind (PartAt l f t n) h ks e =
     let r = if_atom_gives (slice_get (kinds_of h.slots) l) (push Number (pop Number (kinds_of h.stack))) ks e in
     let p = push_gives Number (pop Number (kinds_of h.stack)) ks r.1 in
@@ -199,9 +199,9 @@ work_good kind (PartAt l f t n) h ks e =
 work_good kind (SetPartAt l f t n) h ks e =
     let r = if_atom_gives (slice_get (kinds_of h.slots) l) (and_pop Number (pop Number (kinds_of h.stack))) ks e in
     let q = and_pop_gives Number (pop Number (kinds_of h.stack)) ks r.1 in
-    on_numbers_good ks _ h.stack (λ i v s. on_part (atom_in (slice_get h.slots l)) (λ a. at_index i n (λ j. put_slot h s l (with_part a (f + j * t.width) t.width (kept t v))))) q.0 ks q.1 q.2 (λ i v s g.
-    part_good ks _ h.slots l (λ a. at_index i n (λ j. put_slot h s l (with_part a (f + j * t.width) t.width (kept t v)))) r.0 (λ a.
-    index_good ks _ i n (λ j. put_slot h s l (with_part a (f + j * t.width) t.width (kept t v))) (λ j. (g, kinds_set h.slots l (AnAtom (with_part a (f + j * t.width) t.width (kept t v))) r.0))))
+    on_numbers_good ks _ h.stack (λ i v s. on_part (atom_in (slice_get h.slots l)) (λ a. at_index i n (λ j. put_slot h s l (with_part a (f + j * t.width) t.width (kept_bits t v))))) q.0 ks q.1 q.2 (λ i v s g.
+    part_good ks _ h.slots l (λ a. at_index i n (λ j. put_slot h s l (with_part a (f + j * t.width) t.width (kept_bits t v)))) r.0 (λ a.
+    index_good ks _ i n (λ j. put_slot h s l (with_part a (f + j * t.width) t.width (kept_bits t v))) (λ j. (g, kinds_set h.slots l (AnAtom (with_part a (f + j * t.width) t.width (kept_bits t v))) r.0))))
 work_good kind (Goto p) h ks e = cc
 work_good kind (GotoFalse p) h ks e = cc
 work_good kind Take h ks e = cc

@@ -27,12 +27,12 @@ pub record Grows (old new : List Node) : Type 0 where
   pub by : (id : ℕ) → id ≤ length old → list_at new id ≡ list_at old id
 
 -- what is noted at a place: 0 for nothing, else one more than the list's number
-abbrev pub noted : List Node → ℕ → Option Kinds
-noted lists zero = None
-noted lists (suc id) = Some (list_at lists id)
+abbrev pub list_of_note : List Node → ℕ → Option Kinds
+list_of_note lists zero = None
+list_of_note lists (suc id) = Some (list_at lists id)
 
 abbrev pub notes_of : List Node → List ℕ → Notes
-notes_of lists notes = map (noted lists) notes
+notes_of lists notes = map (list_of_note lists) notes
 
 -- all lists that are noted exist
 abbrev pub NotesFit : List Node → List ℕ → Type 0

@@ -5,6 +5,7 @@ use Rattle.stack_code.specs.declared.instr.Instr.{Instr}
 use Rattle.stack_code.specs.declared.instr.Instr.TheVariants.{Jump, JumpFalse}
 use Rattle.stack_code.specs.Machine.{FunctionValue, CodeValue, State, Led, Goes, Fails, Ends, Lacks, start, iter, count}
 use Rattle.stack_code.specs.Valid.{end_with}
+use Rattle.feast_base.specs.declared.limits.TheConstants.{MOST_TURNS}
 
 -- a run that came to its end or to a failure, and lacked nothing
 abbrev pub IsOver : Led State → Type 0
@@ -15,8 +16,8 @@ IsOver Lacks = ⊥
 
 -- a run on this window and seed is over within 1,001 times as many instructions as the code has
 pub record RunsWell (c : CodeValue) (w : WindowValue) (seed : ℕ) : Type 0 where
-  pub over : IsOver (iter c (1001 * length c.instrs) (start c w seed))
-  pub few : count c (1001 * length c.instrs) (start c w seed) ≤ 1001 * length c.instrs
+  pub over : IsOver (iter c ((MOST_TURNS + 1) * length c.instrs) (start c w seed))
+  pub few : count c ((MOST_TURNS + 1) * length c.instrs) (start c w seed) ≤ (MOST_TURNS + 1) * length c.instrs
 
 -- the place to which an instruction may jump
 abbrev pub target_of : Instr → Option ℕ

@@ -4,7 +4,7 @@ use Rattle.datum.specs.Fields.{get_field}
 use Rattle.sat_math.specs.Operations.{of_bool, is_zero}
 use Rattle.bit_field.specs.Atom.{AtomValue, empty_atom}
 use Rattle.bit_field.specs.Words.{with_field}
-use Rattle.window_sites.specs.Window.{WindowValue, atom_at, put_at, swap_at, emptied}
+use Rattle.window_sites.specs.Window.{WindowValue, atom_at, put_at, swap_at, without_centre}
 use Rattle.draw_stream.specs.Words.{event_step, event_state}
 use Rattle.sat_math.specs.declared.NumType.{NumType}
 use Rattle.sat_math.specs.Numbers.{bits, cast}
@@ -15,6 +15,7 @@ use Rattle.stack_code.specs.declared.instr.Operand.{Operand}
 use Rattle.stack_code.specs.declared.instr.Operand.TheVariants.{Number, Atom}
 use Rattle.stack_code.specs.declared.instr.Answer.{Answer}
 use Rattle.stack_code.specs.declared.instr.Instr.{Instr}
+use Rattle.feast_base.specs.declared.limits.TheConstants.{MOST_CALLS, MOST_TURNS}
 
 -- a function: its name, the first state bit of the class that it works on, the place of its first instruction, how many of
 -- its slots are parameters, the kinds of its slots, and what it gives back
@@ -128,8 +129,8 @@ at_index (negsuc i) n go = Fails 7
 at_index (pos i) n go = if nat_lt i n then go i else Fails 7
 
 -- the bits that a number is kept in
-abbrev pub kept : NumType → ℤ → ℕ
-kept t v = bits t (cast t v)
+abbrev pub kept_bits : NumType → ℤ → ℕ
+kept_bits t v = bits t (cast t v)
 
 -- another atom at the centre
 abbrev pub put_own : Held → List Datum → AtomValue → Led Held
@@ -148,9 +149,9 @@ work kind (Load i) h = on_slot (slice_get h.slots i) (λ x. now h (x ∷ h.stack
 work kind (Store i) h = on_top h.stack (λ x s. Goes (record h { stack = s; slots = slice_set h.slots i x }))
 work kind Drop h = on_top h.stack (λ x s. now h s)
 work kind (Field f t) h = at_self kind h.window (λ a. now h (ANumber (get_field a f t) ∷ h.stack))
-work kind (SetField f t) h = on_number h.stack (λ v s. at_self kind h.window (λ a. put_own h s (with_field a f t.width (kept t v))))
+work kind (SetField f t) h = on_number h.stack (λ v s. at_self kind h.window (λ a. put_own h s (with_field a f t.width (kept_bits t v))))
 work kind (Part i f t) h = on_part (atom_in (slice_get h.slots i)) (λ a. now h (ANumber (get_field a f t) ∷ h.stack))
-work kind (SetPart i f t) h = on_number h.stack (λ v s. on_part (atom_in (slice_get h.slots i)) (λ a. put_slot h s i (with_part a f t.width (kept t v))))
+work kind (SetPart i f t) h = on_number h.stack (λ v s. on_part (atom_in (slice_get h.slots i)) (λ a. put_slot h s i (with_part a f t.width (kept_bits t v))))
 work kind Own h = at_self kind h.window (λ a. now h (AnAtom a ∷ h.stack))
 work kind Site h = on_number h.stack (λ i s. at_site i (λ n. now h (AnAtom (atom_at h.window n) ∷ s)))
 work kind SetSite h = on_atom h.stack (λ a s. on_number s (λ i s1. at_site i (λ n. Goes (record h { stack = s1; window = put_at h.window n a }))))
@@ -160,9 +161,9 @@ work kind (Draw f) h = on_number h.stack (λ b s. at_bound b (λ n. Goes (record
 work kind (Same k) h = on_atom h.stack (λ a s. now h (ANumber (of_bool (nat_eq a.kind k)) ∷ s))
 work kind Double h = on_number h.stack (λ v s. now h (ANumber v ∷ ANumber v ∷ s))
 work kind (FieldAt f t n) h = on_number h.stack (λ i s. at_self kind h.window (λ a. at_index i n (λ j. now h (ANumber (get_field a (f + j * t.width) t) ∷ s))))
-work kind (SetFieldAt f t n) h = on_numbers h.stack (λ i v s. at_self kind h.window (λ a. at_index i n (λ j. put_own h s (with_field a (f + j * t.width) t.width (kept t v)))))
+work kind (SetFieldAt f t n) h = on_numbers h.stack (λ i v s. at_self kind h.window (λ a. at_index i n (λ j. put_own h s (with_field a (f + j * t.width) t.width (kept_bits t v)))))
 work kind (PartAt l f t n) h = on_number h.stack (λ i s. on_part (atom_in (slice_get h.slots l)) (λ a. at_index i n (λ j. now h (ANumber (get_field a (f + j * t.width) t) ∷ s))))
-work kind (SetPartAt l f t n) h = on_numbers h.stack (λ i v s. on_part (atom_in (slice_get h.slots l)) (λ a. at_index i n (λ j. put_slot h s l (with_part a (f + j * t.width) t.width (kept t v)))))
+work kind (SetPartAt l f t n) h = on_numbers h.stack (λ i v s. on_part (atom_in (slice_get h.slots l)) (λ a. at_index i n (λ j. put_slot h s l (with_part a (f + j * t.width) t.width (kept_bits t v)))))
 work kind (Goto p) h = Lacks
 work kind (GotoFalse p) h = Lacks
 work kind Take h = Lacks
@@ -221,7 +222,7 @@ into s g t = record { place = g.first; held = callee_held g s.held; below = call
 
 -- a call takes a turn, then one of 16 levels
 abbrev pub enter_with : State → FunctionValue → Led State
-enter_with s g = on_turn s.turns (λ t. if nat_lt (length s.below) 16 then Goes (into s g t) else Fails 2)
+enter_with s g = on_turn s.turns (λ t. if nat_lt (length s.below) MOST_CALLS then Goes (into s g t) else Fails 2)
 
 -- a call of a function, if there is one and its arguments are there
 abbrev pub enter : State → Option FunctionValue → Led State
@@ -290,8 +291,8 @@ first_held slots w seed = record { stack = []; slots = map fill slots; window = 
 
 -- the first state of an event: at place 0, with 1,000 turns
 abbrev pub start_with : WindowValue → ℕ → Option FunctionValue → State
-start_with w seed None = record { place = 0; held = first_held [] w seed; below = []; turns = 1000 }
-start_with w seed (Some g) = record { place = 0; held = first_held g.slots w seed; below = []; turns = 1000 }
+start_with w seed None = record { place = 0; held = first_held [] w seed; below = []; turns = MOST_TURNS }
+start_with w seed (Some g) = record { place = 0; held = first_held g.slots w seed; below = []; turns = MOST_TURNS }
 
 -- the same for a code, whose first function begins
 abbrev pub start : CodeValue → WindowValue → ℕ → State
@@ -300,7 +301,7 @@ start c w seed = start_with w seed (slice_get c.functions 0)
 -- the window and the ending, None or a failure's number, of an event that began with this window
 abbrev pub ending : WindowValue → Led State → Option (WindowValue × Option ℕ)
 ending w (Ends w') = Some (w', None)
-ending w (Fails n) = Some (emptied w, Some n)
+ending w (Fails n) = Some (without_centre w, Some n)
 ending w (Goes s) = None
 ending w Lacks = None
 
@@ -312,6 +313,6 @@ pub record Run : Type 0 where
 -- the run of an event's code on a window, with the random words of a seed
 unfoldable pub runs : CodeValue → WindowValue → ℕ → Run
 runs c w seed = record {
-  over = ending w (iter c (1001 * length c.instrs) (start c w seed));
-  count = count c (1001 * length c.instrs) (start c w seed);
+  over = ending w (iter c ((MOST_TURNS + 1) * length c.instrs) (start c w seed));
+  count = count c ((MOST_TURNS + 1) * length c.instrs) (start c w seed);
 }

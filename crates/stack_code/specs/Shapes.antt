@@ -6,7 +6,7 @@ use Rattle.sat_math.specs.declared.Kind.TheVariants.{Bits}
 use Rattle.sat_math.specs.Numbers.{cast}
 use Rattle.sat_math.specs.Operations.{IsSigned, shifted_up, shifted_down, comparison, one_in}
 use Rattle.datum.specs.declared.Datum.TheVariants.{Number as ANumber, Atom as AnAtom}
-use Rattle.stack_code.specs.Sorts.{Sort, Give, One, Two, Load, Store, Drop, Field, SetField, Part, SetPart, Own, Site, SetSite, Exchange, Ask, Same, Draw, Double, FieldAt, SetFieldAt, PartAt, SetPartAt, Goto, GotoFalse, Take, Enter, GiveBack, Leave, num_type, exact, divided, sum, difference, product, negated, on_bits, flip, not_bool}
+use Rattle.stack_code.specs.Sorts.{Sort, Give, One, Two, Load, Store, Drop, Field, SetField, Part, SetPart, Own, Site, SetSite, Exchange, Ask, Same, Draw, Double, FieldAt, SetFieldAt, PartAt, SetPartAt, Goto, GotoFalse, Take, Enter, GiveBack, Leave, num_type, exact, divide, sum, difference, product, negate, on_bits, flip, not_bool}
 use Rattle.stack_code.specs.Valid.{type_fits}
 use Rattle.stack_code.specs.declared.operators.UnaryOp.{UnaryOp}
 use Rattle.stack_code.specs.declared.operators.UnaryOp.TheVariants as unary
@@ -17,7 +17,7 @@ use Rattle.stack_code.specs.declared.shapes.Shape.TheVariants as shape
 
 -- the operators as functions
 abbrev pub unary_of : UnaryOp → ℤ → ℤ
-unary_of (unary.Neg how) = negated how
+unary_of (unary.Neg how) = negate how
 unary_of (unary.Flip w) = flip w
 unary_of (unary.Fit t) = cast t
 unary_of unary.Not = not_bool
@@ -26,8 +26,8 @@ abbrev pub binary_of : BinaryOp → ℤ → ℤ → Option ℤ
 binary_of (binary.Add how) = exact how sum
 binary_of (binary.Sub how) = exact how difference
 binary_of (binary.Mul how) = exact how product
-binary_of (binary.Div how) = divided how int_div
-binary_of (binary.Rem how) = divided how int_rem
+binary_of (binary.Div how) = divide how int_div
+binary_of (binary.Rem how) = divide how int_rem
 binary_of binary.And = on_bits bit_and
 binary_of binary.Or = on_bits bit_or
 binary_of binary.Xor = on_bits bit_xor

@@ -8,7 +8,7 @@ use Rattle.sat_math.specs.declared.Arith.{Arith}
 use Rattle.sat_math.specs.declared.Arith.TheVariants.{Int32, Unsigned32, Int64, Unsigned64}
 use Rattle.sat_math.specs.declared.CompareOp.TheVariants.{Eq as EqOp, Ne as NeOp, Lt as LtOp, Le as LeOp, Gt as GtOp, Ge as GeOp}
 use Rattle.sat_math.specs.Numbers.{cast}
-use Rattle.sat_math.specs.Operations.{saturated, complement, of_bool, is_zero, low64, shifted_up, shifted_down, comparison, one_in}
+use Rattle.sat_math.specs.Operations.{saturate, complement, of_bool, is_zero, low64, shifted_up, shifted_down, comparison, one_in}
 use Rattle.datum.specs.declared.Datum.{Datum}
 use Rattle.datum.specs.declared.Datum.TheVariants.{Number as ANumber, Atom as AnAtom}
 use Rattle.stack_code.specs.declared.instr.Operand.{Operand}
@@ -70,11 +70,11 @@ pub data Sort : Type 0 where
 
 -- an operator that is exact, and then clamped
 abbrev pub exact : Arith → (ℤ → ℤ → ℤ) → ℤ → ℤ → Option ℤ
-exact how f a b = Some (saturated how (f a b))
+exact how f a b = Some (saturate how (f a b))
 
 -- an operator that fails at 0
-abbrev pub divided : Arith → (ℤ → ℤ → ℤ) → ℤ → ℤ → Option ℤ
-divided how f a b = if is_zero b then None else Some (saturated how (f a b))
+abbrev pub divide : Arith → (ℤ → ℤ → ℤ) → ℤ → ℤ → Option ℤ
+divide how f a b = if is_zero b then None else Some (saturate how (f a b))
 
 abbrev pub sum : ℤ → ℤ → ℤ
 sum a b = a +ℤ b
@@ -85,8 +85,8 @@ difference a b = a -ℤ b
 abbrev pub product : ℤ → ℤ → ℤ
 product a b = a *ℤ b
 
-abbrev pub negated : Arith → ℤ → ℤ
-negated how a = saturated how (neg_ℤ a)
+abbrev pub negate : Arith → ℤ → ℤ
+negate how a = saturate how (neg_ℤ a)
 
 abbrev pub on_bits : (ℕ → ℕ → ℕ) → ℤ → ℤ → Option ℤ
 on_bits f a b = Some (pos (f (low64 a) (low64 b)))
@@ -120,14 +120,14 @@ sort (IsKind k) = Same k
 sort AddI = Two (exact Int32 sum)
 sort SubI = Two (exact Int32 difference)
 sort MulI = Two (exact Int32 product)
-sort DivI = Two (divided Int32 int_div)
-sort RemI = Two (divided Int32 int_rem)
+sort DivI = Two (divide Int32 int_div)
+sort RemI = Two (divide Int32 int_rem)
 sort AddU = Two (exact Unsigned32 sum)
 sort SubU = Two (exact Unsigned32 difference)
 sort MulU = Two (exact Unsigned32 product)
-sort DivU = Two (divided Unsigned32 int_div)
-sort RemU = Two (divided Unsigned32 int_rem)
-sort NegI = One (negated Int32)
+sort DivU = Two (divide Unsigned32 int_div)
+sort RemU = Two (divide Unsigned32 int_rem)
+sort NegI = One (negate Int32)
 sort And = Two (on_bits bit_and)
 sort Or = Two (on_bits bit_or)
 sort Xor = Two (on_bits bit_xor)
@@ -151,14 +151,14 @@ sort ReturnVoid = Leave
 sort AddL = Two (exact Int64 sum)
 sort SubL = Two (exact Int64 difference)
 sort MulL = Two (exact Int64 product)
-sort DivL = Two (divided Int64 int_div)
-sort RemL = Two (divided Int64 int_rem)
+sort DivL = Two (divide Int64 int_div)
+sort RemL = Two (divide Int64 int_rem)
 sort AddV = Two (exact Unsigned64 sum)
 sort SubV = Two (exact Unsigned64 difference)
 sort MulV = Two (exact Unsigned64 product)
-sort DivV = Two (divided Unsigned64 int_div)
-sort RemV = Two (divided Unsigned64 int_rem)
-sort NegL = One (negated Int64)
+sort DivV = Two (divide Unsigned64 int_div)
+sort RemV = Two (divide Unsigned64 int_rem)
+sort NegL = One (negate Int64)
 sort Dup = Double
 sort (LoadFieldAt f w k n) = FieldAt f (num_type k w) n
 sort (StoreFieldAt f w k n) = SetFieldAt f (num_type k w) n

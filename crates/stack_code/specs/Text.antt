@@ -9,12 +9,12 @@ use Rattle.stack_code.specs.Machine.{FunctionValue, CodeValue}
 use Rattle.stack_code.specs.Valid.{stretch, end_with}
 
 -- a space and a word
-abbrev pub spaced : List ℕ → List ℕ
-spaced word = codes " " ++ word
+abbrev pub space_and_word : List ℕ → List ℕ
+space_and_word word = codes " " ++ word
 
 -- a space and a number
 abbrev pub number_text : ℕ → List ℕ
-number_text n = spaced (decimal n)
+number_text n = space_and_word (decimal n)
 
 -- the name of a kind of numbers
 abbrev pub kind_name : Kind → List ℕ
@@ -26,7 +26,7 @@ kind_name Unary = codes "Unary"
 
 -- a field: its first bit, its width, its kind
 abbrev pub field_text : ℕ → ℕ → Kind → List ℕ
-field_text f w k = number_text f ++ (number_text w ++ spaced (kind_name k))
+field_text f w k = number_text f ++ (number_text w ++ space_and_word (kind_name k))
 
 -- the name of an instruction
 abbrev pub instr_name : Instr → List ℕ
@@ -98,7 +98,7 @@ instr_name (StorePartAt a b c d e) = codes "StorePartAt"
 
 -- the arguments of an instruction
 abbrev pub args_text : Instr → List ℕ
-args_text (PushNum v) = spaced (signed_decimal v)
+args_text (PushNum v) = space_and_word (signed_decimal v)
 args_text (PushAtom k) = number_text k
 args_text (LoadLocal s) = number_text s
 args_text (StoreLocal s) = number_text s
@@ -109,7 +109,7 @@ args_text (StorePart s f w k) = number_text s ++ field_text f w k
 args_text (IsKind k) = number_text k
 args_text (NotW w) = number_text w
 args_text (Shl w) = number_text w
-args_text (Fit k w) = spaced (kind_name k) ++ number_text w
+args_text (Fit k w) = space_and_word (kind_name k) ++ number_text w
 args_text (Jump p) = number_text p
 args_text (JumpFalse p) = number_text p
 args_text (Call f) = number_text f
@@ -121,7 +121,7 @@ args_text i = []
 
 -- the line of the instruction at place p
 abbrev pub instr_line : ℕ → Instr → List ℕ
-instr_line p i = decimal p ++ (spaced (instr_name i) ++ (args_text i ++ codes "\n"))
+instr_line p i = decimal p ++ (space_and_word (instr_name i) ++ (args_text i ++ codes "\n"))
 
 -- the lines of these instructions, the first of which stands at place p
 abbrev pub instr_lines : ℕ → List Instr → List ℕ
@@ -130,7 +130,7 @@ instr_lines p (i ∷ is) = instr_line p i ++ instr_lines (p + 1) is
 
 -- the line of function k
 abbrev pub function_line : ℕ → FunctionValue → List ℕ
-function_line k f = codes "function" ++ (number_text k ++ (spaced f.name ++ (number_text f.base ++ (number_text (length f.slots) ++ codes "\n"))))
+function_line k f = codes "function" ++ (number_text k ++ (space_and_word f.name ++ (number_text f.base ++ (number_text (length f.slots) ++ codes "\n"))))
 
 -- the instructions of a function that ends before this place
 abbrev pub body_of : CodeValue → FunctionValue → ℕ → List Instr
@@ -147,7 +147,7 @@ function_texts c k (f ∷ fs) = function_text c k f (end_with (length c.instrs) 
 
 -- the line of the element
 abbrev pub element_line : List ℕ → CodeValue → List ℕ
-element_line name c = codes "element" ++ (spaced name ++ (number_text c.kind ++ (number_text (length c.instrs) ++ codes "\n")))
+element_line name c = codes "element" ++ (space_and_word name ++ (number_text c.kind ++ (number_text (length c.instrs) ++ codes "\n")))
 
 -- the text of the code of an element of this name
 abbrev pub code_text : List ℕ → CodeValue → List ℕ

@@ -12,6 +12,8 @@ use Rattle.stack_code.specs.declared.instr.Answer.{Answer}
 use Rattle.stack_code.specs.declared.instr.Answer.TheVariants.{Nothing, Number as NumberBack, Atom as AtomBack}
 use Rattle.stack_code.specs.declared.instr.Instr.{Instr}
 use Rattle.stack_code.specs.declared.instr.Instr.TheVariants.{NotW, Shl, Fit, Turn, Jump}
+use Rattle.bit_field.specs.declared.TheConstants.{STATE_BITS}
+use Rattle.stack_code.specs.declared.limits.TheConstants.{MOST_INSTRS, MOST_OPERANDS, MOST_SLOTS}
 
 infixl 10 ◌>>=◌
 -- what comes next, if there is something to go on with
@@ -132,7 +134,7 @@ after slots Leave ks = None
 
 -- n fields of an allowed type, at least one, lie one after another in an atom's state, from bit f on
 abbrev pub field_fits : ℕ → NumType → ℕ → Bool
-field_fits f t n = type_fits t && nat_le 1 n && nat_le (f + n * t.width) 71
+field_fits f t n = type_fits t && nat_le 1 n && nat_le (f + n * t.width) STATE_BITS
 
 -- a number that an operand can be: from -2^63 to 2^64 - 1
 abbrev pub number_fits : ℤ → Bool
@@ -302,7 +304,7 @@ exits a p so ks = falls_exit (after a.function.slots so ks)
 
 -- the same, if the arguments of the instruction are allowed and there are at most 512 operands
 abbrev pub exits_of : Around → Instr → ℕ → Kinds → Option Exits
-exits_of a i p ks = if args_fit i && nat_le (length ks) 512 then exits a p (sort i) ks else None
+exits_of a i p ks = if args_fit i && nat_le (length ks) MOST_OPERANDS then exits a p (sort i) ks else None
 
 -- The pass
 
@@ -342,7 +344,7 @@ pass a (i ∷ is) p here notes = do
 
 -- a function begins at p, ends later, has no more parameters than slots, and has at most 72 slots
 abbrev pub function_fits : FunctionValue → ℕ → ℕ → Bool
-function_fits g p end = g.first == p && nat_lt p end && nat_le g.params (length g.slots) && nat_le (length g.slots) 72
+function_fits g p end = g.first == p && nat_lt p end && nat_le g.params (length g.slots) && nat_le (length g.slots) MOST_SLOTS
 
 -- the instructions from place p up to the end
 abbrev pub stretch : CodeValue → ℕ → ℕ → List Instr
@@ -373,7 +375,7 @@ first_fits (g ∷ gs) = g.params == 0 && is_nothing g.answer
 
 -- there are 1 to 65,536 instructions
 abbrev pub length_fits : ℕ → Bool
-length_fits n = nat_le 1 n && nat_le n 65536
+length_fits n = nat_le 1 n && nat_le n MOST_INSTRS
 
 -- nothing noted at any place
 abbrev pub no_notes : CodeValue → Notes

@@ -5,6 +5,7 @@ ghost use Rattle.window_sites.specs.Window.{WindowValue};
 ghost use Rattle.stack_code.specs.Laws.{RunsWell, JumpsStay};
 ghost use Rattle.stack_code.specs.Machine.{FunctionValue, CodeValue};
 ghost use Rattle.stack_code.specs.Valid.{valid};
+ghost use Rattle.bit_field.specs.declared.TheConstants.{STATE_BITS};
 
 use crate::instr::{Answer, Instr, Operand};
 use feast_base::Name;
@@ -25,12 +26,13 @@ pub struct RawFunction {
 impl Model for RawFunction {
     ghost use Rattle.std.specs.Prelude.{◌≤◌};
     ghost use Rattle.stack_code.specs.Machine.{FunctionValue};
+    ghost use Rattle.bit_field.specs.declared.TheConstants.{STATE_BITS};
 
     ghost Value = { FunctionValue };
 
     ghost view = { λ f. record { name = f.name; base = f.base; first = f.first; params = f.params; slots = f.slots.items; answer = f.answer } };
 
-    ghost invariant = { λ f. f.base ≤ 71 };
+    ghost invariant = { λ f. f.base ≤ STATE_BITS };
 }
 
 impl RawFunction {
@@ -43,7 +45,7 @@ impl RawFunction {
         slots: Vec<Operand>,
         answer: Answer,
     ) -> RawFunction
-        requires { base ≤ 71 }
+        requires { base ≤ STATE_BITS }
         ensures { result ≡ record { name = name; base = base; first = first; params = params; slots = slots.items; answer = answer } }
     {
         RawFunction {
@@ -66,7 +68,7 @@ impl RawFunction {
     /// The first state bit of the class that the function works on, at most 71.
     pub fn base(&self) -> u32
         ensures value { result ≡ self.now.base }
-        ensures bound { result ≤ 71 }
+        ensures bound { result ≤ STATE_BITS }
     {
         self.base
     }

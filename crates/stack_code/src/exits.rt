@@ -12,10 +12,8 @@ use crate::effects::after;
 use crate::fits::args_fit;
 use crate::instr::{Answer, Instr, Operand};
 use crate::kind_lists::KindLists;
+use crate::limits::MOST_OPERANDS;
 use crate::shapes::Shape;
-
-/// The most operands that there may be at a place.
-const MOST_OPERANDS: u32 = 512;
 
 /// Where a place leads: the list that falls through to the next place, and a jump with its list.
 #[derive(Clone, Copy)]
@@ -279,12 +277,12 @@ fn call(lists: &mut KindLists, callee: &RawFunction, id: u32) -> Option<u32>
         return None;
     }
     let below = takes(lists, callee.slots(), callee.params(), id);
-    answered(lists, callee.answer(), below)
+    with_answer(lists, callee.answer(), below)
 }
 
 /// A list, if there is one, with what a function returns on top.
 #[tactic(auto, using(crate::proofs::KindNotes::grows_same))]
-fn answered(lists: &mut KindLists, answer: Answer, below: Option<u32>) -> Option<u32>
+fn with_answer(lists: &mut KindLists, answer: Answer, below: Option<u32>) -> Option<u32>
     requires id { MaybeFits lists.old.nodes below }
     requires room { 1 ≤ lists.old.room }
     ensures list { Leaves lists.old.nodes lists.new.nodes (map_answer answer (maybe lists.old.nodes below)) result }

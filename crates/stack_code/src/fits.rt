@@ -5,10 +5,8 @@ ghost use Rattle.stack_code.specs.Valid.{args_fit, type_fits, field_fits, number
 ghost use Rattle.sat_math.specs.Numbers.{least_width, greatest_width};
 
 use crate::instr::Instr;
+use bit_field::STATE_BITS;
 use sat_math::{Kind, NumType};
-
-/// The number of bits of an atom's state.
-const STATE_BITS: u32 = 71;
 
 /// The least width of a kind.
 fn least_width(kind: Kind) -> u8

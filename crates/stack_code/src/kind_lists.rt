@@ -1,8 +1,9 @@
 //! Lists of operand kinds that share their lower parts, and the notes at places.
 
-ghost use Rattle.std.specs.Prelude.{◌≡◌, ◌<◌, ◌≤◌, ◌+◌, ◌*◌, [], ◌∷◌, length, IfOk, IfSome, MatchOption, reverse, slice_set, slice_get, vec_len, Some, None, if◌then◌else◌};
+ghost use Rattle.std.specs.Prelude.{◌≡◌, ◌<◌, ◌≤◌, ◌+◌, ◌-◌, ◌*◌, ◌^◌, [], ◌∷◌, length, IfOk, IfSome, MatchOption, reverse, slice_set, slice_get, vec_len, Some, None, if◌then◌else◌};
 ghost use Rattle.stack_code.specs.Valid.{same_kinds, same_kind, pop, and_pop, push, number_for_one, number_for_two, note, arrive};
-ghost use Rattle.stack_code.specs.KindLists.{list_at, IsTree, Grows, Leaves, Changes, noted, notes_of, NotesFit, maybe, MaybeFits, maybe_noted, NotedFits};
+ghost use Rattle.stack_code.specs.KindLists.{list_at, IsTree, Grows, Leaves, Changes, list_of_note, notes_of, NotesFit, maybe, MaybeFits, maybe_noted, NotedFits};
+ghost use Rattle.stack_code.specs.declared.limits.TheConstants.{MOST_INSTRS};
 
 use crate::instr::Operand;
 use feast_base::NoMemory;
@@ -30,21 +31,22 @@ pub struct KindLists {
 }
 
 impl Model for KindLists {
-    ghost use Rattle.std.specs.Prelude.{reverse, ◌-◌, ◌≤◌, vec_len, vec_capacity};
+    ghost use Rattle.std.specs.Prelude.{reverse, ◌-◌, ◌*◌, ◌≤◌, vec_len, vec_capacity};
     ghost use Rattle.stack_code.specs.KindLists.{Lists, IsTree};
+    ghost use Rattle.stack_code.specs.declared.limits.TheConstants.{MOST_INSTRS};
 
     ghost Value = { Lists };
 
     ghost view = { λ l. record { nodes = reverse l.nodes.items; room = vec_capacity l.nodes - vec_len l.nodes } };
 
-    ghost invariant = { λ l. IsTree (reverse l.nodes.items) × (vec_len l.nodes ≤ vec_capacity l.nodes) × (vec_capacity l.nodes ≤ 131072) };
+    ghost invariant = { λ l. IsTree (reverse l.nodes.items) × (vec_len l.nodes ≤ vec_capacity l.nodes) × (vec_capacity l.nodes ≤ 2 * MOST_INSTRS) };
 }
 
 impl KindLists {
     /// Only the empty list, with room for two more for each of so many instructions. `NoMemory` if
     /// there is no memory for them.
     pub fn new(alloc: Global, instrs: usize) -> Result<KindLists, NoMemory>
-        requires { instrs ≤ 65536 }
+        requires { instrs ≤ MOST_INSTRS }
         ensures empty { IfOk result (λ l. l.nodes ≡ []) }
         ensures room { IfOk result (λ l. l.room ≡ 2 * instrs) }
     {
@@ -55,7 +57,7 @@ impl KindLists {
     /// The number of lists, not counting the empty one.
     pub fn len(&self) -> usize
         ensures value { result ≡ length self.now.nodes }
-        ensures most { result ≤ 131072 }
+        ensures most { result ≤ 2 * MOST_INSTRS }
     {
         self.nodes.len()
     }
@@ -209,7 +211,7 @@ impl KindLists {
     /// The note at a place, if there is such a place: 0 for none, otherwise one more than the number
     /// of a list.
     #[tactic(auto, using(crate::proofs::KindNotes::noted_past, crate::proofs::KindNotes::noted_none, crate::proofs::KindNotes::noted_old, crate::proofs::KindNotes::noted_below))]
-    fn noted(&self, notes: &[u32], p: usize) -> Option<Option<u32>>
+    fn note_at(&self, notes: &[u32], p: usize) -> Option<Option<u32>>
         requires { NotesFit self.now.nodes notes.now }
         ensures noted { slice_get (notes_of self.now.nodes notes.now) p ≡ maybe_noted self.now.nodes result }
         ensures fits { NotedFits self.now.nodes result }
@@ -233,7 +235,7 @@ impl KindLists {
         ensures list { maybe self.now.nodes result ≡ arrive (maybe self.now.nodes here) (notes_of self.now.nodes notes.now) p }
         ensures fits { MaybeFits self.now.nodes result }
     {
-        match self.noted(notes, p) {
+        match self.note_at(notes, p) {
             None => None,
             Some(None) => match here {
                 None => Some(0),
@@ -252,12 +254,12 @@ impl KindLists {
     pub fn note(&self, notes: &mut Vec<u32>, p: usize, id: u32) -> bool
         requires notes { NotesFit self.now.nodes notes.old.items }
         requires id { id ≤ length self.now.nodes }
-        requires small { id < 4294967295 }
+        requires small { id < 2 ^ 32 - 1 }
         ensures noted { note (notes_of self.now.nodes notes.old.items) p (list_at self.now.nodes id) ≡ (if result then Some (notes_of self.now.nodes notes.new.items) else None) }
         ensures fits { NotesFit self.now.nodes notes.new.items }
         ensures len { vec_len notes.new ≡ vec_len notes.old }
     {
-        match self.noted(notes.as_slice(), p) {
+        match self.note_at(notes.as_slice(), p) {
             None => false,
             Some(None) => {
                 put_note(notes, p, id + 1);

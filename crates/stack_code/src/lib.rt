@@ -8,6 +8,7 @@ mod exits;
 mod fits;
 mod instr;
 mod kind_lists;
+mod limits;
 mod operators;
 mod pass;
 mod shapes;
@@ -16,6 +17,7 @@ mod verifier;
 
 pub use code::{Code, RawCode, RawFunction};
 pub use instr::{Answer, Instr, Operand};
+pub use limits::{MOST_INSTRS, MOST_OPERANDS, MOST_SLOTS};
 pub use operators::{BinaryOp, UnaryOp};
 pub use text::print;
 pub use verifier::verify;

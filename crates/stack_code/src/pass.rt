@@ -8,9 +8,7 @@ use crate::code::{RawCode, RawFunction};
 use crate::exits::Around;
 use crate::instr::Instr;
 use crate::kind_lists::{KindLists, put_note};
-
-/// The most slots of a function.
-const MOST_SLOTS: usize = 72;
+use crate::limits::MOST_SLOTS;
 
 impl Around<'_> {
     /// One place of the pass: what falls through to the next, or None if the code is not valid.

@@ -3,7 +3,7 @@
 ghost use Rattle.std.specs.Prelude.{◌≡◌, ◌+◌, ◌-◌, ◌++◌, drop, take};
 ghost use Rattle.std.specs.Fmt.{signed_decimal};
 ghost use Rattle.feast_base.specs.Appending.{Appends};
-ghost use Rattle.stack_code.specs.Text.{spaced, number_text, kind_name, field_text, instr_name, args_text, instr_line, instr_lines, function_line, function_text, function_texts, element_line, code_text};
+ghost use Rattle.stack_code.specs.Text.{space_and_word, number_text, kind_name, field_text, instr_name, args_text, instr_line, instr_lines, function_line, function_text, function_texts, element_line, code_text};
 
 use crate::code::{Code, RawCode, RawFunction};
 use crate::instr::Instr;
@@ -101,7 +101,7 @@ fn kind_name(kind: Kind) -> &'static [u8]
 
 /// Appends a space and a word.
 fn push_word(out: &mut Vec<u8>, word: &[u8]) -> Result<(), NoMemory>
-    ensures { Appends out.old.items out.new.items result (spaced word.now) }
+    ensures { Appends out.old.items out.new.items result (space_and_word word.now) }
 {
     push(out, b" ")?;
     push(out, word)
@@ -117,7 +117,7 @@ fn push_count(out: &mut Vec<u8>, n: u64) -> Result<(), NoMemory>
 
 /// Appends a space and a signed number.
 fn push_signed(out: &mut Vec<u8>, n: i128) -> Result<(), NoMemory>
-    ensures { Appends out.old.items out.new.items result (spaced (signed_decimal n)) }
+    ensures { Appends out.old.items out.new.items result (space_and_word (signed_decimal n)) }
 {
     let mut buffer = Buffer::new();
     push_word(out, buffer.format(n).as_bytes())

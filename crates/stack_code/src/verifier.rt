@@ -6,18 +6,20 @@ ghost use Rattle.stack_code.specs.Valid.{valid, first_fits, length_fits};
 use crate::code::{Code, RawCode};
 use crate::exits::gives_nothing;
 use crate::kind_lists::KindLists;
+use crate::limits::MOST_INSTRS;
 use crate::pass::pass_all;
 use feast_base::NoMemory;
 use std::alloc::Global;
-
-/// The most instructions that code may have.
-const MOST_INSTRS: usize = 65_536;
 
 /// Whether code may have this many instructions.
 fn length_fits(n: usize) -> bool
     ensures { result ≡ length_fits n }
 {
-    if n >= 1 { n <= MOST_INSTRS } else { false }
+    if n >= 1 {
+        n <= MOST_INSTRS as usize
+    } else {
+        false
+    }
 }
 
 /// Whether there is a first function, and it has no parameters and returns nothing.

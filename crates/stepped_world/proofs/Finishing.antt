@@ -11,7 +11,7 @@ use Rattle.cell_grid.specs.Grid.{GridValue}
 use Rattle.draw_stream.specs.declared.attempt.Attempt.{Attempt}
 use Rattle.draw_stream.specs.Plans.{PlanValue}
 use Rattle.list_laws.proofs.Members.{In, in_range}
-use Rattle.stepped_world.specs.Machine.{wanted, Hand, Doing, Drawing, Done, Locking, Refreshing, Behaving, Writing, Giving, Backing, TileState, Machine, at, next_draw, next_lock, next_give, next_back, hand_of, draw, lock, next_stamp, step_in, step, steps, steps_of, steps_for, steps_to_end, most_steps, finish_tile, finish, stepped, first_machine}
+use Rattle.stepped_world.specs.Machine.{want_edge, Hand, Doing, Drawing, Done, Locking, Refreshing, Behaving, Writing, Giving, Backing, TileState, Machine, at, next_draw, next_lock, next_give, next_back, hand_of, draw, lock, next_stamp, step_in, step, steps, steps_of, steps_for, steps_to_end, most_steps, finish_tile, finish, stepped, first_machine}
 
 pub at_same : {A : Type 0} (f : ℕ → A) (k : ℕ) (a : A) → at f k a k ≡ a
 at_same f k a = let t : (k == k) ≡ true = grind (arith, nat_tests) in rw t refl
@@ -63,13 +63,13 @@ module _ (m : MapValue) (meaning : WindowValue → ℕ → WindowValue) (t : ℕ
       let k = lock_steps h [] (needs_of m t h.site) in
       omega (arith, ap (most_steps m t) (at_same s.tile t x), ap (steps_to_end m t) now, ap (steps_for m t) is, k)
 
-  lock_less : (s : Machine) (h : Hand) (had : List ℕ) (e : ℕ) (es : List ℕ) (o : Option (ℕ × ℕ)) → (s.tile t).doing ≡ Locking h had e es → Less (lock t (wanted h had e es) o s) s
+  lock_less : (s : Machine) (h : Hand) (had : List ℕ) (e : ℕ) (es : List ℕ) (o : Option (ℕ × ℕ)) → (s.tile t).doing ≡ Locking h had e es → Less (lock t (want_edge h had e es) o s) s
   lock_less s h had e es None now =
       let q = next_lock h (had ++ e ∷ []) es in let k = lock_steps h (had ++ e ∷ []) es in let n = longer had e in
-      goes s (Locking h had e es) q (lock t (wanted h had e es) None s) now (at_same s.tile t (record (s.tile t) { doing = q })) (omega (arith, k, n))
+      goes s (Locking h had e es) q (lock t (want_edge h had e es) None s) now (at_same s.tile t (record (s.tile t) { doing = q })) (omega (arith, k, n))
   lock_less s h had e es (Some p) now =
       let q = next_back had (s.tile t).left in let k = back_steps had (s.tile t).left in
-      goes s (Locking h had e es) q (lock t (wanted h had e es) (Some p) s) now (at_same s.tile t (record (s.tile t) { doing = q })) (omega (arith, k))
+      goes s (Locking h had e es) q (lock t (want_edge h had e es) (Some p) s) now (at_same s.tile t (record (s.tile t) { doing = q })) (omega (arith, k))
 
   fewer_in : (s : Machine) (p : Doing) → (s.tile t).doing ≡ p → (p ≡ Done) ⊎ Less (step_in m meaning t s p) s
   fewer_in s Drawing now = inr (draw_less s (s.tile t).left now refl)
@@ -134,7 +134,7 @@ module _ (m : MapValue) (meaning : WindowValue → ℕ → WindowValue) where
   other_tile u t s Done ne = refl
   other_tile u t s (Locking h had e es) ne = locked (s.edge e).holder
     where
-      locked : (o : Option (ℕ × ℕ)) → (lock u (wanted h had e es) o s).tile t ≡ s.tile t
+      locked : (o : Option (ℕ × ℕ)) → (lock u (want_edge h had e es) o s).tile t ≡ s.tile t
       locked None = at_other s.tile u t _ ne
       locked (Some p) = at_other s.tile u t _ ne
   other_tile u t s (Refreshing h) ne = at_other s.tile u t _ ne

@@ -18,7 +18,7 @@ use Rattle.tile_core.specs.declared.phase.Phase.{Phase}
 use Rattle.tile_core.specs.declared.phase.Phase.TheVariants.{Draw, Lock, Refresh, Behave, Write, Give, Back, Finished, Worn}
 use Rattle.tile_core.specs.Values.{TileWith, TileValue, atoms_of}
 use Rattle.tile_core.specs.Underway.{tile_at, IsUnderway}
-use Rattle.tile_core.specs.Steps.{rules_of, StepsIn, WearsOut, Renews, begun, got, tried, freed, is_over, steps_in}
+use Rattle.tile_core.specs.Steps.{rules_of, StepsIn, WearsOut, Renews, first_phase, tile_with_edge, tile_after_try, tile_after_give, is_over, steps_in}
 use Rattle.tile_core.proofs.Falls.{steps_fall}
 use Rattle.stepped_world.specs.Machine.{Machine, Doing, Done, step, steps, finish_tile, finish}
 use Rattle.stepped_world.specs.Matching.{doing_in, IsEdgeIn, Matches}
@@ -163,11 +163,11 @@ module _ {B : Type 0} (after : B → WindowValue → ℕ → WindowValue) (m : M
     same_left Draw f s = absurd (true≢false f)
     same_left Lock f s = ap (λ (z : TileValue). z.left) s.is ∙ by s.answer
       where
-        got_left : (q : Bool) → (got q x.core).left ≡ x.core.left
+        got_left : (q : Bool) → (tile_with_edge q x.core).left ≡ x.core.left
         got_left true = refl
         got_left false = refl
 
-        by : (r : Take) → (tried m x.core r).left ≡ x.core.left
+        by : (r : Take) → (tile_after_try m x.core r).left ≡ x.core.left
         by Got = got_left (nat_lt (x.core.next + 1) (length x.core.needs))
         by (Busy j) = refl
     same_left Refresh f s = ⊎_elim (λ (w : WearsOut x.core y.core s.top s.between (lists_on c)). ap (λ (z : TileValue). z.left) w.is) (λ (w : Renews x.core y.core s.top s.between (lists_on c)). ap (λ (z : TileValue). z.left) w.is) s.step
@@ -175,21 +175,21 @@ module _ {B : Type 0} (after : B → WindowValue → ℕ → WindowValue) (m : M
     same_left Write f s = ap (λ (z : TileValue). z.left) s.is
     same_left Give f s = ap (λ (z : TileValue). z.left) s.is ∙ by (nat_lt (x.core.next + 1) (length x.core.needs))
       where
-        by : (q : Bool) → (freed q x.core).left ≡ x.core.left
+        by : (q : Bool) → (tile_after_give q x.core).left ≡ x.core.left
         by true = refl
         by false = refl
     same_left Back f s = ap (λ (z : TileValue). z.left) s.is ∙ by (nat_lt (x.core.next + 1) x.core.count)
       where
-        by : (q : Bool) → (freed q x.core).left ≡ x.core.left
+        by : (q : Bool) → (tile_after_give q x.core).left ≡ x.core.left
         by true = refl
         by false = refl
     same_left Finished f s = absurd (true≢false f)
     same_left Worn f s = absurd (true≢false f)
 
-    begun_steps : (z : TileValue) (needs : List ℕ) → z.needs ≡ needs → z.phase ≡ begun needs → length needs ≤ 8 → steps_in z z.phase ≤ 48
+    begun_steps : (z : TileValue) (needs : List ℕ) → z.needs ≡ needs → z.phase ≡ first_phase needs → length needs ≤ 8 → steps_in z z.phase ≤ 48
     begun_steps z needs same is few = subst (λ p. steps_in z p ≤ 48) (sym is) (go needs same few)
       where
-        go : (es : List ℕ) → z.needs ≡ es → length es ≤ 8 → steps_in z (begun es) ≤ 48
+        go : (es : List ℕ) → z.needs ≡ es → length es ≤ 8 → steps_in z (first_phase es) ≤ 48
         go [] e le = omega arith
         go (d ∷ es) e le = omega (arith, ap length e, le)
 
@@ -213,7 +213,7 @@ module _ {B : Type 0} (after : B → WindowValue → ℕ → WindowValue) (m : M
             let n = s.0 in
             let few : length y.core.needs ≤ 8 = (d.on (atoms_of g.start) (attempts g.plan t) before).0.needs.few in
             let needs : y.core.needs ≡ needs_of m x.core.number (site y.core.x y.core.y) = ap (λ (z : TileValue). z.needs) n.begins.is in
-            let phase : y.core.phase ≡ begun (needs_of m x.core.number (site y.core.x y.core.y)) = ap (λ (z : TileValue). z.phase) n.begins.is in
+            let phase : y.core.phase ≡ first_phase (needs_of m x.core.number (site y.core.x y.core.y)) = ap (λ (z : TileValue). z.phase) n.begins.is in
             let left : length x.core.left ≡ suc (length y.core.left) = ap length n.first ∙ sym (ap (λ (z : TileValue). suc (length z.left)) n.begins.is) in
             let small = begun_steps y.core (needs_of m x.core.number (site y.core.x y.core.y)) needs phase (subst (λ es. length es ≤ 8) needs few) in
             omega (arith, left, small)

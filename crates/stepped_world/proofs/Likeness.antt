@@ -16,7 +16,7 @@ use Rattle.edge_lock.specs.declared.history.Access.{Access}
 use Rattle.edge_lock.specs.declared.history.Hold.{Hold}
 use Rattle.edge_lock.specs.declared.board.Take.{Take}
 use Rattle.edge_lock.specs.declared.board.Take.TheVariants.{Got, Busy}
-use Rattle.edge_lock.specs.History.{own, register_value, written, open_hold, IsHistory}
+use Rattle.edge_lock.specs.History.{own, register_value, last_value, open_hold, IsHistory}
 use Rattle.edge_lock.specs.EndLists.{EndLists, change_last, closed_hold, new_hold, writes_nothing, last_accesses, after_try, after_give, replace_at, hold_of, IsHeld}
 use Rattle.edge_lock.specs.PlainEdges.{PlainEdgeValue, view_of, IsKept, IsAnswer}
 use Rattle.edge_lock.specs.PlainBoard.{PlainBoardValue, edge_at, end_of, is_end, end_on, lists_on, lists_of_tile}
@@ -31,12 +31,12 @@ use Rattle.tile_core.specs.declared.phase.Phase.TheVariants.{Draw, Lock, Refresh
 use Rattle.tile_core.specs.Values.{tile_with, TileWith, TileValue, centre, atoms_of}
 use Rattle.tile_core.specs.Turns.{greatest, clock_in, one_if, lists_of}
 use Rattle.tile_core.specs.Underway.{tile_at, IsUnderway, InPhase}
-use Rattle.tile_core.specs.Steps.{rules_of, StepsIn, Draws, Tries, Refreshes, WearsOut, Renews, Behaves, Writes, Frees, Rests, begun, next_edge, refused, got, freed, noted, refreshed, event_entry, refused_entry}
+use Rattle.tile_core.specs.Steps.{rules_of, StepsIn, Draws, Tries, Refreshes, WearsOut, Renews, Behaves, Writes, Frees, Rests, first_phase, next_edge, tile_after_refusal, tile_with_edge, tile_after_give, tile_after_event, tile_after_refresh, event_entry, refused_entry}
 use Rattle.tile_core.proofs.Boards.{end_known, edge_end}
 use Rattle.tile_core.proofs.Laws.{lock_lt, lock_free, give_lt, give_held, back_lt, back_held}
 use Rattle.tile_core.proofs.Refreshing.{open_held}
 use Rattle.tile_core.proofs.Clocking.{greatest_same}
-use Rattle.stepped_world.specs.Machine.{wanted, Hand, Doing, Drawing, Locking, Behaving, Writing, Giving, Backing, TileState, EdgeState, Machine, at, next_lock, next_give, next_back, does, is_held_by, record_of, entry_of, drawn, draw, lock, next_stamp, stamped, write, step_in, step}
+use Rattle.stepped_world.specs.Machine.{want_edge, Hand, Doing, Drawing, Locking, Behaving, Writing, Giving, Backing, TileState, EdgeState, Machine, at, next_lock, next_give, next_back, does, is_held_by, record_of, entry_of, tile_after_draw, draw, lock, next_stamp, stamp_edges, write, step_in, step}
 use Rattle.stepped_world.specs.Matching.{hand_in, doing_in, IsTileIn, who, IsEdgeIn, Matches}
 use Rattle.serial_order.specs.Scene.{on_map, common_in}
 use Rattle.event_journal.specs.Serial.{Course}
@@ -131,9 +131,9 @@ module _ {B : Type 0} (after : B → WindowValue → ℕ → WindowValue) (m : M
 
   -- Draw
   abbrev drew_tile : Draws m x.core y.core → TileValue
-  drew_tile d = record x.core { left = d.rest; taken = x.core.taken + 1; x = y.core.x; y = y.core.y; seed = d.attempt.seed; needs = needs_of m x.core.number (site y.core.x y.core.y); next = 0; phase = begun (needs_of m x.core.number (site y.core.x y.core.y)) }
+  drew_tile d = record x.core { left = d.rest; taken = x.core.taken + 1; x = y.core.x; y = y.core.y; seed = d.attempt.seed; needs = needs_of m x.core.number (site y.core.x y.core.y); next = 0; phase = first_phase (needs_of m x.core.number (site y.core.x y.core.y)) }
 
-  drew_state : (d : Draws m x.core y.core) → IsTileIn (drew_tile d) (drawn m t d.attempt d.rest (s.tile t))
+  drew_state : (d : Draws m x.core y.core) → IsTileIn (drew_tile d) (tile_after_draw m t d.attempt d.rest (s.tile t))
   drew_state d =
       let centre_now : site y.core.x y.core.y ≡ site_in m t d.attempt.centre = d.begins.site_is ∙ ap (λ n. site_in m n d.attempt.centre) tile.number in
       let number : x.core.taken + 1 - 1 ≡ (s.tile t).taken = (let q = mine.taken in omega (arith, q)) in record {
@@ -148,7 +148,7 @@ module _ {B : Type 0} (after : B → WindowValue → ℕ → WindowValue) (m : M
   drew d lists =
       let left : d.attempt ∷ d.rest ≡ (s.tile t).left = sym d.first ∙ mine.left in
       subst (λ (p : TileValue × List Attempt). Aim p.0 (draw m t p.1 s)) (λ i. (sym d.begins.is i, left i))
-      (goes_on (drew_tile d) (draw m t (d.attempt ∷ d.rest) s) (drawn m t d.attempt d.rest (s.tile t)) refl (drew_state d) (k.records t x is) (k.abandoned t x is) (λ v ne. refl) (λ v ne. refl) (all_quiet (draw m t (d.attempt ∷ d.rest) s) refl lists))
+      (goes_on (drew_tile d) (draw m t (d.attempt ∷ d.rest) s) (tile_after_draw m t d.attempt d.rest (s.tile t)) refl (drew_state d) (k.records t x is) (k.abandoned t x is) (λ v ne. refl) (λ v ne. refl) (all_quiet (draw m t (d.attempt ∷ d.rest) s) refl lists))
 
   -- the edge that is tried or freed next
   abbrev e : ℕ
@@ -186,7 +186,7 @@ module _ {B : Type 0} (after : B → WindowValue → ℕ → WindowValue) (m : M
     answered r lists = answer_means b c a.moved e (x.core.taken - 1) r (kept e own_edge.1) (lock_free m g.meaning (atoms_of g.start) (attempts g.plan t) x.core (lists_on b) under now)
         (ap (λ (f : ℕ → EndLists). f e) lists ∙ replace_at-here (lists_on b) e (after_try (end_on b e) (x.core.taken - 1) r (lists_on b e)))
 
-    got_it : lists_on c ≡ replace_at (lists_on b) e (after_try (end_on b e) (x.core.taken - 1) Got (lists_on b e)) → Aim (got (nat_lt (x.core.next + 1) (length x.core.needs)) x.core) (step_in m g.meaning t s (Locking (hand_in x.core) had e rest))
+    got_it : lists_on c ≡ replace_at (lists_on b) e (after_try (end_on b e) (x.core.taken - 1) Got (lists_on b e)) → Aim (tile_with_edge (nat_lt (x.core.next + 1) (length x.core.needs)) x.core) (step_in m g.meaning t s (Locking (hand_in x.core) had e rest))
     got_it lists =
         let free : open_hold (edge_at b e).holds ≡ None = answered Got lists in
         let none : None ≡ (s.edge e).holder = sym (ap (who m e) free) ∙ (k.edges e own_edge.1).holder in
@@ -195,14 +195,14 @@ module _ {B : Type 0} (after : B → WindowValue → ℕ → WindowValue) (m : M
         let holds = free_more b c a.moved e (new_hold (end_on b e) (x.core.taken - 1) ∷ []) (lock_free m g.meaning (atoms_of g.start) (attempts g.plan t) x.core (lists_on b) under now) more in
         let state : EdgeState = record (s.edge e) { holder = Some (t, x.core.taken - 1) } in
         let here = got_edge m e (end_on b e) (x.core.taken - 1) t (edge_at b e).holds (edge_at c e).holds (s.edge e) holds (ap (λ n. if n == 0 then low_end m e else high_end m e) (mine_end e own_edge.1) ∙ own_tile m t e own_edge.0) (k.edges e own_edge.1) in
-        subst (λ o. Aim (got (nat_lt (x.core.next + 1) (length x.core.needs)) x.core) (lock t (wanted (hand_in x.core) had e rest) o s)) none
+        subst (λ o. Aim (tile_with_edge (nat_lt (x.core.next + 1) (length x.core.needs)) x.core) (lock t (want_edge (hand_in x.core) had e rest) o s)) none
         (got_by (nat_lt (x.core.next + 1) (length x.core.needs)) refl (one_edge l state lists here))
       where
-        got_by : (d : Bool) → nat_lt (x.core.next + 1) (length x.core.needs) ≡ d → ((d : ℕ) → d < length (pairs_of m) → IsEdgeIn m d (edge_at c d).holds (at s.edge e (record (s.edge e) { holder = Some (t, x.core.taken - 1) }) d)) → Aim (got d x.core) (lock t (wanted (hand_in x.core) had e rest) None s)
-        got_by true q edges = alone (got true x.core) (lock t (wanted (hand_in x.core) had e rest) None s) (next_lock (hand_in x.core) (had ++ e ∷ []) rest) refl refl refl (got_doing x.core now lt true q) refl refl refl refl refl edges
-        got_by false q edges = alone (got false x.core) (lock t (wanted (hand_in x.core) had e rest) None s) (next_lock (hand_in x.core) (had ++ e ∷ []) rest) refl refl refl (got_doing x.core now lt false q) refl refl refl refl refl edges
+        got_by : (d : Bool) → nat_lt (x.core.next + 1) (length x.core.needs) ≡ d → ((d : ℕ) → d < length (pairs_of m) → IsEdgeIn m d (edge_at c d).holds (at s.edge e (record (s.edge e) { holder = Some (t, x.core.taken - 1) }) d)) → Aim (tile_with_edge d x.core) (lock t (want_edge (hand_in x.core) had e rest) None s)
+        got_by true q edges = alone (tile_with_edge true x.core) (lock t (want_edge (hand_in x.core) had e rest) None s) (next_lock (hand_in x.core) (had ++ e ∷ []) rest) refl refl refl (got_doing x.core now lt true q) refl refl refl refl refl edges
+        got_by false q edges = alone (tile_with_edge false x.core) (lock t (want_edge (hand_in x.core) had e rest) None s) (next_lock (hand_in x.core) (had ++ e ∷ []) rest) refl refl refl (got_doing x.core now lt false q) refl refl refl refl refl edges
 
-    busy_it : (j : ℕ) → lists_on c ≡ replace_at (lists_on b) e (after_try (end_on b e) (x.core.taken - 1) (Busy j) (lists_on b e)) → Aim (refused m x.core e j) (step_in m g.meaning t s (Locking (hand_in x.core) had e rest))
+    busy_it : (j : ℕ) → lists_on c ≡ replace_at (lists_on b) e (after_try (end_on b e) (x.core.taken - 1) (Busy j) (lists_on b e)) → Aim (tile_after_refusal m x.core e j) (step_in m g.meaning t s (Locking (hand_in x.core) had e rest))
     busy_it j lists =
         let o = answered (Busy j) lists in
         let far : (if o.0.end == 0 then low_end m e else high_end m e) ≡ other_end m t e = far_tile m t e o.0.end (o.2 ∙ ap (λ n. 1 - n) (mine_end e own_edge.1)) in
@@ -211,9 +211,9 @@ module _ {B : Type 0} (after : B → WindowValue → ℕ → WindowValue) (m : M
         let entry = entry_of t (hand_in x.core) e (other_end m t e, j) in
         let same : refused_entry m x.core e j ≡ entry = (λ i. record { tile = tile.number i; attempt = x.core.taken - 1; x = x.core.x; y = x.core.y; edge = e; holder = other_end m (tile.number i) e; holder_attempt = j }) in
         let back = next_back had (s.tile t).left in
-        subst (λ h. Aim (refused m x.core e j) (lock t (wanted (hand_in x.core) had e rest) h s)) some
-        (goes_on (refused m x.core e j) (lock t (wanted (hand_in x.core) had e rest) (Some (other_end m t e, j)) s) (record (s.tile t) { doing = back }) refl
-        (record { doing = refused_doing (refused m x.core e j) x.core.next ∙ ap (λ z. Some (next_back had z)) mine.left; left = mine.left; taken = mine.taken; clock = mine.clock })
+        subst (λ h. Aim (tile_after_refusal m x.core e j) (lock t (want_edge (hand_in x.core) had e rest) h s)) some
+        (goes_on (tile_after_refusal m x.core e j) (lock t (want_edge (hand_in x.core) had e rest) (Some (other_end m t e, j)) s) (record (s.tile t) { doing = back }) refl
+        (record { doing = refused_doing (tile_after_refusal m x.core e j) x.core.next ∙ ap (λ z. Some (next_back had z)) mine.left; left = mine.left; taken = mine.taken; clock = mine.clock })
         (k.records t x is)
         ((λ i. k.abandoned t x is i ++ same i ∷ []) ∙ sym (filter_more (λ (q : Abandoned). q.tile == t) s.abandoned entry (same_tile t t refl)))
         (λ v ne. refl) (λ v ne. no_entry v entry refl ne)
@@ -228,7 +228,7 @@ module _ {B : Type 0} (after : B → WindowValue → ℕ → WindowValue) (m : M
     tried_by : Tries m (end_on b) (tile_at x.core (lists_on b)) (tile_at y.core (lists_on c)) → Aim y.core (step_in m g.meaning t s (Locking (hand_in x.core) had e rest))
     tried_by d = by d.answer d.lists_are d.is
       where
-        by : (r : Take) → lists_on c ≡ replace_at (lists_on b) e (after_try (end_on b e) (x.core.taken - 1) r (lists_on b e)) → y.core ≡ Rattle.tile_core.specs.Steps.tried m x.core r → Aim y.core (step_in m g.meaning t s (Locking (hand_in x.core) had e rest))
+        by : (r : Take) → lists_on c ≡ replace_at (lists_on b) e (after_try (end_on b e) (x.core.taken - 1) r (lists_on b e)) → y.core ≡ Rattle.tile_core.specs.Steps.tile_after_try m x.core r → Aim y.core (step_in m g.meaning t s (Locking (hand_in x.core) had e rest))
         by Got lists q = subst (λ w. Aim w (step_in m g.meaning t s (Locking (hand_in x.core) had e rest))) (sym q) (got_it lists)
         by (Busy j) lists q = subst (λ w. Aim w (step_in m g.meaning t s (Locking (hand_in x.core) had e rest))) (sym q) (busy_it j lists)
 
@@ -240,8 +240,8 @@ module _ {B : Type 0} (after : B → WindowValue → ℕ → WindowValue) (m : M
   added first second d o q = held_turns b c a.moved d o (λ h. with_all second (with_all first h)) (q ∙ all_twice first second (lists_on b d).holds)
 
   -- what the open hold wrote, and then more
-  written_more : (xs first second : List Access) (v : ℕ) → written ((xs ++ first) ++ second) 0 v ≡ written second 0 (written first 0 (written xs 0 v))
-  written_more xs first second v = written-append (xs ++ first) second 0 v ∙ ap (written second 0) (written-append xs first 0 v)
+  written_more : (xs first second : List Access) (v : ℕ) → last_value ((xs ++ first) ++ second) 0 v ≡ last_value second 0 (last_value first 0 (last_value xs 0 v))
+  written_more xs first second v = written-append (xs ++ first) second 0 v ∙ ap (last_value second 0) (written-append xs first 0 v)
 
   -- an edge of the tile's that is not needed has no access more
   none_more : (first second : ℕ → List Access) (mid : ℕ → EndLists) (d : ℕ) → mid d ≡ after_all (first d) (lists_on b d) → lists_on c d ≡ after_all (second d) (mid d) → first d ≡ [] → second d ≡ [] → (lists_on c d).holds ≡ (lists_on b d).holds
@@ -270,7 +270,7 @@ module _ {B : Type 0} (after : B → WindowValue → ℕ → WindowValue) (m : M
             let two : writes_nothing (w.cells.more d) ≡ true = (w.cells.reads d h).silent in
             let holds = added (r.clocks.more d) (w.cells.more d) d o (twice r.clocks.more w.cells.more r.between d (r.clocks.adds.lists d) (w.cells.adds.lists d)) in
             let i = k.edges d lt in
-            let clock : written ((o.hold.accesses ++ r.clocks.more d) ++ w.cells.more d) 0 (register_value o.past 0) ≡ (s.edge d).clock =
+            let clock : last_value ((o.hold.accesses ++ r.clocks.more d) ++ w.cells.more d) 0 (register_value o.past 0) ≡ (s.edge d).clock =
             written_more o.hold.accesses (r.clocks.more d) (w.cells.more d) (register_value o.past 0)
             ∙ (quiet (w.cells.more d) 0 _ two ∙ (quiet (r.clocks.more d) 0 _ one ∙ (sym (value_snoc o.past o.hold 0) ∙ (ap (λ hs. register_value hs 0) (sym o.holds) ∙ i.clock)))) in
             turned_edge m d (s.edge d).clock o.past o.hold (with_all (w.cells.more d) (with_all (r.clocks.more d) o.hold)) (edge_at b d).holds (edge_at c d).holds (s.edge d) o.holds holds o.is_open refl refl refl clock i
@@ -282,7 +282,7 @@ module _ {B : Type 0} (after : B → WindowValue → ℕ → WindowValue) (m : M
         (λ (w : Renews x.core y.core r.top r.between (lists_on c)). inl
         (subst (λ q. Aim y.core (step_in m g.meaning t s q)) (same_Some _ _ (doing_now Refresh now))
         (subst (λ z. Aim z (does t (Behaving (hand_in x.core)) s)) (sym w.is)
-        (alone (refreshed x.core r.top y.core.cache) (does t (Behaving (hand_in x.core)) s) (Behaving (hand_in x.core)) refl refl refl refl refl refl refl refl refl (renewed_edges r w)))))
+        (alone (tile_after_refresh x.core r.top y.core.cache) (does t (Behaving (hand_in x.core)) s) (Behaving (hand_in x.core)) refl refl refl refl refl refl refl refl refl (renewed_edges r w)))))
         r.step
 
   -- Behave
@@ -326,7 +326,7 @@ module _ {B : Type 0} (after : B → WindowValue → ℕ → WindowValue) (m : M
     stamp_is = writing.1.3.stamp ∙ ap (λ n. 1 + n)
         (greatest_same _ _ _ x.core.needs clock_is ∙ (λ i. greatest ((sym under.stamp ∙ mine.clock) i) (λ e. (s.edge e).clock) (needs_are i)))
 
-    written_edges : (w : Writes m (tile_at x.core (lists_on b)) (tile_at y.core (lists_on c))) (d : ℕ) → d < length (pairs_of m) → IsEdgeIn m d (edge_at c d).holds (stamped x.core.needs x.core.event_stamp s.edge d)
+    written_edges : (w : Writes m (tile_at x.core (lists_on b)) (tile_at y.core (lists_on c))) (d : ℕ) → d < length (pairs_of m) → IsEdgeIn m d (edge_at c d).holds (stamp_edges x.core.needs x.core.event_stamp s.edge d)
     written_edges w d lt = go (has d x.core.needs) refl
       where
         go : (h : Bool) → has d x.core.needs ≡ h → IsEdgeIn m d (edge_at c d).holds (if h then record (s.edge d) { clock = x.core.event_stamp } else s.edge d)
@@ -334,14 +334,14 @@ module _ {B : Type 0} (after : B → WindowValue → ℕ → WindowValue) (m : M
         go true h =
             let o = open_at b d (kept d lt) (held_here d h) in
             let holds = added (w.publishes.more d) (w.stamps.more d) d o (twice w.publishes.more w.stamps.more w.between d (w.publishes.adds.lists d) (w.stamps.adds.lists d)) in
-            let clock : written ((o.hold.accesses ++ w.publishes.more d) ++ w.stamps.more d) 0 (register_value o.past 0) ≡ x.core.event_stamp =
-            written_more o.hold.accesses (w.publishes.more d) (w.stamps.more d) (register_value o.past 0) ∙ ap (λ xs. written xs 0 (written (w.publishes.more d) 0 (written o.hold.accesses 0 (register_value o.past 0)))) (w.stamps.is d h) in
+            let clock : last_value ((o.hold.accesses ++ w.publishes.more d) ++ w.stamps.more d) 0 (register_value o.past 0) ≡ x.core.event_stamp =
+            written_more o.hold.accesses (w.publishes.more d) (w.stamps.more d) (register_value o.past 0) ∙ ap (λ xs. last_value xs 0 (last_value (w.publishes.more d) 0 (last_value o.hold.accesses 0 (register_value o.past 0)))) (w.stamps.is d h) in
             turned_edge m d x.core.event_stamp o.past o.hold (with_all (w.stamps.more d) (with_all (w.publishes.more d) o.hold)) (edge_at b d).holds (edge_at c d).holds (s.edge d) o.holds holds o.is_open refl refl refl clock (k.edges d lt)
 
     wrote : Writes m (tile_at x.core (lists_on b)) (tile_at y.core (lists_on c)) → Aim y.core (step m g.meaning t s)
     wrote w =
         let h = hand_in x.core in
-        let v = noted (record x.core { cache = y.core.cache }) in
+        let v = tile_after_event (record x.core { cache = y.core.cache }) in
         let s' = write m g.meaning t h x.core.event_stamp s in
         let state : TileState = record (s.tile t) { doing = next_give (needs_of m t h.site) (s.tile t).left; clock = x.core.event_stamp } in
         let same : event_entry x.core ≡ record_of t h x.core.event_stamp = (λ i. record { stamp = x.core.event_stamp; tile = tile.number i; attempt = x.core.taken - 1; x = x.core.x; y = x.core.y; seed = x.core.seed }) in
@@ -358,7 +358,7 @@ module _ {B : Type 0} (after : B → WindowValue → ℕ → WindowValue) (m : M
         ((λ i. k.records t x is i ++ same i ∷ []) ∙ sym (filter_more (λ (q : Record). q.tile == t) s.records (record_of t h x.core.event_stamp) (same_tile t t refl)))
         (k.abandoned t x is)
         (λ v ne. no_record v (record_of t h x.core.event_stamp) refl ne) (λ v ne. refl)
-        (λ d dlt. subst (λ es. IsEdgeIn m d (edge_at c d).holds (stamped es x.core.event_stamp s.edge d)) needs_are (written_edges w d dlt)))))
+        (λ d dlt. subst (λ es. IsEdgeIn m d (edge_at c d).holds (stamp_edges es x.core.event_stamp s.edge d)) needs_are (written_edges w d dlt)))))
 
   -- Give and Back
   freed_edges : (d : ℕ) → IsHeld (lists_on b e) → e < length (pairs_of m) → lists_on c ≡ replace_at (lists_on b) e (after_give (lists_on b e)) → d < length (pairs_of m) → IsEdgeIn m d (edge_at c d).holds (at s.edge e (record (s.edge e) { holder = None }) d)
@@ -384,10 +384,10 @@ module _ {B : Type 0} (after : B → WindowValue → ℕ → WindowValue) (m : M
       gives : Giving e (drop (suc x.core.next) x.core.needs) ≡ (s.tile t).doing
       gives = same_Some _ _ (sym (ap (λ es. Some (next_give es x.core.left)) (drop_at x.core.next x.core.needs lt)) ∙ doing_now Give now)
 
-      by : (q : Bool) → nat_lt (x.core.next + 1) (length x.core.needs) ≡ q → Aim (freed q x.core) (does t (next_give (drop (suc x.core.next) x.core.needs) (s.tile t).left) (is_held_by e None s))
-      by true q = alone (freed true x.core) (does t (next_give (drop (suc x.core.next) x.core.needs) (s.tile t).left) (is_held_by e None s)) (next_give (drop (suc x.core.next) x.core.needs) (s.tile t).left) refl refl refl
+      by : (q : Bool) → nat_lt (x.core.next + 1) (length x.core.needs) ≡ q → Aim (tile_after_give q x.core) (does t (next_give (drop (suc x.core.next) x.core.needs) (s.tile t).left) (is_held_by e None s))
+      by true q = alone (tile_after_give true x.core) (does t (next_give (drop (suc x.core.next) x.core.needs) (s.tile t).left) (is_held_by e None s)) (next_give (drop (suc x.core.next) x.core.needs) (s.tile t).left) refl refl refl
           (given_doing x.core now true q ∙ ap (λ z. Some (next_give (drop (suc x.core.next) x.core.needs) z)) mine.left) refl refl refl refl refl (λ d dlt. freed_edges d held ends f.lists_are dlt)
-      by false q = alone (freed false x.core) (does t (next_give (drop (suc x.core.next) x.core.needs) (s.tile t).left) (is_held_by e None s)) (next_give (drop (suc x.core.next) x.core.needs) (s.tile t).left) refl refl refl
+      by false q = alone (tile_after_give false x.core) (does t (next_give (drop (suc x.core.next) x.core.needs) (s.tile t).left) (is_held_by e None s)) (next_give (drop (suc x.core.next) x.core.needs) (s.tile t).left) refl refl refl
           (given_doing x.core now false q ∙ ap (λ z. Some (next_give (drop (suc x.core.next) x.core.needs) z)) mine.left) refl refl refl refl refl (λ d dlt. freed_edges d held ends f.lists_are dlt)
 
   backed : x.core.phase ≡ Back → Frees x.core.count (tile_at x.core (lists_on b)) (tile_at y.core (lists_on c)) → Aim y.core (step m g.meaning t s)
@@ -408,10 +408,10 @@ module _ {B : Type 0} (after : B → WindowValue → ℕ → WindowValue) (m : M
       backs : Backing e (drop (suc x.core.next) (take x.core.count x.core.needs)) ≡ (s.tile t).doing
       backs = same_Some _ _ (sym (ap (λ es. Some (next_back es x.core.left)) first) ∙ doing_now Back now)
 
-      by : (q : Bool) → nat_lt (x.core.next + 1) x.core.count ≡ q → Aim (freed q x.core) (does t (next_back (drop (suc x.core.next) (take x.core.count x.core.needs)) (s.tile t).left) (is_held_by e None s))
-      by true q = alone (freed true x.core) (does t (next_back (drop (suc x.core.next) (take x.core.count x.core.needs)) (s.tile t).left) (is_held_by e None s)) (next_back (drop (suc x.core.next) (take x.core.count x.core.needs)) (s.tile t).left) refl refl refl
+      by : (q : Bool) → nat_lt (x.core.next + 1) x.core.count ≡ q → Aim (tile_after_give q x.core) (does t (next_back (drop (suc x.core.next) (take x.core.count x.core.needs)) (s.tile t).left) (is_held_by e None s))
+      by true q = alone (tile_after_give true x.core) (does t (next_back (drop (suc x.core.next) (take x.core.count x.core.needs)) (s.tile t).left) (is_held_by e None s)) (next_back (drop (suc x.core.next) (take x.core.count x.core.needs)) (s.tile t).left) refl refl refl
           (backed_doing x.core now lt.1 true q ∙ ap (λ z. Some (next_back (drop (suc x.core.next) (take x.core.count x.core.needs)) z)) mine.left) refl refl refl refl refl (λ d dlt. freed_edges d held ends f.lists_are dlt)
-      by false q = alone (freed false x.core) (does t (next_back (drop (suc x.core.next) (take x.core.count x.core.needs)) (s.tile t).left) (is_held_by e None s)) (next_back (drop (suc x.core.next) (take x.core.count x.core.needs)) (s.tile t).left) refl refl refl
+      by false q = alone (tile_after_give false x.core) (does t (next_back (drop (suc x.core.next) (take x.core.count x.core.needs)) (s.tile t).left) (is_held_by e None s)) (next_back (drop (suc x.core.next) (take x.core.count x.core.needs)) (s.tile t).left) refl refl refl
           (backed_doing x.core now lt.1 false q ∙ ap (λ z. Some (next_back (drop (suc x.core.next) (take x.core.count x.core.needs)) z)) mine.left) refl refl refl refl refl (λ d dlt. freed_edges d held ends f.lists_are dlt)
 
   -- Finished: nothing happens

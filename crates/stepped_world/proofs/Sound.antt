@@ -18,7 +18,7 @@ use Rattle.border_cache.specs.Windows.{has}
 use Rattle.tile_core.specs.Values.{event_site}
 use Rattle.serial_order.proofs.Ground.{needed, has_in, in_has}
 use Rattle.serial_order.proofs.Tile.{greatest_each}
-use Rattle.stepped_world.specs.Machine.{wanted, Hand, Doing, Drawing, Done, Locking, Refreshing, Behaving, Writing, Giving, Backing, TileState, EdgeState, Machine, at, next_lock, next_give, next_back, does, is_held_by, record_of, drawn, draw, lock, next_stamp, write, step_in, step}
+use Rattle.stepped_world.specs.Machine.{want_edge, Hand, Doing, Drawing, Done, Locking, Refreshing, Behaving, Writing, Giving, Backing, TileState, EdgeState, Machine, at, next_lock, next_give, next_back, does, is_held_by, record_of, tile_after_draw, draw, lock, next_stamp, write, step_in, step}
 use Rattle.serial_order.specs.Scene.{on_map}
 use Rattle.event_journal.specs.Serial.{Course}
 use Rattle.stepped_world.specs.Running.{StampsRise, HasClocks, IsSound}
@@ -63,11 +63,11 @@ module _ (m : MapValue) (plane : IsPlane m) (g : Course) (t : ℕ) (s : Machine)
 
   draws : (left : List Attempt) → IsSound (on_map m g) (draw m t left s)
   draws [] = only Done
-  draws (a ∷ more) = unmoved (draw m t (a ∷ more) s) refl refl (tile_clock s.tile t (drawn m t a more (s.tile t)) refl) (λ e. refl)
+  draws (a ∷ more) = unmoved (draw m t (a ∷ more) s) refl refl (tile_clock s.tile t (tile_after_draw m t a more (s.tile t)) refl) (λ e. refl)
 
-  locks : (h : Hand) (had : List ℕ) (e : ℕ) (es : List ℕ) (o : Option (ℕ × ℕ)) → IsSound (on_map m g) (lock t (wanted h had e es) o s)
+  locks : (h : Hand) (had : List ℕ) (e : ℕ) (es : List ℕ) (o : Option (ℕ × ℕ)) → IsSound (on_map m g) (lock t (want_edge h had e es) o s)
   locks h had e es None = frees e (Some (t, h.attempt)) (next_lock h (had ++ e ∷ []) es)
-  locks h had e es (Some p) = unmoved (lock t (wanted h had e es) (Some p) s) refl refl (tile_clock s.tile t (record (s.tile t) { doing = next_back had (s.tile t).left }) refl) (λ d. refl)
+  locks h had e es (Some p) = unmoved (lock t (want_edge h had e es) (Some p) s) refl refl (tile_clock s.tile t (record (s.tile t) { doing = next_back had (s.tile t).left }) refl) (λ d. refl)
 
   -- an event
   module _ (h : Hand) (centre : IsCentre m t h.site) where

@@ -9,7 +9,7 @@ use Rattle.draw_stream.specs.declared.attempt.Attempt.{Attempt}
 use Rattle.tile_core.specs.declared.phase.Phase.{Phase}
 use Rattle.tile_core.specs.declared.phase.Phase.TheVariants.{Draw, Lock, Refresh, Behave, Write, Give, Back, Finished, Worn}
 use Rattle.tile_core.specs.Values.{TileValue}
-use Rattle.tile_core.specs.Steps.{over, begun, refused_phase, written_phase, got, freed}
+use Rattle.tile_core.specs.Steps.{over, first_phase, refused_phase, written_phase, tile_with_edge, tile_after_give}
 use Rattle.stepped_world.specs.Machine.{Hand, Writing, next_draw, next_lock, next_give, next_back}
 use Rattle.stepped_world.specs.Matching.{hand_in, doing_in}
 
@@ -47,13 +47,13 @@ over_doing tile [] = refl
 over_doing tile (a ∷ more) = refl
 
 -- an attempt begins
-pub begun_doing : (tile : TileValue) (needs : List ℕ) → doing_in (record tile { needs = needs; next = 0 }) (begun needs) ≡ Some (next_lock (hand_in tile) [] needs)
+pub begun_doing : (tile : TileValue) (needs : List ℕ) → doing_in (record tile { needs = needs; next = 0 }) (first_phase needs) ≡ Some (next_lock (hand_in tile) [] needs)
 begun_doing tile [] = refl
 begun_doing tile (e ∷ es) = refl
 
 -- an edge is got
 pub got_doing : (tile : TileValue) → tile.phase ≡ Lock → tile.next < length tile.needs → (b : Bool) → nat_lt (tile.next + 1) (length tile.needs) ≡ b
-    → doing_in (got b tile) (got b tile).phase ≡ Some (next_lock (hand_in tile) (take tile.next tile.needs ++ slice_index tile.needs tile.next ∷ []) (drop (suc tile.next) tile.needs))
+    → doing_in (tile_with_edge b tile) (tile_with_edge b tile).phase ≡ Some (next_lock (hand_in tile) (take tile.next tile.needs ++ slice_index tile.needs tile.next ∷ []) (drop (suc tile.next) tile.needs))
 got_doing tile is lt true more =
     let n : tile.next + 1 ≡ suc tile.next = omega arith in
     ap (doing_in (record tile { next = tile.next + 1 })) is
@@ -73,7 +73,7 @@ written_doing tile [] = over_doing (record tile { needs = []; next = 0 }) tile.l
 written_doing tile (e ∷ es) = refl
 
 -- an edge is given
-pub given_doing : (tile : TileValue) → tile.phase ≡ Give → (b : Bool) → nat_lt (tile.next + 1) (length tile.needs) ≡ b → doing_in (freed b tile) (freed b tile).phase ≡ Some (next_give (drop (suc tile.next) tile.needs) tile.left)
+pub given_doing : (tile : TileValue) → tile.phase ≡ Give → (b : Bool) → nat_lt (tile.next + 1) (length tile.needs) ≡ b → doing_in (tile_after_give b tile) (tile_after_give b tile).phase ≡ Some (next_give (drop (suc tile.next) tile.needs) tile.left)
 given_doing tile is true more =
     let n : tile.next + 1 ≡ suc tile.next = omega arith in
     ap (doing_in (record tile { next = tile.next + 1 })) is ∙ ap (λ k. Some (next_give (drop k tile.needs) tile.left)) n
@@ -82,7 +82,7 @@ given_doing tile is false less =
     over_doing (record tile { phase = over tile.left }) tile.left ∙ ap (λ es. Some (next_give es tile.left)) (sym (drop_past (suc tile.next) tile.needs le))
 
 -- an edge is given back
-pub backed_doing : (tile : TileValue) → tile.phase ≡ Back → tile.count ≤ length tile.needs → (b : Bool) → nat_lt (tile.next + 1) tile.count ≡ b → doing_in (freed b tile) (freed b tile).phase ≡ Some (next_back (drop (suc tile.next) (take tile.count tile.needs)) tile.left)
+pub backed_doing : (tile : TileValue) → tile.phase ≡ Back → tile.count ≤ length tile.needs → (b : Bool) → nat_lt (tile.next + 1) tile.count ≡ b → doing_in (tile_after_give b tile) (tile_after_give b tile).phase ≡ Some (next_back (drop (suc tile.next) (take tile.count tile.needs)) tile.left)
 backed_doing tile is le true more =
     let n : tile.next + 1 ≡ suc tile.next = omega arith in
     ap (doing_in (record tile { next = tile.next + 1 })) is ∙ ap (λ k. Some (next_back (drop k (take tile.count tile.needs)) tile.left)) n

@@ -8,7 +8,7 @@ use Rattle.tile_map.specs.Edges.{low_end, high_end, has_end, other_end}
 use Rattle.edge_lock.specs.declared.history.Access.{Access}
 use Rattle.edge_lock.specs.declared.history.Access.TheVariants.{Read, Write}
 use Rattle.edge_lock.specs.declared.history.Hold.{Hold}
-use Rattle.edge_lock.specs.History.{trace, written, register_value, found_value, open_hold, IsHistory}
+use Rattle.edge_lock.specs.History.{trace, last_value, register_value, found_value, open_hold, IsHistory}
 use Rattle.edge_lock.specs.EndLists.{change_last, closed_hold, new_hold, writes_nothing}
 use Rattle.edge_lock.proofs.LastHolds.{open_hold-snoc, trace-snoc, written-append}
 use Rattle.edge_lock.proofs.HistorySteps.{register_value-ended, register_value-opened}
@@ -19,14 +19,14 @@ use Rattle.stepped_world.specs.Machine.{EdgeState}
 use Rattle.stepped_world.specs.Matching.{who, IsEdgeIn}
 
 -- where nothing is written a register stays
-pub quiet : (xs : List Access) (r v : ℕ) → writes_nothing xs ≡ true → written xs r v ≡ v
+pub quiet : (xs : List Access) (r v : ℕ) → writes_nothing xs ≡ true → last_value xs r v ≡ v
 quiet [] r v h = refl
 quiet (Read at x ∷ xs) r v h = quiet xs r v h
 quiet (Write at x ∷ xs) r v h = absurd (true≢false (sym h))
 
 -- the register after one hold more
-pub value_snoc : (past : List Hold) (h : Hold) (r : ℕ) → register_value (past ++ h ∷ []) r ≡ written h.accesses r (register_value past r)
-value_snoc past h r = ap (λ xs. written xs r 0) (trace-snoc past h) ∙ written-append (trace past) h.accesses r 0
+pub value_snoc : (past : List Hold) (h : Hold) (r : ℕ) → register_value (past ++ h ∷ []) r ≡ last_value h.accesses r (register_value past r)
+value_snoc past h r = ap (λ xs. last_value xs r 0) (trace-snoc past h) ∙ written-append (trace past) h.accesses r 0
 
 -- the last hold has more accesses, twice
 pub all_twice : (xs ys : List Access) (hs : List Hold) → change_last (with_all ys) (change_last (with_all xs) hs) ≡ change_last (λ h. with_all ys (with_all xs h)) hs
@@ -51,7 +51,7 @@ open_last m e past h is_open = ap (who m e) (open_hold-snoc past h ∙ ap (λ b.
 
 -- a hold of the same end and attempt in its place, which leaves the clock at this
 pub turned_edge : (m : MapValue) (e clock : ℕ) (past : List Hold) (h k : Hold) (holds holds' : List Hold) (state : EdgeState) → holds ≡ past ++ h ∷ [] → holds' ≡ past ++ k ∷ [] → h.is_open ≡ true → k.is_open ≡ h.is_open → k.end ≡ h.end → k.attempt ≡ h.attempt
-    → written k.accesses 0 (register_value past 0) ≡ clock → IsEdgeIn m e holds state → IsEdgeIn m e holds' (record state { clock = clock })
+    → last_value k.accesses 0 (register_value past 0) ≡ clock → IsEdgeIn m e holds state → IsEdgeIn m e holds' (record state { clock = clock })
 turned_edge m e clock past h k holds holds' state was is open_was open_is end attempt now i = record {
   clock = ap (λ hs. register_value hs 0) is ∙ (value_snoc past k 0 ∙ now);
   holder = ap (λ hs. who m e (open_hold hs)) is ∙ (open_last m e past k (open_is ∙ open_was) ∙ ((λ j. Some (if end j == 0 then low_end m e else high_end m e, attempt j)) ∙ (sym (open_last m e past h open_was) ∙ (ap (λ hs. who m e (open_hold hs)) (sym was) ∙ i.holder))));
@@ -91,4 +91,4 @@ far_tile m t e k is = go (low_end m e == t) refl
 pub found_clock : {n : ℕ} (past : List Hold) (h : Hold) (c : ℕ) (rest : List Access) → IsHistory n (past ++ h ∷ []) → h.accesses ≡ Read 0 c ∷ rest → writes_nothing rest ≡ true → register_value (past ++ h ∷ []) 0 ≡ c
 found_clock {n} past h c rest history is silent =
     let found : found_value h.accesses 0 ≡ Some c = ap (λ xs. found_value xs 0) is in
-    value_snoc past h 0 ∙ (ap (λ xs. written xs 0 (register_value past 0)) is ∙ (quiet rest 0 (register_value past 0) silent ∙ sym (finds past h [] 0 c history found)))
+    value_snoc past h 0 ∙ (ap (λ xs. last_value xs 0 (register_value past 0)) is ∙ (quiet rest 0 (register_value past 0) silent ∙ sym (finds past h [] 0 c history found)))

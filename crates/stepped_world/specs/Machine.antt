@@ -91,12 +91,12 @@ abbrev pub entry_of : ℕ → Hand → ℕ → ℕ × ℕ → Abandoned
 entry_of t hand e holder = record { tile = t; attempt = hand.attempt; x = hand.site.x; y = hand.site.y; edge = e; holder = holder.0; holder_attempt = holder.1 }
 
 -- Draw: the next attempt is in hand
-abbrev pub drawn : MapValue → ℕ → Attempt → List Attempt → TileState → TileState
-drawn m t attempt others tile = record tile { doing = next_lock (hand_of m t tile.taken attempt) [] (needs_of m t (site_in m t attempt.centre)); left = others; taken = tile.taken + 1 }
+abbrev pub tile_after_draw : MapValue → ℕ → Attempt → List Attempt → TileState → TileState
+tile_after_draw m t attempt others tile = record tile { doing = next_lock (hand_of m t tile.taken attempt) [] (needs_of m t (site_in m t attempt.centre)); left = others; taken = tile.taken + 1 }
 
 abbrev pub draw : MapValue → ℕ → List Attempt → Machine → Machine
 draw m t [] s = does t Done s
-draw m t (attempt ∷ others) s = record s { tile = at s.tile t (drawn m t attempt others (s.tile t)) }
+draw m t (attempt ∷ others) s = record s { tile = at s.tile t (tile_after_draw m t attempt others (s.tile t)) }
 
 -- an attempt that gets its edges one by one: those that it has, the one that is tried next, and those after it
 pub record Wanted : Type 0 where
@@ -105,8 +105,8 @@ pub record Wanted : Type 0 where
   pub edge : ℕ
   pub rest : List ℕ
 
-abbrev pub wanted : Hand → List ℕ → ℕ → List ℕ → Wanted
-wanted hand had edge rest = record { hand = hand; had = had; edge = edge; rest = rest }
+abbrev pub want_edge : Hand → List ℕ → ℕ → List ℕ → Wanted
+want_edge hand had edge rest = record { hand = hand; had = had; edge = edge; rest = rest }
 
 -- Lock: the attempt has the edge if nobody had it; otherwise it is abandoned, which notes who has
 -- it
@@ -119,15 +119,15 @@ abbrev pub next_stamp : MapValue → ℕ → Hand → Machine → ℕ
 next_stamp m t hand s = 1 + greatest (s.tile t).clock (λ e. (s.edge e).clock) (needs_of m t hand.site)
 
 -- these edges have this clock
-abbrev pub stamped : List ℕ → ℕ → (ℕ → EdgeState) → ℕ → EdgeState
-stamped edges stamp edge e = if has e edges then record (edge e) { clock = stamp } else edge e
+abbrev pub stamp_edges : List ℕ → ℕ → (ℕ → EdgeState) → ℕ → EdgeState
+stamp_edges edges stamp edge e = if has e edges then record (edge e) { clock = stamp } else edge e
 
 -- Write: the event takes place on the grid, its record is made, and its stamp becomes the clock of its tile and its edges
 abbrev pub write : MapValue → (WindowValue → ℕ → WindowValue) → ℕ → Hand → ℕ → Machine → Machine
 write m meaning t hand stamp s = record s {
   grid = event meaning s.grid hand.site.x hand.site.y hand.seed;
   tile = at s.tile t (record (s.tile t) { doing = next_give (needs_of m t hand.site) (s.tile t).left; clock = stamp });
-  edge = stamped (needs_of m t hand.site) stamp s.edge;
+  edge = stamp_edges (needs_of m t hand.site) stamp s.edge;
   records = s.records ++ record_of t hand stamp ∷ [];
 }
 
@@ -135,7 +135,7 @@ write m meaning t hand stamp s = record s {
 abbrev pub step_in : MapValue → (WindowValue → ℕ → WindowValue) → ℕ → Machine → Doing → Machine
 step_in m meaning t s Drawing = draw m t (s.tile t).left s
 step_in m meaning t s Done = s
-step_in m meaning t s (Locking hand had e es) = lock t (wanted hand had e es) (s.edge e).holder s
+step_in m meaning t s (Locking hand had e es) = lock t (want_edge hand had e es) (s.edge e).holder s
 step_in m meaning t s (Refreshing hand) = does t (Behaving hand) s
 step_in m meaning t s (Behaving hand) = does t (Writing hand) s
 step_in m meaning t s (Writing hand) = write m meaning t hand (next_stamp m t hand s) s

@@ -11,8 +11,9 @@ use Rattle.std.proofs.lemmas.Bool.Decides.{eqb_tells}
 use Rattle.std.proofs.Math.Nat.{mod-eq_of_lt}
 use Rattle.list_laws.proofs.Tests.{both}
 use Rattle.feast_base.specs.Digits.{glyph, hex}
-use Rattle.feast_base.specs.TypeNames.{is_type_name, is_word_byte, longest_name}
-use Rattle.text_lines.specs.Fields.{Lacks, number_of, is_canonical, is_digit, worth, is_nibble, nibble, hex_worth, hex_of}
+use Rattle.feast_base.specs.TypeNames.{is_type_name, is_word_byte}
+use Rattle.feast_base.specs.declared.type_name.TheConstants.{LONGEST_NAME}
+use Rattle.text_lines.specs.Fields.{Lacks, field_number, is_canonical, is_digit, worth, is_nibble, nibble, hex_worth, hex_of}
 use Rattle.text_lines.specs.Printed.{is_high, is_field}
 
 digit_byte : (d : ℕ) → d < 10 → is_digit (48 + d) ≡ true
@@ -53,7 +54,7 @@ first_digit : (n : ℕ) → n < 2 ^ 64 → get_or (decimal n) 0 0 ≡ 48 → len
 first_digit zero fits e = ap length (decimal_digit 0 (omega arith))
 first_digit (suc n) fits e = let h = first_decimal (suc n) (omega arith) fits in absurd (omega (arith, h, e))
 
-pub number_decimal : (n : ℕ) → n < 2 ^ 64 → number_of (decimal n) ≡ Some n
+pub number_decimal : (n : ℕ) → n < 2 ^ 64 → field_number (decimal n) ≡ Some n
 number_decimal n fits =
     let p = decimal_digits n fits in
     let c = canonical_by (decimal n) (decimal_nonempty n fits) p.0 (first_digit n fits) (length-decimal-le 20 n (omega arith) (omega arith) fits) in
@@ -122,7 +123,7 @@ upper_high b h = grind arith
 pub name_high : (name : List ℕ) → is_type_name name ≡ true → is_field name ≡ true
 name_high [] named = refl
 name_high (b ∷ bs) named =
-    let p = both (is_ascii_uppercase b && list_all is_word_byte bs) (nat_le (length bs + 1) longest_name) named in
+    let p = both (is_ascii_uppercase b && list_all is_word_byte bs) (nat_le (length bs + 1) LONGEST_NAME) named in
     let q = both (is_ascii_uppercase b) (list_all is_word_byte bs) p.0 in
     rw (upper_high b q.0, all_of is_word_byte is_high bs word_high q.1) refl
 

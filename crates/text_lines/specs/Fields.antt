@@ -26,8 +26,8 @@ abbrev pub fields_left : Option (Bor (List ℕ)) → List (List ℕ)
 fields_left rest = args_of (option_copied rest)
 
 -- a number that was taken from the front, and the fields that are left
-abbrev pub taken : Option (ℕ × Option (Bor (List ℕ))) → Option (ℕ × List (List ℕ))
-taken found = option_map (λ (p : ℕ × Option (Bor (List ℕ))). (p.0, fields_left p.1)) found
+abbrev pub number_and_fields : Option (ℕ × Option (Bor (List ℕ))) → Option (ℕ × List (List ℕ))
+number_and_fields found = option_map (λ (p : ℕ × Option (Bor (List ℕ))). (p.0, fields_left p.1)) found
 
 -- how much is left to read
 abbrev pub size_of : Option (List ℕ) → ℕ
@@ -47,8 +47,8 @@ abbrev pub worth : List ℕ → ℕ
 worth ds = fold (λ (v d : ℕ). v * 10 + (d - 48)) 0 ds
 
 -- the number that a field is
-abbrev pub number_of : List ℕ → Option ℕ
-number_of f = if is_canonical f then Some (worth f) else None
+abbrev pub field_number : List ℕ → Option ℕ
+field_number f = if is_canonical f then Some (worth f) else None
 
 -- a lower-case hexadecimal digit, and its value
 abbrev pub is_nibble : ℕ → Bool

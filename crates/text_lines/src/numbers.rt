@@ -1,7 +1,7 @@
 //! The numbers and digits that fields are.
 ghost use Rattle.std.specs.Prelude.{◌≡◌, IfSome, IsTrue, ◌*◌, ◌<◌, ◌≤◌, ◌^◌, length};
 ghost use Rattle.std.specs.List.{list_all};
-ghost use Rattle.text_lines.specs.Fields.{hex_of, hex_worth, is_canonical, is_digit, is_nibble, nibble, number_of, worth};
+ghost use Rattle.text_lines.specs.Fields.{hex_of, hex_worth, is_canonical, is_digit, is_nibble, nibble, field_number, worth};
 
 /// Whether it is a decimal digit.
 fn is_digit(byte: u8) -> bool
@@ -55,7 +55,7 @@ fn small_worth(digits: &[u8]) -> u64
 
 /// The number that a field is: a canonical decimal of at most 20 digits. None if it is not one.
 pub fn number(field: &[u8]) -> Option<u128>
-    ensures { result ≡ number_of field.now }
+    ensures { result ≡ field_number field.now }
 {
     if !is_canonical(field) {
         return None;

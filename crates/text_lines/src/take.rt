@@ -1,7 +1,7 @@
 //! Taking the fields of a line one after another. The fields that are left are a text, or none if
 //! the line has ended.
 ghost use Rattle.std.specs.Prelude.{◌≡◌, option_copied};
-ghost use Rattle.text_lines.specs.Fields.{fields_left, taken};
+ghost use Rattle.text_lines.specs.Fields.{fields_left, number_and_fields};
 ghost use Rattle.text_lines.specs.Forms.{one_field, one_number, one_seed, take_number, two_numbers};
 
 use crate::cut::first_field;
@@ -11,7 +11,7 @@ use crate::numbers::{number, seed};
 /// the first is not a number.
 #[tactic(auto, unfolding(crate::specs::Forms::take_number))]
 pub fn take_number(args: Option<&[u8]>) -> Option<(u128, Option<&[u8]>)>
-    ensures { taken result ≡ take_number (fields_left args.entry) }
+    ensures { number_and_fields result ≡ take_number (fields_left args.entry) }
 {
     let (first, rest) = first_field(args?);
     match number(first) {

@@ -16,7 +16,7 @@ use Rattle.tile_core.specs.declared.phase.Phase.{Phase}
 use Rattle.tile_core.specs.declared.phase.Phase.TheVariants.{Draw, Lock, Refresh, Behave, Write, Give, Back, Finished, Worn}
 use Rattle.tile_core.specs.Values.{TileValue, centre, atoms_of}
 use Rattle.tile_core.specs.Underway.{Onward, GoesOn, CanAttempt, IsFreshTile, InPhase, AreNeeds, tile_at}
-use Rattle.tile_core.specs.Steps.{StepsIn, Rests, WearsOut, Renews, is_over, over, next_edge, got, tried, freed, rules_of}
+use Rattle.tile_core.specs.Steps.{StepsIn, Rests, WearsOut, Renews, is_over, over, next_edge, tile_with_edge, tile_after_try, tile_after_give, rules_of}
 use Rattle.tile_core.proofs.Laws.{drawn_on, lock_lt, tries_on, gives_on, backs_on, over_hand, needs_of_tile}
 use Rattle.tile_core.proofs.Refreshing.{refreshes_on}
 use Rattle.tile_core.proofs.Behaving.{behaves_on}
@@ -47,15 +47,15 @@ module _ (m : MapValue) (plane : IsPlane m) (meaning : WindowValue → ℕ → W
       go Finished is s = rests s
       go Worn is s = rests s
 
-got_number : (x : Bool) (tile : TileValue) → (got x tile).number ≡ tile.number
+got_number : (x : Bool) (tile : TileValue) → (tile_with_edge x tile).number ≡ tile.number
 got_number true tile = refl
 got_number false tile = refl
 
-freed_number : (x : Bool) (tile : TileValue) → (freed x tile).number ≡ tile.number
+freed_number : (x : Bool) (tile : TileValue) → (tile_after_give x tile).number ≡ tile.number
 freed_number true tile = refl
 freed_number false tile = refl
 
-tried_number : (m : MapValue) (tile : TileValue) (r : Take) → (tried m tile r).number ≡ tile.number
+tried_number : (m : MapValue) (tile : TileValue) (r : Take) → (tile_after_try m tile r).number ≡ tile.number
 tried_number m tile Got = got_number (nat_lt (tile.next + 1) (length tile.needs)) tile
 tried_number m tile (Busy j) = refl
 
@@ -71,15 +71,15 @@ same_number m meaning end_of old new a b Back s = ap (λ t. t.number) s.is ∙ f
 same_number m meaning end_of old new a b Finished s = ap (λ t. t.number) s.is
 same_number m meaning end_of old new a b Worn s = ap (λ t. t.number) s.is
 
-got_map : (x : Bool) (tile : TileValue) → (got x tile).cache.map ≡ tile.cache.map
+got_map : (x : Bool) (tile : TileValue) → (tile_with_edge x tile).cache.map ≡ tile.cache.map
 got_map true tile = refl
 got_map false tile = refl
 
-freed_map : (x : Bool) (tile : TileValue) → (freed x tile).cache.map ≡ tile.cache.map
+freed_map : (x : Bool) (tile : TileValue) → (tile_after_give x tile).cache.map ≡ tile.cache.map
 freed_map true tile = refl
 freed_map false tile = refl
 
-tried_map : (m : MapValue) (tile : TileValue) (r : Take) → (tried m tile r).cache.map ≡ tile.cache.map
+tried_map : (m : MapValue) (tile : TileValue) (r : Take) → (tile_after_try m tile r).cache.map ≡ tile.cache.map
 tried_map m tile Got = got_map (nat_lt (tile.next + 1) (length tile.needs)) tile
 tried_map m tile (Busy j) = refl
 
@@ -121,15 +121,15 @@ fresh_tile m plane g attempts tile can copy left taken stamp records abandoned n
   };
 }
 
-got_taken : (x : Bool) (tile : TileValue) → (got x tile).taken ≡ tile.taken
+got_taken : (x : Bool) (tile : TileValue) → (tile_with_edge x tile).taken ≡ tile.taken
 got_taken true tile = refl
 got_taken false tile = refl
 
-freed_taken : (x : Bool) (tile : TileValue) → (freed x tile).taken ≡ tile.taken
+freed_taken : (x : Bool) (tile : TileValue) → (tile_after_give x tile).taken ≡ tile.taken
 freed_taken true tile = refl
 freed_taken false tile = refl
 
-tried_taken : (m : MapValue) (tile : TileValue) (r : Take) → (tried m tile r).taken ≡ tile.taken
+tried_taken : (m : MapValue) (tile : TileValue) (r : Take) → (tile_after_try m tile r).taken ≡ tile.taken
 tried_taken m tile Got = got_taken (nat_lt (tile.next + 1) (length tile.needs)) tile
 tried_taken m tile (Busy j) = refl
 

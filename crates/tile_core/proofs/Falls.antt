@@ -12,7 +12,7 @@ use Rattle.tile_core.specs.declared.phase.Phase.{Phase}
 use Rattle.tile_core.specs.declared.phase.Phase.TheVariants.{Draw, Lock, Refresh, Behave, Write, Give, Back, Finished, Worn}
 use Rattle.tile_core.specs.Values.{TileValue}
 use Rattle.tile_core.specs.Underway.{IsUnderway, tile_at}
-use Rattle.tile_core.specs.Steps.{StepsIn, WearsOut, Renews, over, is_over, next_edge, refused_phase, written_phase, got, tried, refused, freed, noted, steps_in, rules_of}
+use Rattle.tile_core.specs.Steps.{StepsIn, WearsOut, Renews, over, is_over, next_edge, refused_phase, written_phase, tile_with_edge, tile_after_try, tile_after_refusal, tile_after_give, tile_after_event, steps_in, rules_of}
 use Rattle.tile_core.proofs.Laws.{lock_lt, give_lt, back_lt}
 use Rattle.tile_core.specs.Turns.{common}
 
@@ -25,15 +25,15 @@ none_left tile [] = refl
 none_left tile (a ∷ others) = refl
 
 module _ (m : MapValue) (meaning : WindowValue → ℕ → WindowValue) (start : Site → AtomValue) (attempts : List Attempt) (old : TileValue) (a : ℕ → EndLists) (u : IsUnderway (common m meaning start) attempts old a) where
-  got_falls : old.next < length old.needs → old.phase ≡ Lock → (x : Bool) → steps_left (got x old) < 40 + (length old.needs - old.next)
+  got_falls : old.next < length old.needs → old.phase ≡ Lock → (x : Bool) → steps_left (tile_with_edge x old) < 40 + (length old.needs - old.next)
   got_falls lt is true = let q : steps_in (record old { next = old.next + 1 }) old.phase ≡ 40 + (length old.needs - (old.next + 1)) = ap (steps_in (record old { next = old.next + 1 })) is in omega (arith, q, lt)
   got_falls lt is false = omega arith
 
-  refused_falls : (e j n : ℕ) → n ≤ 8 → old.next ≡ n → steps_in (refused m old e j) (refused_phase n old.left) < 40
-  refused_falls e j zero le is = let q = none_left (refused m old e j) old.left in omega (arith, q)
+  refused_falls : (e j n : ℕ) → n ≤ 8 → old.next ≡ n → steps_in (tile_after_refusal m old e j) (refused_phase n old.left) < 40
+  refused_falls e j zero le is = let q = none_left (tile_after_refusal m old e j) old.left in omega (arith, q)
   refused_falls e j (suc n) le is = omega (arith, le, is)
 
-  tried_falls : old.next < length old.needs → old.phase ≡ Lock → (r : Take) → steps_left (tried m old r) < 40 + (length old.needs - old.next)
+  tried_falls : old.next < length old.needs → old.phase ≡ Lock → (r : Take) → steps_left (tile_after_try m old r) < 40 + (length old.needs - old.next)
   tried_falls lt is Got = got_falls lt is (nat_lt (old.next + 1) (length old.needs))
   tried_falls lt is (Busy j) = let few = u.needs.few in let q = refused_falls (next_edge old) j old.next (omega (arith, lt, few)) refl in omega (arith, q)
 
@@ -41,11 +41,11 @@ module _ (m : MapValue) (meaning : WindowValue → ℕ → WindowValue) (start :
   written_falls new [] needs next = let q = none_left new old.left in omega (arith, q)
   written_falls new (e ∷ es) needs next = let few : length new.needs ≤ 8 = subst (λ xs. length xs ≤ 8) (sym needs) u.needs.few in omega (arith, few)
 
-  give_falls : old.next < length old.needs → old.phase ≡ Give → (x : Bool) → steps_left (freed x old) < 1 + (length old.needs - old.next)
+  give_falls : old.next < length old.needs → old.phase ≡ Give → (x : Bool) → steps_left (tile_after_give x old) < 1 + (length old.needs - old.next)
   give_falls lt is true = let q : steps_in (record old { next = old.next + 1 }) old.phase ≡ 1 + (length old.needs - (old.next + 1)) = ap (steps_in (record old { next = old.next + 1 })) is in omega (arith, q, lt)
   give_falls lt is false = let q = none_left (record old { phase = over old.left }) old.left in omega (arith, q)
 
-  back_falls : old.next < old.count → old.phase ≡ Back → (x : Bool) → steps_left (freed x old) < 1 + (old.count - old.next)
+  back_falls : old.next < old.count → old.phase ≡ Back → (x : Bool) → steps_left (tile_after_give x old) < 1 + (old.count - old.next)
   back_falls lt is true = let q : steps_in (record old { next = old.next + 1 }) old.phase ≡ 1 + (old.count - (old.next + 1)) = ap (steps_in (record old { next = old.next + 1 })) is in omega (arith, q, lt)
   back_falls lt is false = let q = none_left (record old { phase = over old.left }) old.left in omega (arith, q)
 
@@ -60,7 +60,7 @@ module _ (m : MapValue) (meaning : WindowValue → ℕ → WindowValue) (start :
           (λ (w : Renews old new s.top s.between b). subst (λ x. steps_left x < 30) (sym w.is) (omega arith))
           s.step
       go Behave is f s = subst (λ x. steps_left x < 29) (sym s.0.is) (omega arith)
-      go Write is f s = subst (λ x. steps_left x < 28) (sym s.is) (written_falls (noted (record old { cache = new.cache })) old.needs refl refl)
+      go Write is f s = subst (λ x. steps_left x < 28) (sym s.is) (written_falls (tile_after_event (record old { cache = new.cache })) old.needs refl refl)
       go Give is f s = subst (λ w. steps_left w < 1 + (length old.needs - old.next)) (sym s.is) (give_falls (give_lt m meaning start attempts old a u is) is (nat_lt (old.next + 1) (length old.needs)))
       go Back is f s = subst (λ w. steps_left w < 1 + (old.count - old.next)) (sym s.is) (back_falls (back_lt m meaning start attempts old a u is).0 is (nat_lt (old.next + 1) old.count))
       go Finished is f s = absurd (true≢false f)

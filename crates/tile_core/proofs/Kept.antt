@@ -10,31 +10,31 @@ use Rattle.tile_core.specs.declared.phase.Phase.TheVariants.{Draw, Lock, Refresh
 use Rattle.draw_stream.specs.declared.attempt.Attempt.{Attempt}
 use Rattle.tile_core.specs.declared.state.State.{State}
 use Rattle.tile_core.specs.Values.{no_window}
-use Rattle.tile_core.specs.Steps.{begun, over, refused_phase, Behaves}
+use Rattle.tile_core.specs.Steps.{first_phase, over, refused_phase, Behaves}
 use Rattle.tile_core.specs.Kept.{value_of, window_seen, until_written}
 use Rattle.tile_core.proofs.Idle.{seen_view}
 
 -- with an attempt in hand
-begun_window : (es : List ℕ) (w : WindowValue) → until_written (begun es) w ≡ no_window
+begun_window : (es : List ℕ) (w : WindowValue) → until_written (first_phase es) w ≡ no_window
 begun_window [] w = refl
 begun_window (e ∷ es) w = refl
 
-pub begun_none : (es : List ℕ) → length es ≡ 0 → begun es ≡ Refresh
+pub begun_none : (es : List ℕ) → length es ≡ 0 → first_phase es ≡ Refresh
 begun_none [] h = refl
 begun_none (e ∷ es) h = absurd (omega (arith, h))
 
-pub begun_some : (es : List ℕ) → (length es ≡ 0 → ⊥) → begun es ≡ Lock
+pub begun_some : (es : List ℕ) → (length es ≡ 0 → ⊥) → first_phase es ≡ Lock
 begun_some [] h = absurd (h refl)
 begun_some (e ∷ es) h = refl
 
-pub begun_value : (s : State) (x y seed : ℕ) (found needs : List ℕ) (p : Phase) → s.phase ≡ Draw → found ≡ needs → p ≡ begun found
+pub begun_value : (s : State) (x y seed : ℕ) (found needs : List ℕ) (p : Phase) → s.phase ≡ Draw → found ≡ needs → p ≡ first_phase found
     → value_of (record s { taken = s.taken + 1; x = x; y = y; seed = seed; needs = found; next = 0; phase = p })
-    ≡ record (value_of s) { taken = s.taken + 1; x = x; y = y; seed = seed; needs = needs; next = 0; phase = begun needs }
+    ≡ record (value_of s) { taken = s.taken + 1; x = x; y = y; seed = seed; needs = needs; next = 0; phase = first_phase needs }
 begun_value s x y seed found needs p draw same is =
     let a = (if s.idle then window_seen s.cache (site x y) else s.window) in
     let b = (if s.idle then window_seen s.cache (site s.x s.y) else s.window) in
     let none : until_written p a ≡ until_written s.phase b = ap (λ q. until_written q a) is ∙ begun_window found a ∙ sym (ap (λ q. until_written q b) draw) in
-    let phase : p ≡ begun needs = is ∙ ap begun same in
+    let phase : p ≡ first_phase needs = is ∙ ap first_phase same in
     λ i. record (value_of s) { taken = s.taken + 1; x = x; y = y; seed = seed; needs = same i; next = 0; window = none i; phase = phase i }
 
 -- after a refusal

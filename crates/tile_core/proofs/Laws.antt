@@ -23,7 +23,7 @@ use Rattle.tile_core.specs.declared.phase.Phase.TheVariants.{Draw, Lock, Refresh
 use Rattle.tile_core.specs.Values.{TileValue, centre}
 use Rattle.tile_core.specs.Turns.{before, Turn, Loses, Lost, turn_edges, AgreeOnEdges, lists_of, lists_left, with_more, IsLost, common, IsAttemptAt}
 use Rattle.tile_core.specs.Underway.{Onward, IsUnderway, InPhase, IsDrawn, IsGiving, AreTurnsOver, HasOpen, no_access, still, is_refreshed, AreNeeds, tile_at}
-use Rattle.tile_core.specs.Steps.{over, begun, refused_phase, Draws, Tries, Frees, next_edge, refused_entry, refused, got, tried, freed}
+use Rattle.tile_core.specs.Steps.{over, first_phase, refused_phase, Draws, Tries, Frees, next_edge, refused_entry, tile_after_refusal, tile_with_edge, tile_after_try, tile_after_give}
 use Rattle.tile_core.proofs.Lists.{here_free, free_of, new_of, got_open, busy_left, all_left}
 use Rattle.tile_core.proofs.Giving.{before_take, has_place, rises_take, giving_held, gave_on, gave_all, giving_quiet}
 
@@ -94,15 +94,15 @@ module _ (m : MapValue) (meaning : WindowValue → ℕ → WindowValue) (start :
       open_none : AgreeOnEdges m t a (λ d. with_more [] [] (lists_of m t u.turns d))
       open_none d own = drawing.2 d own ∙ (λ i. end_lists (sym (append-nil (lists_of m t u.turns d).holds) i) (sym (append-nil (lists_of m t u.turns d).refusals) i))
 
-      begin : (es : List ℕ) → needs_of m t c ≡ es → InPhase (common m meaning start) attempts u.turns (tile_at (after (begun es)) a) (begun es)
+      begin : (es : List ℕ) → needs_of m t c ≡ es → InPhase (common m meaning start) attempts u.turns (tile_at (after (first_phase es)) a) (first_phase es)
       begin [] none = (drawn Refresh, subst (λ es. HasOpen m u.turns (tile_at tile a) es no_access) (sym none) open_none)
       begin (f ∷ fs) some = (drawn Lock, subst (λ es. 0 < length es) (sym some) (omega arith), open_none)
 
-      begun_unrefreshed : (es : List ℕ) → is_refreshed (begun es) ≡ false
+      begun_unrefreshed : (es : List ℕ) → is_refreshed (first_phase es) ≡ false
       begun_unrefreshed [] = refl
       begun_unrefreshed (f ∷ fs) = refl
 
-      draws_on : Next (after (begun (needs_of m t c))) a
+      draws_on : Next (after (first_phase (needs_of m t c))) a
       draws_on = (
         record {
           turns = u.turns;
@@ -221,7 +221,7 @@ module _ (m : MapValue) (meaning : WindowValue → ℕ → WindowValue) (start :
         abbrev aim : ℕ → Phase → TileValue
         aim j p = record tile { abandoned = tile.abandoned ++ refused_entry m tile e j ∷ []; next = 0; count = tile.next; phase = p }
 
-        lock_busy : (j : ℕ) → b ≡ replace_at a e (after_try k (tile.taken - 1) (Busy j) (a e)) → Next (refused m tile e j) b
+        lock_busy : (j : ℕ) → b ≡ replace_at a e (after_try k (tile.taken - 1) (Busy j) (a e)) → Next (tile_after_refusal m tile e j) b
         lock_busy j busy = (
           record {
             turns = (Loses (lost j) ∷ u.turns);
@@ -254,10 +254,10 @@ module _ (m : MapValue) (meaning : WindowValue → ℕ → WindowValue) (start :
                 (all_left m t (Loses (lost j)) u.turns (take tile.next tile.needs) b (sym (edges_before j)) (λ d h. refl) 0 (let z : length (take tile.next tile.needs) ≡ 0 = ap (λ n. length (take n tile.needs)) none in omega (arith, z)) left)
             by_next (suc n) some = let lt = locking.1 in (taken, omega (arith, some), omega (arith, lt), tt, (sym (edges_before j), left))
 
-        tries_with : (r : Take) → b ≡ replace_at a e (after_try k (tile.taken - 1) r (a e)) → Next (tried m tile r) b
+        tries_with : (r : Take) → b ≡ replace_at a e (after_try k (tile.taken - 1) r (a e)) → Next (tile_after_try m tile r) b
         tries_with Got lists = go (nat_lt (tile.next + 1) (length tile.needs)) refl
           where
-            go : (x : Bool) → nat_lt (tile.next + 1) (length tile.needs) ≡ x → Next (got x tile) b
+            go : (x : Bool) → nat_lt (tile.next + 1) (length tile.needs) ≡ x → Next (tile_with_edge x tile) b
             go true test = lock_next lists (grind (arith, nat_tests, test))
             go false test = lock_last lists (grind (arith, nat_tests, test))
         tries_with (Busy j) lists = lock_busy j lists
@@ -283,7 +283,7 @@ module _ (m : MapValue) (meaning : WindowValue → ℕ → WindowValue) (start :
         gave : IsGiving m u.turns (tile_at (record tile { next = tile.next + 1 }) b) tile.needs
         gave = gave_on m tile e tile.needs a b (rises tile.needs u.needs.rising) giving.1 refl give_mine u.turns giving.2 given
 
-        give_with : (x : Bool) → nat_lt (tile.next + 1) (length tile.needs) ≡ x → Next (freed x tile) b
+        give_with : (x : Bool) → nat_lt (tile.next + 1) (length tile.needs) ≡ x → Next (tile_after_give x tile) b
         give_with true test = (
           record {
             turns = u.turns;
@@ -359,7 +359,7 @@ module _ (m : MapValue) (meaning : WindowValue → ℕ → WindowValue) (start :
         gave_back : IsGiving m u.turns (tile_at (record tile { next = tile.next + 1 }) b) had
         gave_back = gave_on m tile e had a b up less_had at_had back_mine u.turns backing.4 given
 
-        back_with : (x : Bool) → nat_lt (tile.next + 1) tile.count ≡ x → Next (freed x tile) b
+        back_with : (x : Bool) → nat_lt (tile.next + 1) tile.count ≡ x → Next (tile_after_give x tile) b
         back_with true test = (
           record {
             turns = u.turns;

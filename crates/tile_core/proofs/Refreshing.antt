@@ -23,7 +23,7 @@ use Rattle.tile_core.specs.Values.{TileValue, centre}
 use Rattle.tile_core.specs.Turns.{Turn, lists_of, with_more, one_if, own_cell, newest_at, clock_in, greatest, stamp_of, cells_of, common}
 use Rattle.tile_core.specs.Clocks.{ReadsClocks}
 use Rattle.tile_core.specs.Underway.{Onward, IsUnderway, InPhase, HasOpen, no_access, is_refreshed, tile_at}
-use Rattle.tile_core.specs.Steps.{Refreshes, WearsOut, Renews, refreshed}
+use Rattle.tile_core.specs.Steps.{Refreshes, WearsOut, Renews, tile_after_refresh}
 use Rattle.tile_core.proofs.Lists.{open_more, held_more}
 use Rattle.tile_core.proofs.Clocking.{greatest_same}
 use Rattle.tile_core.proofs.Writes.{known_open, seen_same_on}
@@ -125,7 +125,7 @@ module _ (m : MapValue) (meaning : WindowValue → ℕ → WindowValue) (start :
       clock_same : (e : ℕ) → has e tile.needs ≡ true → clock_in (r.more e) ≡ clock_in (r.more e ++ f.more e)
       clock_same e h = ap clock_in (r.is e h) ∙ sym (ap clock_in (reads_is e h))
 
-      renewed_on : top < 4294967295 → Onward (common m meaning start) attempts u.turns (tile_at (refreshed tile top copy) d)
+      renewed_on : top < 4294967295 → Onward (common m meaning start) attempts u.turns (tile_at (tile_after_refresh tile top copy) d)
       renewed_on low = (
         record {
           turns = u.turns;

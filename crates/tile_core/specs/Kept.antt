@@ -69,21 +69,21 @@ abbrev pub at : State → EndValue → TileAt
 at s end = tile_at (value_of s) end.lists
 
 -- how many entries are still due for the attempt in hand
-abbrev pub owed : Phase → ℕ
-owed Draw = 0
-owed Lock = 1
-owed Refresh = 1
-owed Behave = 1
-owed Write = 1
-owed Give = 0
-owed Back = 0
-owed Finished = 0
-owed Worn = 1
+abbrev pub entries_due : Phase → ℕ
+entries_due Draw = 0
+entries_due Lock = 1
+entries_due Refresh = 1
+entries_due Behave = 1
+entries_due Write = 1
+entries_due Give = 0
+entries_due Back = 0
+entries_due Finished = 0
+entries_due Worn = 1
 
 -- each list has room for an entry of each attempt that is in hand or left
 pub record HasRoom (s : State) : Type 0 where
-  pub records : vec_len s.records + owed s.phase + length s.attempts ≤ vec_capacity s.records
-  pub abandoned : vec_len s.abandoned + owed s.phase + length s.attempts ≤ vec_capacity s.abandoned
+  pub records : vec_len s.records + entries_due s.phase + length s.attempts ≤ vec_capacity s.records
+  pub abandoned : vec_len s.abandoned + entries_due s.phase + length s.attempts ≤ vec_capacity s.abandoned
 
 -- each list was made for this many entries, and no more
 pub record Reserves (s : State) (entries : ℕ) : Type 0 where

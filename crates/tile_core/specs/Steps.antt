@@ -17,6 +17,7 @@ use Rattle.tile_core.specs.declared.phase.Phase.TheVariants.{Draw, Lock, Refresh
 use Rattle.tile_core.specs.Values.{TileValue, centre, no_window}
 use Rattle.tile_core.specs.Clocks.{ReadsClocks, WritesClocks}
 use Rattle.tile_core.specs.Underway.{TileAt, tile_at}
+use Rattle.feast_base.specs.declared.limits.TheConstants.{LAST_STAMP}
 
 -- the phase once an attempt is over
 abbrev pub over : List Attempt → Phase
@@ -24,9 +25,9 @@ over [] = Finished
 over (a ∷ others) = Draw
 
 -- the phase of an attempt that needs these edges
-abbrev pub begun : List ℕ → Phase
-begun [] = Refresh
-begun (e ∷ es) = Lock
+abbrev pub first_phase : List ℕ → Phase
+first_phase [] = Refresh
+first_phase (e ∷ es) = Lock
 
 -- the phase after a refusal, with this many edges to give back
 abbrev pub refused_phase : ℕ → List Attempt → Phase
@@ -52,7 +53,7 @@ pub record Begins (m : MapValue) (attempt : Attempt) (old new : TileValue) : Typ
   pub site_is : site new.x new.y ≡ site_in m old.number attempt.centre
   pub owned : is_owned m old.number (site new.x new.y) ≡ true
   pub inside : in_plane m (site new.x new.y) ≡ true
-  pub is : new ≡ record old { taken = old.taken + 1; x = new.x; y = new.y; seed = attempt.seed; needs = needs_of m old.number (site new.x new.y); next = 0; phase = begun (needs_of m old.number (site new.x new.y)) }
+  pub is : new ≡ record old { taken = old.taken + 1; x = new.x; y = new.y; seed = attempt.seed; needs = needs_of m old.number (site new.x new.y); next = 0; phase = first_phase (needs_of m old.number (site new.x new.y)) }
 
 -- Draw: the next attempt is in hand
 pub record Draws (m : MapValue) (old new : TileValue) : Type 0 where
@@ -70,40 +71,40 @@ abbrev pub refused_entry : MapValue → TileValue → ℕ → ℕ → Abandoned
 refused_entry m tile edge holder_attempt = record { tile = tile.number; attempt = tile.taken - 1; x = tile.x; y = tile.y; edge = edge; holder = other_end m tile.number edge; holder_attempt = holder_attempt }
 
 -- the tile after it was refused
-abbrev pub refused : MapValue → TileValue → ℕ → ℕ → TileValue
-refused m tile edge holder_attempt = record tile { abandoned = tile.abandoned ++ refused_entry m tile edge holder_attempt ∷ []; next = 0; count = tile.next; phase = refused_phase tile.next tile.left }
+abbrev pub tile_after_refusal : MapValue → TileValue → ℕ → ℕ → TileValue
+tile_after_refusal m tile edge holder_attempt = record tile { abandoned = tile.abandoned ++ refused_entry m tile edge holder_attempt ∷ []; next = 0; count = tile.next; phase = refused_phase tile.next tile.left }
 
 -- the tile after it got an edge: there is a next one to try, or not
-abbrev pub got : Bool → TileValue → TileValue
-got true tile = record tile { next = tile.next + 1 }
-got false tile = record tile { phase = Refresh }
+abbrev pub tile_with_edge : Bool → TileValue → TileValue
+tile_with_edge true tile = record tile { next = tile.next + 1 }
+tile_with_edge false tile = record tile { phase = Refresh }
 
 -- the tile after a try got this answer
-abbrev pub tried : MapValue → TileValue → Take → TileValue
-tried m tile Got = got (nat_lt (tile.next + 1) (length tile.needs)) tile
-tried m tile (Busy holder) = refused m tile (next_edge tile) holder
+abbrev pub tile_after_try : MapValue → TileValue → Take → TileValue
+tile_after_try m tile Got = tile_with_edge (nat_lt (tile.next + 1) (length tile.needs)) tile
+tile_after_try m tile (Busy holder) = tile_after_refusal m tile (next_edge tile) holder
 
 -- Lock: one try was made, and the tile is as its answer says
 pub record Tries (m : MapValue) (end_of : ℕ → ℕ) (old new : TileAt) : Type 0 where
   pub answer : Take
   pub lists_are : new.lists ≡ replace_at old.lists (next_edge old.tile) (after_try (end_of (next_edge old.tile)) (old.tile.taken - 1) answer (old.lists (next_edge old.tile)))
-  pub is : new.tile ≡ tried m old.tile answer
+  pub is : new.tile ≡ tile_after_try m old.tile answer
 
 -- the tile after a refresh
-abbrev pub refreshed : TileValue → ℕ → CacheValue → TileValue
-refreshed tile top cache = record tile { cache = cache; event_stamp = top + 1; phase = Behave }
+abbrev pub tile_after_refresh : TileValue → ℕ → CacheValue → TileValue
+tile_after_refresh tile top cache = record tile { cache = cache; event_stamp = top + 1; phase = Behave }
 
 -- the tile is worn out, and nothing else happened
 pub record WearsOut (old new : TileValue) (top : ℕ) (between lists' : ℕ → EndLists) : Type 0 where
-  pub high : 4294967295 ≤ top
+  pub high : LAST_STAMP ≤ top
   pub lists_are : lists' ≡ between
   pub is : new ≡ record old { phase = Worn }
 
 -- the cells of the window are brought up to date
 pub record Renews (old new : TileValue) (top : ℕ) (between lists' : ℕ → EndLists) : Type 0 where
-  pub low : top < 4294967295
+  pub low : top < LAST_STAMP
   pub cells : Refreshed (centre old) old.needs (copy_at old.cache between) (copy_at new.cache lists')
-  pub is : new ≡ refreshed old top new.cache
+  pub is : new ≡ tile_after_refresh old top new.cache
 
 -- Refresh: the clocks of all needed edges are read. Then the tile is worn out if one is too great,
 -- or else the cells of the window are brought up to date.
@@ -124,8 +125,8 @@ abbrev pub event_entry : TileValue → Record
 event_entry tile = record { stamp = tile.event_stamp; tile = tile.number; attempt = tile.taken - 1; x = tile.x; y = tile.y; seed = tile.seed }
 
 -- the tile after it noted its event
-abbrev pub noted : TileValue → TileValue
-noted tile = record tile { stamp = tile.event_stamp; window = no_window; records = tile.records ++ event_entry tile ∷ []; next = 0; phase = written_phase tile.needs tile.left }
+abbrev pub tile_after_event : TileValue → TileValue
+tile_after_event tile = record tile { stamp = tile.event_stamp; window = no_window; records = tile.records ++ event_entry tile ∷ []; next = 0; phase = written_phase tile.needs tile.left }
 
 -- Write: the window is marked and published, the clocks are set, and the event is noted
 pub record Writes (m : MapValue) (old new : TileAt) : Type 0 where
@@ -133,17 +134,17 @@ pub record Writes (m : MapValue) (old new : TileAt) : Type 0 where
   pub marks : Marked (centre old.tile) old.tile.window old.tile.event_stamp old.tile.cache new.tile.cache
   pub publishes : PublishesAll (centre_of m old.tile.number (centre old.tile)) old.tile.needs (window_cells new.tile.cache (centre old.tile)) old.lists between
   pub stamps : WritesClocks old.tile.needs old.tile.event_stamp between new.lists
-  pub is : new.tile ≡ noted (record old.tile { cache = new.tile.cache })
+  pub is : new.tile ≡ tile_after_event (record old.tile { cache = new.tile.cache })
 
 -- the tile after it freed an edge: there is a next one, or not
-abbrev pub freed : Bool → TileValue → TileValue
-freed true tile = record tile { next = tile.next + 1 }
-freed false tile = record tile { phase = over tile.left }
+abbrev pub tile_after_give : Bool → TileValue → TileValue
+tile_after_give true tile = record tile { next = tile.next + 1 }
+tile_after_give false tile = record tile { phase = over tile.left }
 
 -- Give and Back: one edge is freed, one of the first `count` that are needed
 pub record Frees (count : ℕ) (old new : TileAt) : Type 0 where
   pub lists_are : new.lists ≡ replace_at old.lists (next_edge old.tile) (after_give (old.lists (next_edge old.tile)))
-  pub is : new.tile ≡ freed (nat_lt (old.tile.next + 1) count) old.tile
+  pub is : new.tile ≡ tile_after_give (nat_lt (old.tile.next + 1) count) old.tile
 
 -- nothing happened
 pub record Rests (old new : TileAt) : Type 0 where

@@ -16,11 +16,12 @@ use Rattle.edge_lock.specs.History.{found_value}
 use Rattle.edge_lock.specs.EndLists.{EndLists, end_lists, refusal_of, hold_of, writes_nothing}
 use Rattle.border_cache.specs.Cells.{CellValue, cell_value, newest}
 use Rattle.border_cache.specs.Accesses.{last_write, is_read}
-use Rattle.border_cache.specs.News.{Border, Covers, is_news, Finds, FindsCell, no_cell}
+use Rattle.border_cache.specs.News.{WindowBorder, Covers, is_news, Finds, FindsCell, no_cell}
 use Rattle.border_cache.specs.Published.{across, IsWordMarked, LeavesCell, IsPublished}
 use Rattle.border_cache.specs.Windows.{has, end_at, border_at, seen_on, IsView}
 use Rattle.border_cache.specs.Copies.{IsCentre}
 use Rattle.tile_core.specs.Values.{event_site, given_up_site}
+use Rattle.feast_base.specs.declared.limits.TheConstants.{LAST_STAMP}
 
 -- what all tiles of a run have in common: the plane, what an event makes of a window, and the atoms at the start
 pub record Common : Type 0 where
@@ -127,7 +128,7 @@ greatest n f [] = n
 greatest n f (e ∷ es) = greatest (max n (f e)) f es
 
 -- what a hold of an event found and left on an edge, some of whose places the window covers; register 0 is the clock
-pub record IsEventHold (b : Border) (cells : ℕ → CellValue) (stamp : ℕ) (accesses : List Access) : Type 0 where
+pub record IsEventHold (b : WindowBorder) (cells : ℕ → CellValue) (stamp : ℕ) (accesses : List Access) : Type 0 where
   pub clock : Finds accesses 0
   pub stamped : last_write accesses 0 None ≡ Some stamp
   -- the news words of both ends were found; the covered places are left as no news for the own end, and as news for the other
@@ -179,7 +180,7 @@ pub record IsWon (c : Common) (t : ℕ) (past : List Turn) (w : Won) : Type 0 wh
   pub holds : (e : ℕ) → has e (turn_edges c.map t (Wins w)) ≡ true
       → IsEventHold (border_at c.map t (event_site w.note) e) (cell_left c.map w) w.note.stamp (accesses_at w e)
   pub stamp : w.note.stamp ≡ 1 + greatest (stamp_of past) (λ e. clock_in (accesses_at w e)) (turn_edges c.map t (Wins w))
-  pub small : w.note.stamp ≤ 4294967295
+  pub small : w.note.stamp ≤ LAST_STAMP
   pub view : WindowValue
   pub shows : IsView c.map (event_site w.note) (newest_at c.map t (cells_of c.map c.start past) (event_site w.note) (accesses_at w)) view
   pub acts : (n : ℕ) (s : Site) → n < 41 → window_site c.map (event_site w.note) n ≡ Some s → w.after s ≡ atom_at (c.meaning view w.note.seed) n
@@ -201,7 +202,7 @@ pub record IsLost (m : MapValue) (t : ℕ) (past : List Turn) (l : Lost) : Type 
 pub record IsWorn (m : MapValue) (t : ℕ) (past : List Turn) (w : Worn) : Type 0 where
   pub centre : IsCentre m t w.site
   pub holds : (e : ℕ) → has e (turn_edges m t (Wears w)) ≡ true → ((w.hold e).end ≡ end_at m t e) × ((w.hold e).attempt ≡ length past) × IsSilent (w.hold e) × Finds (w.hold e).accesses 0
-  pub high : 4294967295 ≤ greatest (stamp_of past) (λ e. clock_in (w.hold e).accesses) (turn_edges m t (Wears w))
+  pub high : LAST_STAMP ≤ greatest (stamp_of past) (λ e. clock_in (w.hold e).accesses) (turn_edges m t (Wears w))
 
 -- the attempt became this, after those of the past
 abbrev pub IsTurn : Common → ℕ → List Turn → Turn → Type 0

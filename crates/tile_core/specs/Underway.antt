@@ -5,6 +5,7 @@ use Rattle.bit_field.specs.Atom.{AtomValue}
 use Rattle.window_sites.specs.Window.{WindowValue, atom_at}
 use Rattle.tile_map.specs.Plane.{Site, MapValue, tiles_of, is_on, is_held, in_window}
 use Rattle.tile_map.specs.Edges.{window_site, needs_of, has_end}
+use Rattle.tile_map.specs.declared.limits.TheConstants.{MOST_NEEDS}
 use Rattle.draw_stream.specs.declared.attempt.Attempt.{Attempt}
 use Rattle.edge_lock.specs.declared.history.Access.{Access}
 use Rattle.edge_lock.specs.declared.history.Access.TheVariants.{Read}
@@ -18,6 +19,7 @@ use Rattle.tile_core.specs.declared.phase.Phase.{Phase}
 use Rattle.tile_core.specs.declared.phase.Phase.TheVariants.{Draw, Lock, Refresh, Behave, Write, Give, Back, Finished, Worn}
 use Rattle.tile_core.specs.Values.{TileValue, centre}
 use Rattle.tile_core.specs.Turns.{Common, common, Made, made_of, HasPlayed, Turn, Wins, Loses, Wears, AreTurns, AreAttempts, IsAttemptAt, Wearless, turn_edges, AgreeOnEdges, lists_of, lists_left, with_more, one_if, cells_of, stamp_of, clock_in, greatest, records_in_turns, abandoned_in_turns, newest_at}
+use Rattle.feast_base.specs.declared.limits.TheConstants.{LAST_STAMP, MOST_ATTEMPTS}
 
 -- a tile at a moment, with the lists of its end of each edge
 pub record TileAt : Type 0 where
@@ -54,12 +56,12 @@ pub record IsRead (m : MapValue) (tile : TileValue) (accesses : ℕ → List Acc
 pub record IsSpent (turns : List Turn) (tile : TileValue) (accesses : ℕ → List Access) : Type 0 where
   pub clock : ℕ → ℕ
   pub is : (e : ℕ) → has e tile.needs ≡ true → accesses e ≡ Read 0 (clock e) ∷ []
-  pub high : 4294967295 ≤ greatest (stamp_of turns) (λ e. clock_in (accesses e)) tile.needs
+  pub high : LAST_STAMP ≤ greatest (stamp_of turns) (λ e. clock_in (accesses e)) tile.needs
 
 -- the event's stamp is known, and the cells of the window are up to date
 pub record IsUpToDate (c : Common) (turns : List Turn) (tile : TileValue) (accesses : ℕ → List Access) : Type 0 where
   pub stamp : tile.event_stamp ≡ 1 + greatest (stamp_of turns) (λ e. clock_in (accesses e)) tile.needs
-  pub small : tile.event_stamp ≤ 4294967295
+  pub small : tile.event_stamp ≤ LAST_STAMP
   pub cells : (n : ℕ) (s : Site) → n < 41 → window_site c.map (centre tile) n ≡ Some s
       → held_cell tile.cache s ≡ newest_at c.map tile.number (cells_of c.map c.start turns) (centre tile) accesses n
 
@@ -68,7 +70,7 @@ pub record IsRun (c : Common) (turns : List Turn) (tile : TileValue) (accesses :
   pub after : Site → AtomValue
   pub view : WindowValue
   pub stamp : tile.event_stamp ≡ 1 + greatest (stamp_of turns) (λ e. clock_in (accesses e)) tile.needs
-  pub small : tile.event_stamp ≤ 4294967295
+  pub small : tile.event_stamp ≤ LAST_STAMP
   pub shows : IsView c.map (centre tile) (newest_at c.map tile.number (cells_of c.map c.start turns) (centre tile) accesses) view
   pub acts : (n : ℕ) (s : Site) → n < 41 → window_site c.map (centre tile) n ≡ Some s → after s ≡ atom_at (c.meaning view tile.seed) n
   pub left : (n : ℕ) (s : Site) → n < 41 → window_site c.map (centre tile) n ≡ Some s → after s ≡ atom_at tile.window n
@@ -146,13 +148,13 @@ is_refreshed Worn = false
 -- the edges of the last attempt that was drawn
 pub record AreNeeds (m : MapValue) (t : ℕ) (needs : List ℕ) : Type 0 where
   pub rising : IsStrictlyIncreasing needs
-  pub few : length needs ≤ 8
+  pub few : length needs ≤ MOST_NEEDS
   pub ends : (e : ℕ) → has e needs ≡ true → has_end m t e ≡ true
 
 -- the attempts of a tile of the plane: at most 1,000,000, each with a centre in the tile's rectangle; a tile that is off has none
 pub record CanAttempt (m : MapValue) (t : ℕ) (attempts : List Attempt) : Type 0 where
   pub inside : t < tiles_of m
-  pub few : length attempts ≤ 1000000
+  pub few : length attempts ≤ MOST_ATTEMPTS
   pub centres : (n : ℕ) (a : Attempt) → slice_get attempts n ≡ Some a → a.centre < m.w * m.h
   pub on : (attempts ≡ []) ⊎ (is_on m t ≡ true)
 

@@ -8,9 +8,11 @@ ghost use Rattle.tile_core.specs.declared.phase.Phase.TheVariants.{Draw, Lock, R
 ghost use Rattle.edge_lock.specs.EndLists.{EndLists};
 ghost use Rattle.edge_lock.specs.EndValues.{SameEnd};
 ghost use Rattle.tile_core.specs.Underway.{IsSome, CanAttempt, IsFreshTile};
-ghost use Rattle.tile_core.specs.Steps.{rules_of, StepsIn, over, Begins, Draws, Tries, Refreshes, Behaves, Writes, Frees, got, refused, noted};
+ghost use Rattle.tile_core.specs.Steps.{rules_of, StepsIn, over, Begins, Draws, Tries, Refreshes, Behaves, Writes, Frees, tile_with_edge, tile_after_refusal, tile_after_event};
 ghost use Rattle.tile_core.specs.Values.{atoms_of};
-ghost use Rattle.tile_core.specs.Kept.{value_of, at, owed, IsIn, HasRoom, Reserves, LeavesMarks};
+ghost use Rattle.tile_core.specs.Kept.{value_of, at, entries_due, IsIn, HasRoom, Reserves, LeavesMarks};
+ghost use Rattle.feast_base.specs.declared.limits.TheConstants.{MOST_ATTEMPTS};
+ghost use Rattle.tile_map.specs.declared.limits.TheConstants.{MOST_NEEDS};
 
 use crate::clocks::{read_clocks, write_clocks};
 use crate::phase::Phase;
@@ -20,13 +22,10 @@ use cell_grid::{Behave, Grid, Record};
 use draw_stream::{Attempt, Attempts};
 use edge_lock::{Board, Take};
 use event_journal::Abandoned;
-use feast_base::NoMemory;
+use feast_base::{LAST_STAMP, NoMemory};
 use std::alloc::Global;
 use tile_map::{Map, Needs};
 use window_sites::Window;
-
-/// The greatest stamp.
-const LAST_STAMP: u64 = 4294967295;
 
 /// What a tile keeps.
 #[derive(Drop)]
@@ -63,7 +62,7 @@ fn other_end(map: &Map, tile: u32, edge: u32) -> u32
 /// The phase once an attempt is over, by the attempts that are left.
 fn over(attempts: &Attempts) -> Phase
     ensures phase { result ≡ over attempts.now }
-    ensures owed { owed result ≡ 0 }
+    ensures owed { entries_due result ≡ 0 }
 {
     if attempts.left() == 0 {
         Phase::Finished
@@ -187,18 +186,18 @@ impl State {
     {
         let edge = self.needs.edge(self.next);
         match board.try_take(edge, self.taken - 1) {
-            Take::Got => self.got(),
-            Take::Busy { holder_attempt } => self.refused(map, edge, holder_attempt),
+            Take::Got => self.pass_edge(),
+            Take::Busy { holder_attempt } => self.note_refusal(map, edge, holder_attempt),
         }
     }
 
     /// Goes on after an edge was got: to the next one, or to the refresh after the last.
-    fn got(&mut self)
+    fn pass_edge(&mut self)
         requires next { self.old.next < length self.old.needs }
-        requires few { length self.old.needs ≤ 8 }
+        requires few { length self.old.needs ≤ MOST_NEEDS }
         requires phase { self.old.phase ≡ Lock }
         requires room { HasRoom self.old }
-        ensures got { value_of self.new ≡ got (nat_lt (self.old.next + 1) (length self.old.needs)) (value_of self.old) }
+        ensures got { value_of self.new ≡ tile_with_edge (nat_lt (self.old.next + 1) (length self.old.needs)) (value_of self.old) }
         ensures room { HasRoom self.new }
     {
         if self.next + 1 < self.needs.len() {
@@ -209,12 +208,12 @@ impl State {
     }
 
     /// Notes that the attempt was refused at an edge.
-    fn refused(&mut self, map: &Map, edge: u32, holder_attempt: u64)
+    fn note_refusal(&mut self, map: &Map, edge: u32, holder_attempt: u64)
         requires edge { edge < length (pairs_of map.now) }
         requires taken { 1 ≤ self.old.taken }
         requires phase { self.old.phase ≡ Lock }
         requires room { HasRoom self.old }
-        ensures refused { value_of self.new ≡ refused map.now (value_of self.old) edge holder_attempt }
+        ensures refused { value_of self.new ≡ tile_after_refusal map.now (value_of self.old) edge holder_attempt }
         ensures room { HasRoom self.new }
     {
         let entry = Abandoned {
@@ -254,11 +253,11 @@ impl State {
         requires tile { self.old.number < tiles_of map.now }
         requires centre { attempt.centre < map.now.w * map.now.h }
         requires phase { self.old.phase ≡ Draw }
-        requires taken { self.old.taken < 1000000 }
+        requires taken { self.old.taken < MOST_ATTEMPTS }
         ensures begins { Begins map.now attempt (value_of self.old) (value_of self.new) }
         ensures records { self.new.records ≡ self.old.records }
         ensures abandoned { self.new.abandoned ≡ self.old.abandoned }
-        ensures owed { owed self.new.phase ≡ 1 }
+        ensures owed { entries_due self.new.phase ≡ 1 }
     {
         let (x, y) = map.site_of(self.number, attempt.centre);
         self.x = x;
@@ -326,7 +325,7 @@ impl State {
         self.mark(map);
         self.cache.publish(map, self.x, self.y, &self.needs, board);
         write_clocks(&self.needs, u64::from(self.event_stamp), board);
-        self.noted();
+        self.note_event();
     }
 
     /// Gives the sites of the window what the event left, and its stamp.
@@ -345,11 +344,11 @@ impl State {
     }
 
     /// Notes the event.
-    fn noted(&mut self)
+    fn note_event(&mut self)
         requires taken { 1 ≤ self.old.taken }
         requires phase { self.old.phase ≡ Write }
         requires room { HasRoom self.old }
-        ensures noted { value_of self.new ≡ noted (value_of self.old) }
+        ensures noted { value_of self.new ≡ tile_after_event (value_of self.old) }
         ensures room { HasRoom self.new }
     {
         let entry = Record {

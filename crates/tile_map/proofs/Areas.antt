@@ -7,7 +7,7 @@ use Rattle.tile_map.specs.declared.span.Area.{Area}
 use Rattle.tile_map.specs.Plane.{Site, MapValue, IsMap, site, is_live}
 use Rattle.tile_map.specs.Spans.{place_within}
 use Rattle.tile_map.specs.Edges.{pairs_of, pair_at, shared_of}
-use Rattle.tile_map.specs.Tables.{sites_in, live_in, number_of, SharedValue, area_both, shared_both, IsWholeArea, IsSharedArea}
+use Rattle.tile_map.specs.Tables.{sites_in, live_in, site_number, SharedValue, area_both, shared_both, IsWholeArea, IsSharedArea}
 use Rattle.tile_map.proofs.Blocks.{block_order, row_column}
 use Rattle.tile_map.proofs.Numbers.{area_site, area_place, area_places, within_test}
 use Rattle.tile_map.proofs.Pairs.{edge_joined}
@@ -46,13 +46,13 @@ shared_area m k e v o lt is w = go o w
     )
 
 -- the number of a site among those of an area is its place
-pub area_number : (a : Area) (x y : ℕ) → number_of (sites_in a) (site x y) ≡ place_within a.columns.first a.columns.end a.rows.first a.rows.end x y
+pub area_number : (a : Area) (x y : ℕ) → site_number (sites_in a) (site x y) ≡ place_within a.columns.first a.columns.end a.rows.first a.rows.end x y
 area_number a x y = go (place_within a.columns.first a.columns.end a.rows.first a.rows.end x y) refl
   where
     n : ℕ
     n = a.columns.end - a.columns.first
 
-    none : place_within a.columns.first a.columns.end a.rows.first a.rows.end x y ≡ None → (o : Option ℕ) → number_of (sites_in a) (site x y) ≡ o → o ≡ None
+    none : place_within a.columns.first a.columns.end a.rows.first a.rows.end x y ≡ None → (o : Option ℕ) → site_number (sites_in a) (site x y) ≡ o → o ≡ None
     none h None is = refl
     none h (Some k) is =
         let p = number_place (sites_in a) (site x y) k is in
@@ -64,8 +64,8 @@ area_number a x y = go (place_within a.columns.first a.columns.end a.rows.first 
         let inside = within_test a.columns.first a.columns.end a.rows.first a.rows.end x y (omega (arith, u)) (omega (arith, u, r.2)) (omega (arith, v)) (omega (arith, v, r.1)) in
         absurd (none-some _ (sym h ∙ ap (λ b. if b then Some ((y - a.rows.first) * n + (x - a.columns.first)) else None) inside))
 
-    go : (o : Option ℕ) → place_within a.columns.first a.columns.end a.rows.first a.rows.end x y ≡ o → number_of (sites_in a) (site x y) ≡ o
-    go None h = none h (number_of (sites_in a) (site x y)) refl
+    go : (o : Option ℕ) → place_within a.columns.first a.columns.end a.rows.first a.rows.end x y ≡ o → site_number (sites_in a) (site x y) ≡ o
+    go None h = none h (site_number (sites_in a) (site x y)) refl
     go (Some k) h =
         let p = area_place a x y k (site x y) h in
         number_at_place (sites_in a) k (site x y) (block_order a.columns.first n a.rows.first (a.rows.end - a.rows.first)) p.0 p.1

@@ -6,7 +6,7 @@ use Rattle.std.specs.Int.RustNames.{unsigned_abs}
 use Rattle.std.proofs.lemmas.Bool.Decides.{nat_tests}
 use Rattle.std.proofs.lemmas.List.Folds.{list_any_at}
 use Rattle.std.proofs.lemmas.List.FromFn.{length-range_with_len, get_or-range_with_len}
-use Rattle.window_sites.specs.Sites.{distance, offset_of, shifted}
+use Rattle.window_sites.specs.Sites.{distance, offset_of, shift}
 use Rattle.window_sites.proofs.Offsets.{offset-near, offset-found}
 use Rattle.list_laws.proofs.Entries.{any_get}
 use Rattle.std.proofs.lemmas.Nat.{rows}
@@ -23,10 +23,10 @@ offset_to x u = if nat_le x u then pos (u - x) else negsuc (x - u - 1)
 pub offset_to-abs : (x u : ℕ) → unsigned_abs (offset_to x u) ≡ apart x u
 offset_to-abs x u = grind (arith, nat_tests)
 
-pub shifted-offset_to : (x u : ℕ) → shifted x (offset_to x u) ≡ Some u
+pub shifted-offset_to : (x u : ℕ) → shift x (offset_to x u) ≡ Some u
 shifted-offset_to x u = grind (arith, nat_tests)
 
-pub shifted-apart : (x u : ℕ) (d : ℤ) → shifted x d ≡ Some u → apart x u ≡ unsigned_abs d
+pub shifted-apart : (x u : ℕ) (d : ℤ) → shift x d ≡ Some u → apart x u ≡ unsigned_abs d
 shifted-apart x u (pos d) h = grind (arith, nat_tests, h)
 shifted-apart x u (negsuc d) h = grind (arith, nat_tests, h)
 
@@ -49,7 +49,7 @@ live_site_of m s h = ap (λ b. if b then Some s else None) h
 -- a live site of a window by its number is in the window
 pub window_site-near : (m : MapValue) (c s : Site) (n : ℕ) → n ≤ 40 → window_site m c n ≡ Some s → in_window m c s ≡ true
 window_site-near m c s n h e =
-    let from = live_site_from m (shifted c.x (offset_of n).0) (shifted c.y (offset_of n).1) s e in
+    let from = live_site_from m (shift c.x (offset_of n).0) (shift c.y (offset_of n).1) s e in
     let x = shifted-apart c.x s.x (offset_of n).0 from.0 in
     let y = shifted-apart c.y s.y (offset_of n).1 from.1 in
     let near : apart c.x s.x + apart c.y s.y ≤ 4 = omega (arith, x, y, offset-near n h) in
@@ -65,7 +65,7 @@ window_site-found m c s h =
     let n = offset-found o close in (
       n.0,
       n.1,
-      ap (λ (p : ℤ × ℤ). live_site m (shifted c.x p.0) (shifted c.y p.1)) n.2
+      ap (λ (p : ℤ × ℤ). live_site m (shift c.x p.0) (shift c.y p.1)) n.2
           ∙ (λ i. live_site m (shifted-offset_to c.x s.x i) (shifted-offset_to c.y s.y i))
           ∙ live_site_of m s parts.0,
     )

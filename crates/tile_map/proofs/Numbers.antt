@@ -14,7 +14,7 @@ use Rattle.tile_map.specs.declared.span.Area.{Area}
 use Rattle.tile_map.specs.Plane.{Site, MapValue, IsMap, site, tiles_of, sites_of, is_live, is_held}
 use Rattle.tile_map.specs.Spans.{left_both, right_both, top_both, bottom_both, is_within, place_within}
 use Rattle.tile_map.specs.Edges.{pairs_of, pair_at, shared_of, register_of}
-use Rattle.tile_map.specs.Tables.{sites_in, live_in, number_of, SharedValue, number_at, area_both, shared_both}
+use Rattle.tile_map.specs.Tables.{sites_in, live_in, site_number, SharedValue, number_at, area_both, shared_both}
 use Rattle.tile_map.proofs.Spans.{held_span}
 use Rattle.tile_map.proofs.Blocks.{block_length, block_get, block_at, block_order, IsBefore}
 use Rattle.tile_map.proofs.Pairs.{edge_joined}
@@ -33,12 +33,12 @@ area_site a k d lt =
 
 -- one place more
 pub record Counted (m : MapValue) (a : Area) (found : List (Option ℕ)) (live k : ℕ) : Type 0 where
-  pub numbers : found ≡ map (number_of (live_in m a)) (take k (sites_in a))
+  pub numbers : found ≡ map (site_number (live_in m a)) (take k (sites_in a))
   pub count : live ≡ length (filter (is_live m) (take k (sites_in a)))
 
 -- the number of the site at a place
 number_here : (m : MapValue) (a : Area) (k : ℕ) (s : Site) (b : Bool) → k < length (sites_in a) → get_or (sites_in a) k s ≡ s → is_live m s ≡ b →
-    number_of (live_in m a) s ≡ (if b then Some (length (filter (is_live m) (take k (sites_in a)))) else None)
+    site_number (live_in m a) s ≡ (if b then Some (length (filter (is_live m) (take k (sites_in a)))) else None)
 number_here m a k s true lt at live =
     let p = filter_place (is_live m) (sites_in a) k s lt (ap (is_live m) at ∙ live) in
     number_at_place (live_in m a) (length (filter (is_live m) (take k (sites_in a)))) s
@@ -57,7 +57,7 @@ pub counted_more : (m : MapValue) (a : Area) (k : ℕ) (s : Site) (b : Bool) (ol
     Counted m a old n k → new ≡ old ++ (if b then Some n else None) ∷ [] → n' ≡ n + cond b 1 0 → Counted m a new n' (k + 1)
 counted_more m a k s b old new n n' lt at live c grows rises =
     let ss = sites_in a in
-    let f = number_of (live_in m a) in
+    let f = site_number (live_in m a) in
     let more : take (k + 1) ss ≡ take k ss ++ s ∷ [] = take_more ss k s lt ∙ ap (λ q. take k ss ++ q ∷ []) at in
     record {
       numbers =
@@ -75,10 +75,10 @@ pub counted_low : (m : MapValue) (a : Area) (numbers : List (Option ℕ)) (count
 counted_low m a numbers count k c le = omega (arith, c.count, filter_short (is_live m) (take k (sites_in a)), length-take k (sites_in a))
 
 -- after all places
-pub counted_all : (m : MapValue) (a : Area) (numbers : List (Option ℕ)) (count k : ℕ) → Counted m a numbers count k → length (sites_in a) ≡ k → (numbers ≡ map (number_of (live_in m a)) (sites_in a)) × (count ≡ length (live_in m a))
+pub counted_all : (m : MapValue) (a : Area) (numbers : List (Option ℕ)) (count k : ℕ) → Counted m a numbers count k → length (sites_in a) ≡ k → (numbers ≡ map (site_number (live_in m a)) (sites_in a)) × (count ≡ length (live_in m a))
 counted_all m a numbers count k c whole =
     let all : take k (sites_in a) ≡ sites_in a = take_all k (sites_in a) (omega (arith, whole)) in
-    (c.numbers ∙ ap (map (number_of (live_in m a))) all, c.count ∙ ap (λ l. length (filter (is_live m) l)) all)
+    (c.numbers ∙ ap (map (site_number (live_in m a))) all, c.count ∙ ap (λ l. length (filter (is_live m) l)) all)
 
 -- what it means to be in a rectangle
 pub within_facts : (l r t b x y : ℕ) → is_within l r t b x y ≡ true → (l ≤ x) × (x < r) × (t ≤ y) × (y < b)
@@ -130,18 +130,18 @@ get_or-map f (x ∷ xs) zero a b lt = refl
 get_or-map f (x ∷ xs) (suc k) a b lt = get_or-map f xs k a b (omega arith)
 
 -- the number that the places give is the one among the shared sites
-pub number_read : (m : MapValue) → IsMap m → (e x y : ℕ) (v : SharedValue) → e < length (pairs_of m) → v ≡ shared_both m (pair_at m e) → number_at v x y ≡ number_of (shared_of m e) (site x y)
+pub number_read : (m : MapValue) → IsMap m → (e x y : ℕ) (v : SharedValue) → e < length (pairs_of m) → v ≡ shared_both m (pair_at m e) → number_at v x y ≡ site_number (shared_of m e) (site x y)
 number_read m valid e x y v lt is = ap (λ w. number_at w x y) is ∙ go (place_within (left_both m (pair_at m e)) (right_both m (pair_at m e)) (top_both m (pair_at m e)) (bottom_both m (pair_at m e)) x y) refl
   where
     go : (o : Option ℕ) → place_within (left_both m (pair_at m e)) (right_both m (pair_at m e)) (top_both m (pair_at m e)) (bottom_both m (pair_at m e)) x y ≡ o →
-        option_and_then (λ k. get_or (map (number_of (live_in m (area_both m (pair_at m e)))) (sites_in (area_both m (pair_at m e)))) k None) o ≡ number_of (shared_of m e) (site x y)
+        option_and_then (λ k. get_or (map (site_number (live_in m (area_both m (pair_at m e)))) (sites_in (area_both m (pair_at m e)))) k None) o ≡ site_number (shared_of m e) (site x y)
     go None h = sym (number_none (λ s. is_held m (pair_at m e).0 s && is_held m (pair_at m e).1 s) (sites_of m) (site x y) (area_none m (pair_at m e) x y h))
     go (Some k) h =
         let a = area_both m (pair_at m e) in
         let p = area_place a x y k (site x y) h in
-        get_or-map (number_of (live_in m a)) (sites_in a) k (site x y) None p.0
-        ∙ ap (number_of (live_in m a)) p.1
-        ∙ ap (λ ss. number_of ss (site x y)) (sym (shared_live m valid (pair_at m e) (edge_joined m e lt)))
+        get_or-map (site_number (live_in m a)) (sites_in a) k (site x y) None p.0
+        ∙ ap (site_number (live_in m a)) p.1
+        ∙ ap (λ ss. site_number ss (site x y)) (sym (shared_live m valid (pair_at m e) (edge_joined m e lt)))
 
 -- what a map reads of an edge's sites
 pub table_read : (m n : MapValue) (items : List SharedValue) (e : ℕ) (v : SharedValue) → n ≡ m → items ≡ map (shared_both n) (pairs_of n) → e < length (pairs_of m) → v ≡ get_or items e v → v ≡ shared_both m (pair_at m e)

@@ -11,7 +11,7 @@ use Rattle.std.proofs.lemmas.Option.{same_Some, slice_get-get_or, slice_get_with
 use Rattle.list_laws.proofs.Members.{InOrder, order-filter, order-pairs}
 use Rattle.tile_map.specs.Plane.{Site, MapValue, site, sites_of, is_held}
 use Rattle.tile_map.specs.Edges.{pair_at, shared_of, register_of}
-use Rattle.tile_map.specs.Tables.{number_of}
+use Rattle.tile_map.specs.Tables.{site_number}
 use Rattle.tile_map.proofs.Blocks.{IsBefore, block_order}
 
 -- whether a site is the one at (u, v)
@@ -44,7 +44,7 @@ position_of_len p xs i e lt =
     ap (λ b. cond b (Some (position_or_len p xs)) None) test ∙ ap Some e
 
 -- in a list of sites in order each has the number of its place
-pub number_at_place : (ss : List Site) (k : ℕ) (s : Site) → InOrder IsBefore ss → k < length ss → get_or ss k s ≡ s → number_of ss s ≡ Some k
+pub number_at_place : (ss : List Site) (k : ℕ) (s : Site) → InOrder IsBefore ss → k < length ss → get_or ss k s ≡ s → site_number ss s ≡ Some k
 number_at_place ss k s order lt at =
     let upto : k ≤ length ss = omega (arith, lt) in
     let apart : AllPairs IsBefore ss = order-pairs IsBefore ss order in
@@ -60,7 +60,7 @@ position_none p xs d h =
     ap (λ b. cond b (Some (position_or_len p xs)) None) test
 
 -- a site that does not pass a test has no number among those that do
-pub number_none : (p : Site → Bool) (ss : List Site) (s : Site) → p s ≡ false → number_of (filter p ss) s ≡ None
+pub number_none : (p : Site → Bool) (ss : List Site) (s : Site) → p s ≡ false → site_number (filter p ss) s ≡ None
 number_none p ss s out = position_none (is_site s.x s.y) (filter p ss) s fails
   where
     fails : (k : ℕ) → k < length (filter p ss) → is_site s.x s.y (get_or (filter p ss) k s) ≡ false
@@ -72,7 +72,7 @@ number_none p ss s out = position_none (is_site s.x s.y) (filter p ss) s fails
             cc (ap p (site_same s (get_or (filter p ss) k s) h), passes, out)
 
 -- what has a number stands there
-pub number_place : (ss : List Site) (s : Site) (k : ℕ) → number_of ss s ≡ Some k → (k < length ss) × (slice_get ss k ≡ Some s)
+pub number_place : (ss : List Site) (s : Site) (k : ℕ) → site_number ss s ≡ Some k → (k < length ss) × (slice_get ss k ≡ Some s)
 number_place ss s k is =
     let p = position-Some (is_site s.x s.y) ss k s is in
     (p.0, slice_get-get_or ss k s p.0 ∙ ap Some (site_same s (get_or ss k s) p.1))
@@ -81,7 +81,7 @@ number_place ss s k is =
 pub shared_order : (m : MapValue) (e : ℕ) → InOrder IsBefore (shared_of m e)
 shared_order m e = order-filter IsBefore (λ s. is_held m (pair_at m e).0 s && is_held m (pair_at m e).1 s) (sites_of m) (block_order 0 (m.tx * m.w) 0 (m.ty * m.h))
 
-shared_number : (m : MapValue) (e k : ℕ) (s : Site) → slice_get (shared_of m e) k ≡ Some s → number_of (shared_of m e) s ≡ Some k
+shared_number : (m : MapValue) (e k : ℕ) (s : Site) → slice_get (shared_of m e) k ≡ Some s → site_number (shared_of m e) s ≡ Some k
 shared_number m e k s h = number_at_place (shared_of m e) k s (shared_order m e) (slice_get_within (shared_of m e) k s h) (get_or_from_slice_get (shared_of m e) k s s h)
 
 -- a site is shared once
@@ -94,8 +94,8 @@ register_found m e k s h = ap (option_map (λ k. 1 + 2 * k)) (shared_number m e 
 
 -- what has a register is shared
 pub register_shared : (m : MapValue) (e r : ℕ) (s : Site) → register_of m e s ≡ Some r → (k : ℕ) × (slice_get (shared_of m e) k ≡ Some s) × (r ≡ 1 + 2 * k)
-register_shared m e r s h = go (number_of (shared_of m e) s) refl h
+register_shared m e r s h = go (site_number (shared_of m e) s) refl h
   where
-    go : (o : Option ℕ) → number_of (shared_of m e) s ≡ o → option_map (λ k. 1 + 2 * k) o ≡ Some r → (k : ℕ) × (slice_get (shared_of m e) k ≡ Some s) × (r ≡ 1 + 2 * k)
+    go : (o : Option ℕ) → site_number (shared_of m e) s ≡ o → option_map (λ k. 1 + 2 * k) o ≡ Some r → (k : ℕ) × (slice_get (shared_of m e) k ≡ Some s) × (r ≡ 1 + 2 * k)
     go None is q = absurd (cc (q))
     go (Some k) is q = (k, (number_place (shared_of m e) s k is).1, same_Some r (1 + 2 * k) (sym q))

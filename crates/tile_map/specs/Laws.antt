@@ -4,6 +4,7 @@ use Rattle.std.specs.List.Sorted.{IsStrictlyIncreasing}
 use Rattle.tile_map.specs.Plane.{Site, MapValue, tiles_of, is_on, is_live, sites_of, is_owned, owner_of, site_in, is_held, in_window}
 use Rattle.tile_map.specs.Spans.{left_of, right_of, top_of, bottom_of}
 use Rattle.tile_map.specs.Edges.{pairs_of, low_end, high_end, shared_of, register_of, window_site, needs_of}
+use Rattle.tile_map.specs.declared.limits.TheConstants.{MOST_EDGES, MOST_NEEDS}
 
 -- the edge is one between t and u
 abbrev pub Joins : MapValue → ℕ → ℕ → ℕ → Type 0
@@ -40,7 +41,7 @@ pub record HasWindows (m : MapValue) : Type 0 where
 
 -- the edges
 pub record HasEdges (m : MapValue) : Type 0 where
-  pub few : length (pairs_of m) ≤ 210
+  pub few : length (pairs_of m) ≤ MOST_EDGES
   pub sorted : AllPairs IsLower (pairs_of m)
   pub ends : (e : ℕ) → e < length (pairs_of m) → (low_end m e < high_end m e) × (high_end m e < tiles_of m)
   pub on : (e : ℕ) → e < length (pairs_of m) → (is_on m (low_end m e) ≡ true) × (is_on m (high_end m e) ≡ true)
@@ -61,7 +62,7 @@ pub record HasRegisters (m : MapValue) : Type 0 where
 
 -- the edges that an event needs
 pub record HasNeeds (m : MapValue) : Type 0 where
-  pub few : (t : ℕ) (c : Site) → t < tiles_of m → length (needs_of m t c) ≤ 8
+  pub few : (t : ℕ) (c : Site) → t < tiles_of m → length (needs_of m t c) ≤ MOST_NEEDS
   pub rising : (t : ℕ) (c : Site) → IsStrictlyIncreasing (needs_of m t c)
   -- a live site of the window that another tile holds makes the edge to that tile needed
   pub needed : (c s : Site) (u : ℕ) → is_live m c ≡ true → in_window m c s ≡ true → owner_of m c ≢ u → is_held m u s ≡ true →

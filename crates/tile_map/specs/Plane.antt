@@ -1,6 +1,7 @@
 -- The plane: tx by ty tiles of w by h sites each, some of them off, their rectangles, and what a tile owns and holds.
 use Rattle.std.specs.Prelude.{ℕ, ◌≡◌, ◌≤◌, ◌+◌, ◌-◌, ◌*◌, ◌/◌, ◌%◌, List, Bool, false, not, ◌&&◌, nat_le, nat_lt, length, map, flat_map, replicate, slice_index_or}
 use Rattle.std.specs.List.{range_with_len}
+use Rattle.tile_map.specs.declared.limits.TheConstants.{LEAST_SIDE, MOST_ACROSS, MOST_SIDE}
 
 -- a site: x grows east, y grows south
 pub record Site : Type 0 where
@@ -18,13 +19,13 @@ pub record MapValue : Type 0 where
 -- 1 to 8 tiles each way, of 8 to 64 sites each way
 pub record AreSizes (tx ty w h : ℕ) : Type 0 where
   pub tx_low : 1 ≤ tx
-  pub tx_high : tx ≤ 8
+  pub tx_high : tx ≤ MOST_ACROSS
   pub ty_low : 1 ≤ ty
-  pub ty_high : ty ≤ 8
-  pub w_low : 8 ≤ w
-  pub w_high : w ≤ 64
-  pub h_low : 8 ≤ h
-  pub h_high : h ≤ 64
+  pub ty_high : ty ≤ MOST_ACROSS
+  pub w_low : LEAST_SIDE ≤ w
+  pub w_high : w ≤ MOST_SIDE
+  pub h_low : LEAST_SIDE ≤ h
+  pub h_high : h ≤ MOST_SIDE
 
 -- the sizes of a plane, and one mark for each tile
 pub record IsMap (m : MapValue) : Type 0 where

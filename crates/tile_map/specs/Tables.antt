@@ -8,6 +8,7 @@ use Rattle.tile_map.specs.declared.span.TileAreas.{TileAreas}
 use Rattle.tile_map.specs.Plane.{Site, MapValue, IsMap, site, tiles_of, is_live}
 use Rattle.tile_map.specs.Spans.{left_of, right_of, top_of, bottom_of, left_both, right_both, top_both, bottom_both, interior_low, interior_high, place_within}
 use Rattle.tile_map.specs.Edges.{pairs_of, pair_at, shared_of, edges_at}
+use Rattle.window_sites.specs.declared.window.TheConstants.{MOST_COLUMNS}
 
 -- a row of n sites from x on
 abbrev pub row : ℕ → ℕ → ℕ → List Site
@@ -26,8 +27,8 @@ abbrev pub live_in : MapValue → Area → List Site
 live_in m a = filter (is_live m) (sites_in a)
 
 -- which of a list of sites it is
-abbrev pub number_of : List Site → Site → Option ℕ
-number_of ss s = position (λ p. p.x == s.x && p.y == s.y) ss
+abbrev pub site_number : List Site → Site → Option ℕ
+site_number ss s = position (λ p. p.x == s.x && p.y == s.y) ss
 
 -- the live sites of an area: how many there are, and for each place of the area the number of its site among them
 pub record SharedValue : Type 0 where
@@ -36,12 +37,12 @@ pub record SharedValue : Type 0 where
   pub count : ℕ
 
 abbrev pub shared_value : MapValue → Area → SharedValue
-shared_value m a = record { area = a; numbers = map (number_of (live_in m a)) (sites_in a); count = length (live_in m a) }
+shared_value m a = record { area = a; numbers = map (site_number (live_in m a)) (sites_in a); count = length (live_in m a) }
 
 -- the columns and rows end within the largest plane
 pub record IsSmall (a : Area) : Type 0 where
-  pub columns : a.columns.end ≤ 512
-  pub rows : a.rows.end ≤ 512
+  pub columns : a.columns.end ≤ MOST_COLUMNS
+  pub rows : a.rows.end ≤ MOST_COLUMNS
 
 -- the area itself where all its sites are live, and none where fewer are
 abbrev pub IsWholeArea : SharedValue → Option Area → Type 0

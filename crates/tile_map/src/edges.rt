@@ -6,6 +6,7 @@ ghost use Rattle.tile_map.specs.Plane.{tiles_of, is_on};
 ghost use Rattle.tile_map.specs.Edges.{is_in_pair, edges_among};
 ghost use Rattle.tile_map.specs.Neighbours.{near_above, near_pairs};
 ghost use Rattle.tile_map.specs.Tables.{areas_of};
+ghost use Rattle.tile_map.specs.declared.limits.TheConstants.{MOST_NEEDS};
 
 use crate::needs::Needs;
 use crate::plane::Plane;
@@ -47,7 +48,7 @@ pub(crate) fn by_tile(
     tiles: u32,
 ) -> Result<Vec<Needs>, NoMemory>
     requires small { length ends.now < 2 ^ 32 }
-    requires few { (t : ℕ) → t < tiles → length (edges_among ends.now tiles t) ≤ 8 }
+    requires few { (t : ℕ) → t < tiles → length (edges_among ends.now tiles t) ≤ MOST_NEEDS }
     ensures { IfOk result (λ v. v.items ≡ map (edges_among ends.now tiles) (range_with_len 0 tiles)) }
 {
     let mut lists = Vec::new(alloc);
@@ -60,7 +61,7 @@ pub(crate) fn by_tile(
 /// The edges of a tile, of which there are at most 8.
 fn edges_of(ends: &[(u32, u32)], tiles: u32, tile: u32) -> Needs
     requires small { length ends.now < 2 ^ 32 }
-    requires few { length (edges_among ends.now tiles tile) ≤ 8 }
+    requires few { length (edges_among ends.now tiles tile) ≤ MOST_NEEDS }
     ensures { result ≡ edges_among ends.now tiles tile }
 {
     let mut edges = Needs::new();

@@ -8,12 +8,16 @@
 
 mod crossing;
 mod edges;
+mod limits;
 mod map;
 mod needs;
 mod plane;
 mod shared;
 mod span;
 
+pub use limits::{
+    LEAST_SIDE, MOST_ACROSS, MOST_EDGES, MOST_NEEDS, MOST_REACH, MOST_SHARED, MOST_SIDE,
+};
 pub use map::Map;
 pub use needs::Needs;
 pub use plane::Plane;

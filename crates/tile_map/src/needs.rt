@@ -1,14 +1,16 @@
 //! Short lists of edges.
 
 ghost use Rattle.std.specs.Prelude.{◌≡◌, ◌<◌, ◌≤◌, [], ◌∷◌, ◌++◌, length, slice_index};
+ghost use Rattle.tile_map.specs.declared.limits.TheConstants.{MOST_NEEDS};
 
+use crate::limits::MOST_NEEDS;
 use arrayvec::ArrayVec;
 use std::marker::Model;
 
 /// At most 8 edges in rising order: those that an event needs, or all those of a tile.
 #[derive(Drop)]
 pub struct Needs {
-    edges: ArrayVec<u32, 8>,
+    edges: ArrayVec<u32, MOST_NEEDS>,
 }
 
 impl Model for Needs {
@@ -31,7 +33,7 @@ impl Needs {
 
     /// Appends an edge.
     pub(crate) fn push(&mut self, edge: u32)
-        requires { length self.old < 8 }
+        requires { length self.old < MOST_NEEDS }
         ensures { self.new ≡ self.old ++ edge ∷ [] }
     {
         self.edges.push(edge);
@@ -47,7 +49,7 @@ impl Needs {
     /// How many edges there are.
     pub fn len(&self) -> usize
         ensures count { result ≡ length self.now }
-        ensures few { result ≤ 8 }
+        ensures few { result ≤ MOST_NEEDS }
     {
         self.edges.len()
     }

@@ -6,6 +6,8 @@ ghost use Rattle.tile_map.specs.Neighbours.{are_joined};
 ghost use Rattle.tile_map.specs.Spans.{left_of, right_of, top_of, bottom_of};
 ghost use Rattle.tile_map.specs.Edges.{is_held_at, window_site, reaches};
 ghost use Rattle.tile_map.specs.Tables.{area_both, own_of, interior_of, reach_of, areas_of};
+ghost use Rattle.feast_base.specs.declared.limits.TheConstants.{MOST_TILES};
+ghost use Rattle.window_sites.specs.declared.window.TheConstants.{MOST_COLUMNS};
 
 use crate::span::{Area, Span, TileAreas, shift};
 use feast_base::NoMemory;
@@ -55,7 +57,7 @@ impl Plane {
     /// How many tiles there are.
     pub(crate) fn tiles(&self) -> u32
         ensures count { result ≡ tiles_of self.now }
-        ensures few { result ≤ 64 }
+        ensures few { result ≤ MOST_TILES }
         ensures valid { IsMap self.now }
     {
         self.tx * self.ty
@@ -173,7 +175,7 @@ impl Plane {
     /// The same, by each site of the window. If the centre is live, as it is for an event, the
     /// distance from the tile gives the answer at once.
     fn holds_one(&self, tile: u32, x: u32, y: u32) -> bool
-        requires small { (x < 512) × (y < 512) }
+        requires small { (x < MOST_COLUMNS) × (y < MOST_COLUMNS) }
         ensures { result ≡ reaches self.now (site x y) tile }
     {
         for n in 0..41 {
@@ -187,7 +189,7 @@ impl Plane {
     /// Whether a tile holds site `n` of the window at the site.
     fn holds_at(&self, tile: u32, x: u32, y: u32, n: u8) -> bool
         requires n { n ≤ 40 }
-        requires small { (x < 512) × (y < 512) }
+        requires small { (x < MOST_COLUMNS) × (y < MOST_COLUMNS) }
         ensures { result ≡ is_held_at self.now tile (window_site self.now (site x y) n) }
     {
         let (dx, dy) = offset(n);
@@ -202,7 +204,7 @@ impl Plane {
         requires lower { lower < tiles_of self.now }
         requires higher { higher < tiles_of self.now }
         ensures value { result ≡ area_both self.now (lower, higher) }
-        ensures bound { (result.columns.end ≤ 512) × (result.rows.end ≤ 512) }
+        ensures bound { (result.columns.end ≤ MOST_COLUMNS) × (result.rows.end ≤ MOST_COLUMNS) }
     {
         Area {
             columns: self.columns(lower).common(self.columns(higher)),
@@ -262,7 +264,7 @@ impl Plane {
         ensures first { result.first ≡ left_of self.now tile }
         ensures end { result.end ≡ right_of self.now tile }
         ensures some { result.first < result.end }
-        ensures bound { result.end ≤ 512 }
+        ensures bound { result.end ≤ MOST_COLUMNS }
         ensures valid { IsMap self.now }
     {
         Span::around(tile % self.tx, self.w, self.tx)
@@ -274,7 +276,7 @@ impl Plane {
         ensures first { result.first ≡ top_of self.now tile }
         ensures end { result.end ≡ bottom_of self.now tile }
         ensures some { result.first < result.end }
-        ensures bound { result.end ≤ 512 }
+        ensures bound { result.end ≤ MOST_COLUMNS }
         ensures valid { IsMap self.now }
     {
         Span::around(tile / self.tx, self.h, self.ty)

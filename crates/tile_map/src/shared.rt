@@ -3,6 +3,7 @@
 ghost use Rattle.std.specs.Prelude.{◌≡◌, ◌≤◌, map, IfOk};
 ghost use Rattle.tile_map.specs.Tables.{shared_value, number_at, shared_both, IsWholeArea};
 ghost use Rattle.tile_map.specs.Edges.{pairs_of};
+ghost use Rattle.window_sites.specs.declared.window.TheConstants.{MOST_COLUMNS};
 
 use crate::plane::Plane;
 use crate::span::Area;
@@ -23,19 +24,20 @@ pub(crate) struct SharedSites {
 impl Model for SharedSites {
     ghost use Rattle.std.specs.Prelude.{◌≡◌, ◌≤◌, length};
     ghost use Rattle.tile_map.specs.Tables.{SharedValue, sites_in};
+    ghost use Rattle.window_sites.specs.declared.window.TheConstants.{MOST_COLUMNS};
 
     ghost Value = { SharedValue };
 
     ghost view = { λ s. record { area = s.area; numbers = s.numbers.items; count = s.count } };
 
-    ghost invariant = { λ s. (s.area.columns.end ≤ 512) × (s.area.rows.end ≤ 512) × (length s.numbers.items ≡ length (sites_in s.area)) };
+    ghost invariant = { λ s. (s.area.columns.end ≤ MOST_COLUMNS) × (s.area.rows.end ≤ MOST_COLUMNS) × (length s.numbers.items ≡ length (sites_in s.area)) };
 }
 
 impl SharedSites {
     /// The live sites of an area.
     pub(crate) fn new(alloc: Global, plane: &Plane, area: Area) -> Result<SharedSites, NoMemory>
-        requires columns { area.columns.end ≤ 512 }
-        requires rows { area.rows.end ≤ 512 }
+        requires columns { area.columns.end ≤ MOST_COLUMNS }
+        requires rows { area.rows.end ≤ MOST_COLUMNS }
         ensures { IfOk result (λ s. s ≡ shared_value plane.now area) }
     {
         let width = area.columns.len();

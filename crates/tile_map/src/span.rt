@@ -1,8 +1,10 @@
 //! Intervals of columns or rows, and rectangles.
 
 ghost use Rattle.std.specs.Prelude.{◌≡◌, ◌+◌, ◌-◌, ◌*◌, ◌<◌, ◌≤◌, ◌≤ℤ◌, pos, min, max, ◌&&◌, nat_le, nat_lt, IfSome};
-ghost use Rattle.window_sites.specs.Sites.{shifted};
+ghost use Rattle.window_sites.specs.Sites.{shift};
 ghost use Rattle.tile_map.specs.Spans.{interior_low, interior_high, gap, is_within, place_within};
+ghost use Rattle.tile_map.specs.declared.limits.TheConstants.{MOST_ACROSS, MOST_SIDE};
+ghost use Rattle.window_sites.specs.declared.window.TheConstants.{MOST_COLUMNS};
 
 /// The coordinates from `first` up to `end` and without it.
 #[derive(Clone, Copy)]
@@ -18,11 +20,11 @@ impl Span {
     /// it.
     pub(crate) fn around(part: u32, size: u32, parts: u32) -> Span
         requires one { part < parts }
-        requires few { parts ≤ 8 }
-        requires small { size ≤ 64 }
+        requires few { parts ≤ MOST_ACROSS }
+        requires small { size ≤ MOST_SIDE }
         ensures first { result.first ≡ part * size - 4 }
         ensures end { result.end ≡ min ((part + 1) * size + 4) (parts * size) }
-        ensures bound { result.end ≤ 512 }
+        ensures bound { result.end ≤ MOST_COLUMNS }
     {
         let first = (part * size).saturating_sub(4);
         let end = ((part + 1) * size + 4).min(parts * size);
@@ -33,8 +35,8 @@ impl Span {
     /// places of it between it and each border beyond which another part follows.
     pub(crate) fn interior(part: u32, size: u32, parts: u32) -> Span
         requires one { part < parts }
-        requires few { parts ≤ 8 }
-        requires small { size ≤ 64 }
+        requires few { parts ≤ MOST_ACROSS }
+        requires small { size ≤ MOST_SIDE }
         ensures first { result.first ≡ interior_low size part }
         ensures end { result.end ≡ interior_high parts size part }
     {
@@ -49,8 +51,8 @@ impl Span {
 
     /// A line is cut into parts of equal size: one of them.
     pub(crate) fn part(part: u32, size: u32) -> Span
-        requires few { part < 8 }
-        requires small { size ≤ 64 }
+        requires few { part < MOST_ACROSS }
+        requires small { size ≤ MOST_SIDE }
         ensures first { result.first ≡ part * size }
         ensures end { result.end ≡ (part + 1) * size }
     {
@@ -87,8 +89,8 @@ impl Span {
 
     /// How far a coordinate is from the nearest of the span.
     pub(crate) fn gap(self, at: u32) -> u32
-        requires at { at < 512 }
-        requires first { self.first < 512 }
+        requires at { at < MOST_COLUMNS }
+        requires first { self.first < MOST_COLUMNS }
         ensures value { result ≡ (self.first - at) + (at + 1 - self.end) }
         ensures bound { result ≤ 1024 }
     {
@@ -116,10 +118,10 @@ pub(crate) struct TileAreas {
 impl Area {
     /// How many sites there are.
     pub(crate) fn sites(self) -> u32
-        requires columns { self.columns.end ≤ 512 }
-        requires rows { self.rows.end ≤ 512 }
+        requires columns { self.columns.end ≤ MOST_COLUMNS }
+        requires rows { self.rows.end ≤ MOST_COLUMNS }
         ensures value { result ≡ (self.columns.end - self.columns.first) * (self.rows.end - self.rows.first) }
-        ensures bound { result ≤ 512 * 512 }
+        ensures bound { result ≤ MOST_COLUMNS * MOST_COLUMNS }
     {
         self.columns.len() * self.rows.len()
     }
@@ -133,10 +135,10 @@ impl Area {
 
     /// How far a site is from the nearest of the area.
     pub(crate) fn distance(self, x: u32, y: u32) -> u32
-        requires x { x < 512 }
-        requires y { y < 512 }
-        requires columns { self.columns.first < 512 }
-        requires rows { self.rows.first < 512 }
+        requires x { x < MOST_COLUMNS }
+        requires y { y < MOST_COLUMNS }
+        requires columns { self.columns.first < MOST_COLUMNS }
+        requires rows { self.rows.first < MOST_COLUMNS }
         ensures { result ≡ gap self.columns.first self.columns.end x + gap self.rows.first self.rows.end y }
     {
         self.columns.gap(x) + self.rows.gap(y)
@@ -144,10 +146,10 @@ impl Area {
 
     /// The place of a site, row by row, if the area has it.
     pub fn place_within(self, x: u32, y: u32) -> Option<u32>
-        requires columns { self.columns.end ≤ 512 }
-        requires rows { self.rows.end ≤ 512 }
+        requires columns { self.columns.end ≤ MOST_COLUMNS }
+        requires rows { self.rows.end ≤ MOST_COLUMNS }
         ensures value { result ≡ place_within self.columns.first self.columns.end self.rows.first self.rows.end x y }
-        ensures bound { IfSome result (λ k. k < 512 * 512) }
+        ensures bound { IfSome result (λ k. k < MOST_COLUMNS * MOST_COLUMNS) }
     {
         if !self.columns.contains(x) || !self.rows.contains(y) {
             return None;
@@ -158,9 +160,9 @@ impl Area {
 
 /// The coordinate plus an offset, unless it falls below 0.
 pub(crate) fn shift(x: u32, by: i32) -> Option<u32>
-    requires small { x < 512 }
+    requires small { x < MOST_COLUMNS }
     requires near { by ≤ℤ pos 4 }
-    ensures { result ≡ shifted x by }
+    ensures { result ≡ shift x by }
 {
     if by >= 0 {
         Some(x + by as u32)

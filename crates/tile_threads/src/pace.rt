@@ -1,10 +1,8 @@
 //! How far the workers of a run are, and how far ahead of the slowest one may be.
+use feast_base::{MOST_SITES, MOST_TILES};
 use std::array::from_fn;
 use std::sync::atomic::{AtomicU64, Ordering};
 use tile_map::Map;
-
-/// The most tiles that a plane has.
-pub(crate) const TILES: usize = 64;
 
 /// How many attempts a worker may be ahead of the slowest, as long as that costs little: a tenth of the
 /// sites of the largest tiles, and some 300 microseconds of work. Less makes runs of many tiles slower,
@@ -14,7 +12,7 @@ const NEAR: u64 = 384;
 
 /// How many it may be ahead at most: half as many as the largest tiles have sites. That is a few
 /// milliseconds of work, for which a system with other work takes a processor away.
-const FAR: u64 = 2048;
+const FAR: u64 = MOST_SITES / 2;
 
 /// How many turns a wait may take. With its rests that is a tenth of a second: then the slowest is
 /// held back by its gate, or has no thread of its own.
@@ -39,7 +37,7 @@ pub struct Pace {
     /// How many attempts each tile had drawn when its worker told it last; the greatest number if it
     /// is done, or if there is no such tile. They lie side by side, since they are looked at more
     /// often than told.
-    counts: [AtomicU64; TILES],
+    counts: [AtomicU64; MOST_TILES],
     /// How many attempts all workers have told of.
     made: AtomicU64,
     /// How many attempts a worker may be ahead of the slowest.
@@ -59,7 +57,7 @@ impl Pace {
             counts: from_fn(|tile| AtomicU64::new(if tile < tiles { 0 } else { u64::MAX })),
             made: AtomicU64::new(0),
             distance: AtomicU64::new(NEAR),
-            most: reached(map).min(FAR).max(NEAR),
+            most: sites_in_reach(map).min(FAR).max(NEAR),
             patience: AtomicU64::new(PATIENCE),
         }
     }
@@ -82,7 +80,7 @@ impl Pace {
     }
 
     /// How many attempts all workers have told of, modulo 2^64.
-    pub(crate) fn made(&self) -> u64 {
+    pub(crate) fn attempt_count(&self) -> u64 {
         self.made.load(Ordering::SeqCst)
     }
 
@@ -124,7 +122,7 @@ impl Pace {
 }
 
 /// How many sites the first tile reaches: its own and some more. Nothing if there is no tile.
-fn reached(map: &Map) -> u64 {
+fn sites_in_reach(map: &Map) -> u64 {
     if map.tiles() == 0 {
         return 0;
     }

@@ -1,6 +1,6 @@
 //! How one worker keeps pace with the others.
-use crate::pace::{Pace, TILES};
-use feast_base::Rest;
+use crate::pace::Pace;
+use feast_base::{MOST_TILES, Rest};
 use std::thread::yield_now;
 use std::time::Duration;
 
@@ -119,7 +119,7 @@ impl<'a> Stride<'a> {
             return false;
         }
         let mut least = u64::MAX;
-        for tile in 0..TILES {
+        for tile in 0..MOST_TILES {
             let other = self.pace.count(tile);
             if other.saturating_add(distance) <= count {
                 self.slow = tile;
@@ -164,7 +164,7 @@ impl<'a> Stride<'a> {
     fn moment<R: Rest>(&self, place: &R) -> Moment {
         Moment {
             time: nanoseconds(place.time()),
-            made: self.pace.made(),
+            made: self.pace.attempt_count(),
             distance: self.pace.distance(),
         }
     }

@@ -13,7 +13,7 @@ use Rattle.ulam_heirs.specs.Views.{heir_of, heirs_of}
 use Rattle.ulam_heirs.specs.declared.spans.Span.{Span}
 use Rattle.ulam_heirs.specs.Lines.{Heir}
 use Rattle.ulam_heirs.specs.Flat.{member_word, is_function, is_named, has_word, declares, says_virtual, is_virtual_name, is_left_out}
-use Rattle.ulam_heirs.specs.Spans.{span_by, grown, member_span, members_span, IsSpan, AreSpans, AreKnown}
+use Rattle.ulam_heirs.specs.Spans.{span_by, longer_span, member_span, members_span, IsSpan, AreSpans, AreKnown}
 use Rattle.ulam_heirs.proofs.Firsts.{same_text}
 use Rattle.ulam_heirs.proofs.Tables.{same_key, found_put}
 
@@ -172,16 +172,16 @@ around_of xs i name o is = around_is (heirs_of xs) (heirs_of (take i xs)) (heirs
 
 -- one more function has its span put at its name
 pub span_put : (old new : List (Bor (List ℕ) × Span)) (k : Bor (List ℕ)) (s : Span) (h : Heir) (i : ℕ) (m : Member) → is_function m ≡ true → k.now ≡ (member_word m).name → new ≡ insert_entry same_key old k s →
-    Some s ≡ grown (span_by k.now old) (has_word h m) i → (name : List ℕ) → span_by name new ≡ member_span h i name m (span_by name old)
+    Some s ≡ longer_span (span_by k.now old) (has_word h m) i → (name : List ℕ) → span_by name new ≡ member_span h i name m (span_by name old)
 span_put old new k s h i m fn named e g name =
     ap (span_by name) e
     ∙ found_put old k s name
     ∙ go (bytes_eq k.now name) refl
-    ∙ ap (λ n. cond (true && bytes_eq n name) (grown (span_by name old) (has_word h m) i) (span_by name old)) named
-    ∙ ap (λ f. cond (f && is_named name m) (grown (span_by name old) (has_word h m) i) (span_by name old)) (sym fn)
+    ∙ ap (λ n. cond (true && bytes_eq n name) (longer_span (span_by name old) (has_word h m) i) (span_by name old)) named
+    ∙ ap (λ f. cond (f && is_named name m) (longer_span (span_by name old) (has_word h m) i) (span_by name old)) (sym fn)
   where
-    go : (b : Bool) → bytes_eq k.now name ≡ b → cond b (Some s) (span_by name old) ≡ cond b (grown (span_by name old) (has_word h m) i) (span_by name old)
-    go true same = g ∙ ap (λ n. grown (span_by n old) (has_word h m) i) (same_text k.now name same)
+    go : (b : Bool) → bytes_eq k.now name ≡ b → cond b (Some s) (span_by name old) ≡ cond b (longer_span (span_by name old) (has_word h m) i) (span_by name old)
+    go true same = g ∙ ap (λ n. longer_span (span_by n old) (has_word h m) i) (same_text k.now name same)
     go false other = refl
 
 pub known_none : (es : List (Bor (List ℕ) × Span)) (line : List Heir) → es ≡ [] → AreKnown es line

@@ -11,7 +11,7 @@ use Rattle.ulam_heirs.specs.declared.behind.Behind.{Behind}
 use Rattle.ulam_heirs.specs.declared.behind.Part.{Part}
 use Rattle.ulam_heirs.specs.declared.behind.Part.TheVariants.{Kept, Colon, BaseName, Mark}
 use Rattle.ulam_heirs.specs.Heads.{HeadedValue, is_class_word, is_type_name, is_colon, is_open, is_virtual_word, may_begin, is_head, open_after, open_braces, role, role_at, is_head_colon, is_base_name, is_virtual_mark, kept_at, base_between, base_at, first_place, virtual_at}
-use Rattle.ulam_heirs.specs.Behind.{behind_of, passed, part_at, kept_by, base_from, base_by, virtual_by, IsWithin, AllWithin, IsSplit}
+use Rattle.ulam_heirs.specs.Behind.{behind_of, after_token, part_at, kept_by, base_from, base_by, virtual_by, IsWithin, AllWithin, IsSplit}
 use Rattle.ulam_heirs.specs.declared.headed.Base.{Base as CodeBase}
 use Rattle.ulam_heirs.specs.Views.{heads_view, headed_view}
 
@@ -117,9 +117,9 @@ pub split_next : (bytes : List ℕ) (tokens : List Token) (t : Token) (after : L
     more.left ≡ done.left ++ kept_by (part_at bytes b t after) t →
     more.heads.bases ≡ done.heads.bases ++ base_by bytes (part_at bytes b t after) b.place after →
     more.heads.virtuals ≡ done.heads.virtuals ++ virtual_by (part_at bytes b t after) after →
-    b' ≡ passed b (role bytes t) t.place → IsSplit bytes tokens after more b'
+    b' ≡ after_token b (role bytes t) t.place → IsSplit bytes tokens after more b'
 split_next bytes tokens t after done more b b' s e f g h =
-    let same : b' ≡ behind_of bytes (t ∷ s.before) = h ∙ ap (λ (z : Behind). passed z (role bytes t) t.place) s.behind in
+    let same : b' ≡ behind_of bytes (t ∷ s.before) = h ∙ ap (λ (z : Behind). after_token z (role bytes t) t.place) s.behind in
     let deep : b'.depth ≡ open_after (role bytes t) b.depth = ap (λ (z : Behind). z.depth) h in
     let small : open_after (role bytes t) b.depth ≤ b.depth + 1 = open_small (role bytes t) b.depth in
     record {

@@ -8,7 +8,7 @@ use Rattle.indexmap.specs.IndexMap.{insert_entry}
 use Rattle.std.proofs.lemmas.List.{take_all, drop_all, append-nil, length-take-le}
 use Rattle.ulam_tree.specs.Raw.{Member}
 use Rattle.ulam_heirs.specs.declared.opened.Latest.{Latest as CodeLatest}
-use Rattle.ulam_heirs.specs.Opened.{Latest, Table, Change, State, name_of, put, next, with_member, undone, back, LeadsTo}
+use Rattle.ulam_heirs.specs.Opened.{Latest, Table, Change, State, name_of, put, next, with_member, undo_all, back, LeadsTo}
 use Rattle.ulam_heirs.specs.OpenedViews.{latest_of, table}
 use Rattle.ulam_heirs.proofs.Firsts.{same_text, same_turned}
 
@@ -52,7 +52,7 @@ put_by false v o = refl
 pub put_is : (old new : Entries) (k : Bor (List ℕ)) (v : Option CodeLatest) → new ≡ insert_entry same_key old k v → table new ≡ put (table old) k.now (option_map latest_of v)
 put_is old new k v e = ap table e ∙ (λ i name. (ap (λ o. option_map latest_of (option_and_then (λ (x : Option CodeLatest). x) o)) (found_put old k v name) ∙ put_by (bytes_eq k.now name) v (found name old)) i)
 
-pub undone_two : (t : Table) (xs ys : List Change) → undone t (xs ++ ys) ≡ undone (undone t ys) xs
+pub undone_two : (t : Table) (xs ys : List Change) → undo_all t (xs ++ ys) ≡ undo_all (undo_all t ys) xs
 undone_two t [] ys = refl
 undone_two t (x ∷ xs) ys = ap (λ (u : Table). put u x.name x.before) (undone_two t xs ys)
 
@@ -73,13 +73,13 @@ take_two (suc m) (suc n) (x ∷ xs) le = ap (λ ys. x ∷ ys) (take_two m n xs (
 -- back, and then further
 pub back_two : (s : State) (m n : ℕ) → m ≤ n → back (back s n) m ≡ back s m
 back_two s m n le = λ i. record {
-  table = (sym (undone_two s.table (drop m (take n s.changes)) (drop n s.changes)) ∙ ap (undone s.table) (drop_two m n s.changes le)) i;
+  table = (sym (undone_two s.table (drop m (take n s.changes)) (drop n s.changes)) ∙ ap (undo_all s.table) (drop_two m n s.changes le)) i;
   changes = take_two m n s.changes le i;
 }
 
 -- no change is taken back
 pub back_none : (s : State) (n : ℕ) → length s.changes ≤ n → back s n ≡ s
-back_none s n le = λ i. record { table = ap (undone s.table) (drop_all n s.changes le) i; changes = take_all n s.changes le i }
+back_none s n le = λ i. record { table = ap (undo_all s.table) (drop_all n s.changes le) i; changes = take_all n s.changes le i }
 
 -- a name gets back what it had
 put_back : (t : Table) (name : List ℕ) (l : Option Latest) → put (put t name l) name (t name) ≡ t
@@ -93,7 +93,7 @@ pub leads_none : (s t : State) → t ≡ s → LeadsTo s t
 leads_none s t e = ([], ap (λ (u : State). u.changes) e ∙ sym (append-nil s.changes), ap (λ (u : State). u.table) e)
 
 pub leads_on : (s t u : State) → LeadsTo s t → LeadsTo t u → LeadsTo s u
-leads_on s t u a b = (a.0 ++ b.0, b.1 ∙ ap (λ cs. cs ++ b.0) a.1 ∙ append_assoc s.changes a.0 b.0, undone_two u.table a.0 b.0 ∙ ap (λ (t : Table). undone t a.0) b.2 ∙ a.2)
+leads_on s t u a b = (a.0 ++ b.0, b.1 ∙ ap (λ cs. cs ++ b.0) a.1 ∙ append_assoc s.changes a.0 b.0, undone_two u.table a.0 b.0 ∙ ap (λ (t : Table). undo_all t a.0) b.2 ∙ a.2)
 
 -- one change leads on
 pub leads_one : (s t : State) (name : List ℕ) (l : Option Latest) → t.table ≡ put s.table name l → t.changes ≡ s.changes ++ record { name = name; before = s.table name } ∷ [] → LeadsTo s t
@@ -110,7 +110,7 @@ take_front (x ∷ ys) y = ap (λ zs. x ∷ zs) (take_front ys y)
 -- the last change is taken back
 pub back_one : (s t : State) (ys : List Change) (c : Change) (n : ℕ) → s.changes ≡ ys ++ c ∷ [] → n ≡ length ys → t.changes ≡ ys → t.table ≡ put s.table c.name c.before → t ≡ back s n
 back_one s t ys c n e long f g = λ i. record {
-  table = (g ∙ sym (ap (undone s.table) (ap (λ m. drop m s.changes) long ∙ ap (drop (length ys)) e ∙ drop_front ys c))) i;
+  table = (g ∙ sym (ap (undo_all s.table) (ap (λ m. drop m s.changes) long ∙ ap (drop (length ys)) e ∙ drop_front ys c))) i;
   changes = (f ∙ sym (ap (λ m. take m s.changes) long ∙ ap (take (length ys)) e ∙ take_front ys c)) i;
 }
 

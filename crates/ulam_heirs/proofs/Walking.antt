@@ -8,7 +8,7 @@ use Rattle.ulam_heirs.specs.declared.heir.Heir.{Heir as CodeHeir}
 use Rattle.ulam_heirs.specs.declared.walk.Step.{Step}
 use Rattle.ulam_heirs.specs.Lines.{Heir, base_of, class_at, classes_at, line_numbers, line, bases, NoneIsOwnBase}
 use Rattle.ulam_heirs.specs.Faults.{bad_override}
-use Rattle.ulam_heirs.specs.Opened.{Table, State, Change, Covers, undone, back, LeadsTo, with_class, first_bad_in}
+use Rattle.ulam_heirs.specs.Opened.{Table, State, Change, Covers, undo_all, back, LeadsTo, with_class, first_bad_in}
 use Rattle.ulam_heirs.specs.OpenedViews.{AreOpen, AreFaults}
 use Rattle.ulam_heirs.specs.Views.{heir_of, heirs_of}
 use Rattle.ulam_heirs.proofs.Chains.{line_is}
@@ -19,13 +19,13 @@ use Rattle.ulam_heirs.proofs.Tables.{back_two, back_none, undone_two}
 
 back_leads : (s t : State) → LeadsTo s t → (n : ℕ) → n ≤ length s.changes → back t n ≡ back s n
 back_leads s t leads n le = λ i. record {
-  table = (ap (undone t.table) (ap (drop n) leads.1 ∙ drop-append-le n s.changes leads.0 le) ∙ undone_two t.table (drop n s.changes) leads.0 ∙ ap (λ (u : Table). undone u (drop n s.changes)) leads.2) i;
+  table = (ap (undo_all t.table) (ap (drop n) leads.1 ∙ drop-append-le n s.changes leads.0 le) ∙ undone_two t.table (drop n s.changes) leads.0 ∙ ap (λ (u : Table). undo_all u (drop n s.changes)) leads.2) i;
   changes = (ap (take n) leads.1 ∙ take-append-le n s.changes leads.0 le) i;
 }
 
 pub open_leads : (hs : List Heir) (s t : State) (xs : List Step) → LeadsTo s t → AreOpen hs s xs → AreOpen hs t xs
 open_leads hs s t [] leads opens =
-    subst (λ (u : Table). Covers [] u) (sym (ap (undone t.table) leads.1 ∙ undone_two t.table s.changes leads.0 ∙ ap (λ (u : Table). undone u s.changes) leads.2)) opens
+    subst (λ (u : Table). Covers [] u) (sym (ap (undo_all t.table) leads.1 ∙ undone_two t.table s.changes leads.0 ∙ ap (λ (u : Table). undo_all u s.changes) leads.2)) opens
 open_leads hs s t (x ∷ xs) leads opens =
     let more : length t.changes ≡ length s.changes + length leads.0 = ap length leads.1 ∙ length-append s.changes leads.0 in
     let same : back t x.end ≡ back s x.end = back_leads s t leads x.end opens.0 in

@@ -20,8 +20,8 @@ behind_of bytes before = record {
 }
 
 -- what is known after one more token
-abbrev pub passed : Behind → Role → Place → Behind
-passed b x p = record { depth = open_after x b.depth; last = x; second = b.last; third = b.second; place = Some p }
+abbrev pub after_token : Behind → Role → Place → Behind
+after_token b x p = record { depth = open_after x b.depth; last = x; second = b.last; third = b.second; place = Some p }
 
 -- what is done with a token, given those before it and the next two
 abbrev pub part_of : Behind → Role → Role → Role → Part

@@ -139,5 +139,5 @@ abbrev pub heads_of : List ℕ → List Token → Heads
 heads_of bytes ts = record { bases = at_each (base_at bytes) [] ts; virtuals = at_each (virtual_at bytes) [] ts }
 
 -- the tokens that stay, and what was taken out
-abbrev pub headed : List ℕ → List Token → HeadedValue
-headed bytes ts = record { left = tokens_left bytes ts; heads = heads_of bytes ts }
+abbrev pub tokens_and_heads : List ℕ → List Token → HeadedValue
+tokens_and_heads bytes ts = record { left = tokens_left bytes ts; heads = heads_of bytes ts }

@@ -66,9 +66,9 @@ pub record Change : Type 0 where
   pub before : Option Latest
 
 -- changes are taken back, the last first
-abbrev pub undone : Table → List Change → Table
-undone t [] = t
-undone t (c ∷ cs) = put (undone t cs) c.name c.before
+abbrev pub undo_all : Table → List Change → Table
+undo_all t [] = t
+undo_all t (c ∷ cs) = put (undo_all t cs) c.name c.before
 
 -- a table, and the changes that led to it
 pub record State : Type 0 where
@@ -77,8 +77,8 @@ pub record State : Type 0 where
 
 -- back to the first changes
 abbrev pub back : State → ℕ → State
-back s n = record { table = undone s.table (drop n s.changes); changes = take n s.changes }
+back s n = record { table = undo_all s.table (drop n s.changes); changes = take n s.changes }
 
 -- more changes lead on
 abbrev pub LeadsTo : State → State → Type 0
-LeadsTo s t = (more : List Change) × (t.changes ≡ s.changes ++ more) × (undone t.table more ≡ s.table)
+LeadsTo s t = (more : List Change) × (t.changes ≡ s.changes ++ more) × (undo_all t.table more ≡ s.table)

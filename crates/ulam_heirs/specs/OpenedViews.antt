@@ -37,7 +37,7 @@ state_of o = record { table = table o.latest.entries; changes = map change_of o.
 -- Each class of a line, the last one first, is open: taking changes back to its number of them gives the table of its own
 -- line, in which the classes before it are open; and taking all back gives the table of no class.
 abbrev pub AreOpen : List Heir → spec.State → List Step → Type 0
-AreOpen hs s [] = spec.Covers [] (spec.undone s.table s.changes)
+AreOpen hs s [] = spec.Covers [] (spec.undo_all s.table s.changes)
 AreOpen hs s (x ∷ xs) = (x.end ≤ length s.changes) × spec.Covers (line_of hs x.class) (spec.back s x.end).table × AreOpen hs (spec.back s x.end) xs
 
 -- what was found of a class is the first fault of its members

@@ -13,13 +13,13 @@ abbrev pub span_by : List ℕ → List (Bor (List ℕ) × Span) → Option Span
 span_by name entries = lookup (λ (k : Bor (List ℕ)). bytes_eq name k.now) entries
 
 -- with one more function of the name in class i
-abbrev pub grown : Option Span → Bool → ℕ → Option Span
-grown (Some s) word i = Some (record { first = s.first; last = i })
-grown None word i = if word then Some (record { first = i; last = i }) else None
+abbrev pub longer_span : Option Span → Bool → ℕ → Option Span
+longer_span (Some s) word i = Some (record { first = s.first; last = i })
+longer_span None word i = if word then Some (record { first = i; last = i }) else None
 
 -- with one more member of class i
 abbrev pub member_span : Heir → ℕ → List ℕ → Member → Option Span → Option Span
-member_span h i name m s = if is_function m && is_named name m then grown s (has_word h m) i else s
+member_span h i name m s = if is_function m && is_named name m then longer_span s (has_word h m) i else s
 
 abbrev pub members_span : Heir → ℕ → List ℕ → List Member → Option Span → Option Span
 members_span h i name [] s = s

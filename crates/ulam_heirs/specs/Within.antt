@@ -1,4 +1,4 @@
--- As much of the flat files as a reader needs that refuses more than so many classes, or members of a class.
+-- Flat files cut short: each class with only so many members; where there are too many classes, the files as they are.
 use Rattle.std.specs.Prelude.{ℕ, ◌≤◌, List, map, take, Option, Some, None, Bool, false, ◌||◌, nat_le, nat_lt, if◌then◌else◌}
 use Rattle.std.specs.List.{list_all}
 use Rattle.ulam_tree.specs.Raw.{Item, ulam, uses, class}
@@ -36,8 +36,8 @@ cut_files most fs = map (cut_items most) fs
 abbrev pub are_above : ℕ → List (List Item) → Bool
 are_above classes fs = nat_lt classes (all_count fs)
 
--- Where nothing was taken out the files are flat as they are. Where there are more classes than so many, no class is made
--- flat; and of a flat class no more than so many members are made.
+-- Where nothing was taken out the files are flat as they are, and stay uncut. They also stay where there are more classes
+-- than so many. Else each class gets the first members of its flat class, no more than so many.
 abbrev pub files_within : ℕ → ℕ → List (List Item) → List Heads → List (List Item)
 files_within classes members fs hs =
     if list_all is_plain hs || are_above classes fs then fs else cut_files (Some members) (flat_files fs hs)

@@ -25,8 +25,8 @@ pub struct Span {
 }
 
 /// The span of a name with one more function, which may stand after `virtual`.
-fn grown(span: Option<Span>, word: bool, index: usize) -> Option<Span>
-    ensures { result ≡ spec.grown span word index }
+fn longer_span(span: Option<Span>, word: bool, index: usize) -> Option<Span>
+    ensures { result ≡ spec.longer_span span word index }
 {
     match span {
         Some(span) => Some(Span {
@@ -69,7 +69,7 @@ fn add_member<'a>(
         return Ok(());
     }
     let name = member_word(member).name.bytes();
-    let Some(span) = grown(span_of(spans, name), has_word(heir, member), index) else {
+    let Some(span) = longer_span(span_of(spans, name), has_word(heir, member), index) else {
         return Ok(());
     };
     spans.insert(name, span)?;

@@ -125,7 +125,7 @@ fn visit<'a>(
 }
 
 /// A walk through the classes, of which each comes after its base.
-fn walked<'a>(
+fn walk_classes<'a>(
     alloc: Global,
     heirs: &[Heir<'a>],
     bases: &[Option<usize>],
@@ -231,6 +231,6 @@ pub fn first_bad_override(
     requires apart { NoneIsOwnBase (heirs_of heirs.now) }
     ensures { IfOk result (λ x. x ≡ faults.first_by (faults.bad_override (heirs_of heirs.now)) 0 (heirs_of heirs.now)) }
 {
-    let walk = walked(alloc, heirs, bases)?;
+    let walk = walk_classes(alloc, heirs, bases)?;
     first_found(alloc, heirs, bases, walk.found.as_slice())
 }

@@ -17,7 +17,8 @@ use Rattle.ulam_lex.specs.declared.bytes.Class.TheVariants.{White, Small, Capita
 use Rattle.ulam_lex.specs.Bytes.{class_of, is_keyword, is_sign}
 use Rattle.ulam_lex.specs.Pieces.{prefix_of, radix_of, worth_after}
 use Rattle.ulam_lex.specs.Starts.{Stands, IsStart, OpensNone, digit_count, body_of, digits_of}
-use Rattle.ulam_lex.specs.Texts.{is_joined, place_after, token_list, IsTokensOf, most_tokens, IsFaultAt}
+use Rattle.ulam_lex.specs.Texts.{is_joined, place_after, token_list, IsTokensOf, IsFaultAt}
+use Rattle.ulam_lex.specs.declared.lexer.TheConstants.{MOST_TOKENS}
 use Rattle.ulam_lex.specs.Laws.{HasTokens, HasFault}
 use Rattle.ulam_lex.specs.Steps.{Cut, cut_at, place_of, standing, TakesPiece, IsRead}
 use Rattle.ulam_lex.proofs.Words.{space_start, word_len, keyword_start, name_start, type_name_start}
@@ -152,16 +153,16 @@ abbrev GoesOn : Cut → List Token → Type 0
 GoesOn s old = ((new : List Token) × (n : ℕ) × (next : Place) × TakesPiece s old new n next) ⊎ ((f : LexFault) × IsFaultAt s.file s.before (length old) s.rest f)
 
 -- the token of a piece has room, or is one too many
-room : (kind : PieceKind) (first end : ℕ) (place : Place) (old : List Token) → length old ≤ most_tokens →
-    (length (old ++ token_list kind first end place) ≤ most_tokens) ⊎ ((length old ≡ most_tokens) × ((token : TokenKind) × (kind ≡ piece.Token token)))
+room : (kind : PieceKind) (first end : ℕ) (place : Place) (old : List Token) → length old ≤ MOST_TOKENS →
+    (length (old ++ token_list kind first end place) ≤ MOST_TOKENS) ⊎ ((length old ≡ MOST_TOKENS) × ((token : TokenKind) × (kind ≡ piece.Token token)))
 room piece.Space first end place old few = inl (omega (arith, length-append old []))
 room piece.Comment first end place old few = inl (omega (arith, length-append old []))
-room (piece.Token token) first end place old few = elim (cases_lt (length old) most_tokens) [
+room (piece.Token token) first end place old few = elim (cases_lt (length old) MOST_TOKENS) [
   | inl less ↦ inl (omega (arith, length-append old (token_list (piece.Token token) first end place)))
   | inr full ↦ inr (omega arith, (token, refl))
 ]
 
-goes_on : (s : Cut) (old : List Token) (start : Start) → length old ≤ most_tokens → IsStart s.rest start → GoesOn s old
+goes_on : (s : Cut) (old : List Token) (start : Start) → length old ≤ MOST_TOKENS → IsStart s.rest start → GoesOn s old
 goes_on s old (BadByte n) few (within, found) = inr (fault.BadByte (place_after s.file (s.before ++ take n s.rest)), (take n s.rest, drop n s.rest, start_fault (length old) s.rest (take n s.rest) (drop n s.rest) found, refl))
 goes_on s old OpenComment few found = inr (fault.OpenComment (place_of s), (found, refl))
 goes_on s old NumberTooLarge few found = inr (fault.NumberTooLarge (place_of s), (found, refl))
@@ -184,7 +185,7 @@ goes_on s old (Piece kind n) few (some, within, stands) =
 abbrev pub IsListOrFault : ℕ → List ℕ → Type 0
 IsListOrFault file text = HasTokens file text ⊎ HasFault file text
 
-at_end : (file : ℕ) (text : List ℕ) (at : ℕ) (tokens : List Token) (place : Place) → IsRead file text at tokens place → length text ≤ at → (all : List Token) × IsTokensOf file text all × (length all ≤ most_tokens + 1)
+at_end : (file : ℕ) (text : List ℕ) (at : ℕ) (tokens : List Token) (place : Place) → IsRead file text at tokens place → length text ≤ at → (all : List Token) × IsTokensOf file text all × (length all ≤ MOST_TOKENS + 1)
 at_end file text at tokens place read past =
     let all = tokens ++ record { kind = End; first = at; end = at; place = place } ∷ [] in
     let r = read_end file text at tokens all place read past refl in

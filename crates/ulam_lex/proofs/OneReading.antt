@@ -14,7 +14,8 @@ use Rattle.ulam_lex.specs.declared.bytes.Class.TheVariants.{White, Small, Capita
 use Rattle.ulam_lex.specs.Bytes.{is_keyword, signs, is_sign}
 use Rattle.ulam_lex.specs.Pieces.{IsPiece}
 use Rattle.ulam_lex.specs.Starts.{Stands, BeginsNothing, IsDigitless, LeavesOpen, BeginsTooLarge}
-use Rattle.ulam_lex.specs.Texts.{TextPiece, spelled, is_joined, ArePieces, place_after, token_list, tokens_after, end_token, IsTokensOf, IsTokenList, most_tokens, token_count, IsBadBehind, IsOneTooMany, IsFaultAt, IsFaultOf}
+use Rattle.ulam_lex.specs.Texts.{TextPiece, bytes_of_pieces, is_joined, ArePieces, place_after, token_list, tokens_after, end_token, IsTokensOf, IsTokenList, token_count, IsBadBehind, IsOneTooMany, IsFaultAt, IsFaultOf}
+use Rattle.ulam_lex.specs.declared.lexer.TheConstants.{MOST_TOKENS}
 use Rattle.ulam_lex.specs.Laws.{IsBroken}
 use Rattle.ulam_lex.proofs.Fronts.{class_by, piece_class, piece_some, open_class, large_class, bare_class}
 use Rattle.ulam_lex.proofs.Marks.{comment_is_no_sign}
@@ -237,7 +238,7 @@ bad_excludes count text more rest kind front back (inr (inr h)) s apart =
 one_of_token : (kind : PieceKind) (token : TokenKind) → kind ≡ piece.Token token → kind_count kind ≡ 1
 one_of_token kind token e = ap kind_count e
 
-fault_excludes : (file : ℕ) (fault : LexFault) → Excludes most_tokens (AtFault file fault)
+fault_excludes : (file : ℕ) (fault : LexFault) → Excludes MOST_TOKENS (AtFault file fault)
 fault_excludes file (BadByte p) count rest kind front back (before, h) s apart few = bad_excludes count rest h.0 h.1 kind front back h.2 s apart
 fault_excludes file (OpenComment p) count rest kind front back (before, h) s apart few = s.closed h.0
 fault_excludes file (NumberTooLarge p) count rest kind front back (before, h) s apart few = s.small h.0
@@ -252,20 +253,20 @@ fault_excludes file NoMemory count rest kind front back (before, h) s apart few 
 abbrev SameSplit : List TextPiece → List TextPiece → List ℕ → List ℕ → Type 0
 SameSplit ps qs rest more = (ps ≡ qs) × (rest ≡ more)
 
-same_split : (m : ℕ) (S T : ℕ → List ℕ → Type 0) → Excludes m S → Excludes m T → (ps qs : List TextPiece) (n : ℕ) (rest more : List ℕ) → spelled ps ++ rest ≡ spelled qs ++ more → ArePieces ps rest → ArePieces qs more →
+same_split : (m : ℕ) (S T : ℕ → List ℕ → Type 0) → Excludes m S → Excludes m T → (ps qs : List TextPiece) (n : ℕ) (rest more : List ℕ) → bytes_of_pieces ps ++ rest ≡ bytes_of_pieces qs ++ more → ArePieces ps rest → ArePieces qs more →
     n + token_count ps ≤ m → n + token_count qs ≤ m → S (n + token_count ps) rest → T (n + token_count qs) more → SameSplit ps qs rest more
 same_split m S T exs ext [] [] n rest more e a b few also s t = (refl, e)
 same_split m S T exs ext [] (q ∷ qs) n rest more e a b few also s t =
-    let whole : q.bytes ++ (spelled qs ++ more) ≡ rest = sym (e ∙ append_assoc q.bytes (spelled qs) more) in
+    let whole : q.bytes ++ (bytes_of_pieces qs ++ more) ≡ rest = sym (e ∙ append_assoc q.bytes (bytes_of_pieces qs) more) in
     let counted = count_cons q qs in
-    absurd (exs (n + token_count []) rest q.kind q.bytes (spelled qs ++ more) s (subst (λ l. Stands q.kind l q.bytes (spelled qs ++ more)) whole b.0) b.1 (omega arith))
+    absurd (exs (n + token_count []) rest q.kind q.bytes (bytes_of_pieces qs ++ more) s (subst (λ l. Stands q.kind l q.bytes (bytes_of_pieces qs ++ more)) whole b.0) b.1 (omega arith))
 same_split m S T exs ext (p ∷ ps) [] n rest more e a b few also s t =
-    let whole : p.bytes ++ (spelled ps ++ rest) ≡ more = sym (append_assoc p.bytes (spelled ps) rest) ∙ e in
+    let whole : p.bytes ++ (bytes_of_pieces ps ++ rest) ≡ more = sym (append_assoc p.bytes (bytes_of_pieces ps) rest) ∙ e in
     let counted = count_cons p ps in
-    absurd (ext (n + token_count []) more p.kind p.bytes (spelled ps ++ rest) t (subst (λ l. Stands p.kind l p.bytes (spelled ps ++ rest)) whole a.0) a.1 (omega arith))
+    absurd (ext (n + token_count []) more p.kind p.bytes (bytes_of_pieces ps ++ rest) t (subst (λ l. Stands p.kind l p.bytes (bytes_of_pieces ps ++ rest)) whole a.0) a.1 (omega arith))
 same_split m S T exs ext (p ∷ ps) (q ∷ qs) n rest more e a b few also s t =
-    let whole : q.bytes ++ (spelled qs ++ more) ≡ p.bytes ++ (spelled ps ++ rest) = sym (append_assoc q.bytes (spelled qs) more) ∙ sym e ∙ append_assoc p.bytes (spelled ps) rest in
-    let same = one_piece p.kind q.kind (p.bytes ++ (spelled ps ++ rest)) p.bytes (spelled ps ++ rest) q.bytes (spelled qs ++ more) a.0 (subst (λ l. Stands q.kind l q.bytes (spelled qs ++ more)) whole b.0) in
+    let whole : q.bytes ++ (bytes_of_pieces qs ++ more) ≡ p.bytes ++ (bytes_of_pieces ps ++ rest) = sym (append_assoc q.bytes (bytes_of_pieces qs) more) ∙ sym e ∙ append_assoc p.bytes (bytes_of_pieces ps) rest in
+    let same = one_piece p.kind q.kind (p.bytes ++ (bytes_of_pieces ps ++ rest)) p.bytes (bytes_of_pieces ps ++ rest) q.bytes (bytes_of_pieces qs ++ more) a.0 (subst (λ l. Stands q.kind l q.bytes (bytes_of_pieces qs ++ more)) whole b.0) in
     let kinds : kind_count q.kind ≡ kind_count p.kind = ap kind_count same.kinds in
     let p_counted = count_cons p ps in
     let q_counted = count_cons q qs in
@@ -281,13 +282,13 @@ same_split m S T exs ext (p ∷ ps) (q ∷ qs) n rest more e a b few also s t =
 -- the list of tokens of a text, by its pieces
 pub one_list : (file : ℕ) (text : List ℕ) (a b : List Token) → IsTokensOf file text a → IsTokensOf file text b → a ≡ b
 one_list file text a b (ps, e, are, listed) (qs, f, also, other) =
-    let whole : spelled ps ++ [] ≡ spelled qs ++ [] = append-nil (spelled ps) ∙ sym e ∙ f ∙ sym (append-nil (spelled qs)) in
+    let whole : bytes_of_pieces ps ++ [] ≡ bytes_of_pieces qs ++ [] = append-nil (bytes_of_pieces ps) ∙ sym e ∙ f ∙ sym (append-nil (bytes_of_pieces qs)) in
     let m = token_count ps + token_count qs in
     let same = same_split m AtEnd AtEnd (end_excludes m) (end_excludes m) ps qs 0 [] [] whole are also (omega arith) (omega arith) refl refl in
     listed ∙ ap (λ l. tokens_after file [] l ++ end_token file text ∷ []) same.0 ∙ sym other
 
 -- a list within the limit has no more tokens than that among its pieces
-few_tokens : (file : ℕ) (text : List ℕ) (tokens : List Token) (h : IsTokensOf file text tokens) → length tokens ≤ most_tokens + 1 → token_count h.0 ≤ most_tokens
+few_tokens : (file : ℕ) (text : List ℕ) (tokens : List Token) (h : IsTokensOf file text tokens) → length tokens ≤ MOST_TOKENS + 1 → token_count h.0 ≤ MOST_TOKENS
 few_tokens file text tokens h few = omega (arith, ap length h.3, length-append (tokens_after file [] h.0) (end_token file text ∷ []), tokens_length file 0 [] [] h.0)
 
 -- the end of a text has no fault
@@ -308,12 +309,12 @@ fault_some file before count rest (TooManyTokens p) h = let some = piece_some (p
 fault_some file before count rest NoMemory h = absurd h
 
 -- a text with a fault has no list within the limit
-pub list_or_fault : (file : ℕ) (text : List ℕ) (tokens : List Token) (fault : LexFault) → IsTokensOf file text tokens → length tokens ≤ most_tokens + 1 → IsFaultOf file text fault → ⊥
+pub list_or_fault : (file : ℕ) (text : List ℕ) (tokens : List Token) (fault : LexFault) → IsTokensOf file text tokens → length tokens ≤ MOST_TOKENS + 1 → IsFaultOf file text fault → ⊥
 list_or_fault file text tokens fault h few (qs, rest, f, also, within, k) =
-    let whole : spelled h.0 ++ [] ≡ spelled qs ++ rest = append-nil (spelled h.0) ∙ sym h.1 ∙ f in
-    let same = same_split most_tokens AtEnd (AtFault file fault) (end_excludes most_tokens) (fault_excludes file fault) h.0 qs 0 [] rest whole h.2 also
-    (let own = few_tokens file text tokens h few in omega arith) (omega arith) refl (spelled qs, subst (λ n. IsFaultAt file (spelled qs) n rest fault) (sym (zero-add (token_count qs))) k) in
-    let some = fault_some file (spelled qs) (token_count qs) rest fault k in
+    let whole : bytes_of_pieces h.0 ++ [] ≡ bytes_of_pieces qs ++ rest = append-nil (bytes_of_pieces h.0) ∙ sym h.1 ∙ f in
+    let same = same_split MOST_TOKENS AtEnd (AtFault file fault) (end_excludes MOST_TOKENS) (fault_excludes file fault) h.0 qs 0 [] rest whole h.2 also
+    (let own = few_tokens file text tokens h few in omega arith) (omega arith) refl (bytes_of_pieces qs, subst (λ n. IsFaultAt file (bytes_of_pieces qs) n rest fault) (sym (zero-add (token_count qs))) k) in
+    let some = fault_some file (bytes_of_pieces qs) (token_count qs) rest fault k in
     omega (arith, ap length same.1)
 
 -- a fault in the rest, whatever number of tokens stands before it
@@ -331,19 +332,19 @@ break_excludes m file before NoMemory count rest kind front back h s apart few =
 pub no_list : (file : ℕ) (text : List ℕ) → IsBroken file text → (tokens : List Token) → IsTokensOf file text tokens → ⊥
 no_list file text b tokens (ps, e, also, listed) =
     let m = token_count ps + token_count b.pieces in
-    let whole : spelled ps ++ [] ≡ spelled b.pieces ++ b.rest = append-nil (spelled ps) ∙ sym e ∙ b.split in
-    let same = same_split m AtEnd (AtBreak file (spelled b.pieces) b.fault) (end_excludes m) (break_excludes m file (spelled b.pieces) b.fault) ps b.pieces 0 [] b.rest whole also b.are_pieces (omega arith) (omega arith) refl b.broken in
-    let some = fault_some file (spelled b.pieces) 0 b.rest b.fault b.broken in
+    let whole : bytes_of_pieces ps ++ [] ≡ bytes_of_pieces b.pieces ++ b.rest = append-nil (bytes_of_pieces ps) ∙ sym e ∙ b.split in
+    let same = same_split m AtEnd (AtBreak file (bytes_of_pieces b.pieces) b.fault) (end_excludes m) (break_excludes m file (bytes_of_pieces b.pieces) b.fault) ps b.pieces 0 [] b.rest whole also b.are_pieces (omega arith) (omega arith) refl b.broken in
+    let some = fault_some file (bytes_of_pieces b.pieces) 0 b.rest b.fault b.broken in
     omega (arith, ap length same.1)
 
 -- a text has one first fault
 pub one_fault_of : (file : ℕ) (text : List ℕ) (f g : LexFault) → IsFaultOf file text f → IsFaultOf file text g → f ≡ g
 one_fault_of file text f g (ps, rest, e, are, few, h) (qs, more, d, also, within, k) =
-    let same = same_split most_tokens (AtFault file f) (AtFault file g) (fault_excludes file f) (fault_excludes file g) ps qs 0 rest more (sym e ∙ d) are also (omega arith) (omega arith)
-    (spelled ps, subst (λ n. IsFaultAt file (spelled ps) n rest f) (sym (zero-add (token_count ps))) h)
-    (spelled qs, subst (λ n. IsFaultAt file (spelled qs) n more g) (sym (zero-add (token_count qs))) k) in
-    let moved : IsFaultAt file (spelled ps) (token_count ps) rest g = subst (λ l. IsFaultAt file (spelled ps) (token_count ps) l g) (sym same.1) (subst (λ l. IsFaultAt file (spelled l) (token_count l) more g) (sym same.0) k) in
-    one_fault file (spelled ps) (token_count ps) rest f g h moved
+    let same = same_split MOST_TOKENS (AtFault file f) (AtFault file g) (fault_excludes file f) (fault_excludes file g) ps qs 0 rest more (sym e ∙ d) are also (omega arith) (omega arith)
+    (bytes_of_pieces ps, subst (λ n. IsFaultAt file (bytes_of_pieces ps) n rest f) (sym (zero-add (token_count ps))) h)
+    (bytes_of_pieces qs, subst (λ n. IsFaultAt file (bytes_of_pieces qs) n more g) (sym (zero-add (token_count qs))) k) in
+    let moved : IsFaultAt file (bytes_of_pieces ps) (token_count ps) rest g = subst (λ l. IsFaultAt file (bytes_of_pieces ps) (token_count ps) l g) (sym same.1) (subst (λ l. IsFaultAt file (bytes_of_pieces l) (token_count l) more g) (sym same.0) k) in
+    one_fault file (bytes_of_pieces ps) (token_count ps) rest f g h moved
 
 -- what is given is the text's own list or fault, so it is no other
 pub only_tokens : {V : Type 0} (items : V → List Token) (file : ℕ) (text : List ℕ) (given : Result V LexFault) →

@@ -10,29 +10,30 @@ use Rattle.ulam_lex.specs.declared.token.LexFault.TheVariants.{BadByte, OpenComm
 use Rattle.ulam_lex.specs.declared.scan.PieceKind.{PieceKind}
 use Rattle.ulam_lex.specs.declared.scan.PieceKind.TheVariants as piece
 use Rattle.ulam_lex.specs.Starts.{Stands, BeginsNothing, IsDigitless}
-use Rattle.ulam_lex.specs.Texts.{TextPiece, spelled, is_joined, ArePieces, place_after, token_list, tokens_after, IsTokensOf, most_tokens, token_count, IsBadBehind, IsFaultAt, IsFaultOf}
+use Rattle.ulam_lex.specs.Texts.{TextPiece, bytes_of_pieces, is_joined, ArePieces, place_after, token_list, tokens_after, IsTokensOf, token_count, IsBadBehind, IsFaultAt, IsFaultOf}
+use Rattle.ulam_lex.specs.declared.lexer.TheConstants.{MOST_TOKENS}
 use Rattle.ulam_lex.specs.Steps.{Cut, cut_at, place_of, StandingPiece, standing, IsFaultIn, IsAdded, TakesPiece, IsRead}
 
-spelled_push : (ps : List TextPiece) (p : TextPiece) → spelled (ps ++ p ∷ []) ≡ spelled ps ++ p.bytes
+spelled_push : (ps : List TextPiece) (p : TextPiece) → bytes_of_pieces (ps ++ p ∷ []) ≡ bytes_of_pieces ps ++ p.bytes
 spelled_push ps p = sym (flat_map_more (λ (q : TextPiece). q.bytes) [] ps p)
 
 -- one more piece at the end
 pieces_push : (ps : List TextPiece) (p : TextPiece) (rest : List ℕ) → ArePieces ps (p.bytes ++ rest) → Stands p.kind (p.bytes ++ rest) p.bytes rest → is_joined p.kind rest ≡ false → ArePieces (ps ++ p ∷ []) rest
 pieces_push [] p rest are stands apart = (stands, apart, tt)
 pieces_push (q ∷ ps) p rest are stands apart =
-    let behind : spelled ps ++ (p.bytes ++ rest) ≡ spelled (ps ++ p ∷ []) ++ rest = sym (append_assoc (spelled ps) p.bytes rest) ∙ ap (λ l. l ++ rest) (sym (spelled_push ps p)) in (
+    let behind : bytes_of_pieces ps ++ (p.bytes ++ rest) ≡ bytes_of_pieces (ps ++ p ∷ []) ++ rest = sym (append_assoc (bytes_of_pieces ps) p.bytes rest) ∙ ap (λ l. l ++ rest) (sym (spelled_push ps p)) in (
       subst (λ l. Stands q.kind (q.bytes ++ l) q.bytes l) behind are.0,
       subst (λ l. is_joined q.kind l ≡ false) behind are.1,
       pieces_push ps p rest are.2 stands apart,
     )
 
 tokens_push : (file : ℕ) (before : List ℕ) (ps : List TextPiece) (p : TextPiece) →
-    tokens_after file before (ps ++ p ∷ []) ≡ tokens_after file before ps ++ token_list p.kind (length (before ++ spelled ps)) (length (before ++ spelled ps) + length p.bytes) (place_after file (before ++ spelled ps))
+    tokens_after file before (ps ++ p ∷ []) ≡ tokens_after file before ps ++ token_list p.kind (length (before ++ bytes_of_pieces ps)) (length (before ++ bytes_of_pieces ps) + length p.bytes) (place_after file (before ++ bytes_of_pieces ps))
 tokens_push file before [] p =
     append-nil (token_list p.kind (length before) (length before + length p.bytes) (place_after file before)) ∙ ap (λ l. token_list p.kind (length l) (length l + length p.bytes) (place_after file l)) (sym (append-nil before))
 tokens_push file before (q ∷ ps) p =
     let own = token_list q.kind (length before) (length before + length q.bytes) (place_after file before) in
-    ap (λ l. own ++ l) (tokens_push file (before ++ q.bytes) ps p) ∙ ap (λ l. own ++ (tokens_after file (before ++ q.bytes) ps ++ token_list p.kind (length l) (length l + length p.bytes) (place_after file l))) (append_assoc before q.bytes (spelled ps))
+    ap (λ l. own ++ l) (tokens_push file (before ++ q.bytes) ps p) ∙ ap (λ l. own ++ (tokens_after file (before ++ q.bytes) ps ++ token_list p.kind (length l) (length l + length p.bytes) (place_after file l))) (append_assoc before q.bytes (bytes_of_pieces ps))
     ∙ sym (append_assoc own (tokens_after file (before ++ q.bytes) ps) _)
 
 -- how many tokens there are does not depend on what is before them
@@ -68,7 +69,7 @@ read_more file text at tokens place new n next r t =
     let whole : drop at text ≡ bytes ++ rest = sym (take-append-drop n (drop at text)) ∙ ap (λ l. bytes ++ l) behind in
     let stands : Stands t.kind (bytes ++ rest) bytes rest = subst (λ l. Stands t.kind l bytes rest) whole (subst (λ l. Stands t.kind (drop at text) bytes l) behind t.stands) in
     let apart : is_joined t.kind rest ≡ false = ap (is_joined t.kind) (sym behind) ∙ t.apart in
-    let own : token_list t.kind (length (take at text)) (length (take at text) + n) (place_after file (take at text)) ≡ token_list t.kind (length (spelled r.pieces)) (length (spelled r.pieces) + length bytes) (place_after file (spelled r.pieces)) =
+    let own : token_list t.kind (length (take at text)) (length (take at text) + n) (place_after file (take at text)) ≡ token_list t.kind (length (bytes_of_pieces r.pieces)) (length (bytes_of_pieces r.pieces) + length bytes) (place_after file (bytes_of_pieces r.pieces)) =
     ap (λ k. token_list t.kind (length (take at text)) (length (take at text) + k) (place_after file (take at text))) (sym counted) ∙ ap (λ l. token_list t.kind (length l) (length l + length bytes) (place_after file l)) r.before in
     record {
       pieces = r.pieces ++ p ∷ [];
@@ -81,7 +82,7 @@ read_more file text at tokens place new n next r t =
     }
 
 -- the text is what was read and the rest
-text_split : (file : ℕ) (text : List ℕ) (at : ℕ) (tokens : List Token) (place : Place) (r : IsRead file text at tokens place) → text ≡ spelled r.pieces ++ drop at text
+text_split : (file : ℕ) (text : List ℕ) (at : ℕ) (tokens : List Token) (place : Place) (r : IsRead file text at tokens place) → text ≡ bytes_of_pieces r.pieces ++ drop at text
 text_split file text at tokens place r = sym (take-append-drop at text) ∙ ap (λ l. l ++ drop at text) r.before
 
 count_read : (file : ℕ) (text : List ℕ) (at : ℕ) (tokens : List Token) (place : Place) (r : IsRead file text at tokens place) → length tokens ≡ token_count r.pieces
@@ -95,8 +96,8 @@ fault_of file text at tokens place fault r h =
       drop at text,
       text_split file text at tokens place r,
       r.are_pieces,
-      subst (λ n. n ≤ most_tokens) count r.few,
-      subst (λ n. IsFaultAt file (spelled r.pieces) n (drop at text) fault) count (subst (λ l. IsFaultAt file l (length tokens) (drop at text) fault) r.before h),
+      subst (λ n. n ≤ MOST_TOKENS) count r.few,
+      subst (λ n. IsFaultAt file (bytes_of_pieces r.pieces) n (drop at text) fault) count (subst (λ l. IsFaultAt file l (length tokens) (drop at text) fault) r.before h),
     )
 
 pub read_fault : (file : ℕ) (text : List ℕ) (at : ℕ) (tokens : List Token) (place : Place) (fault : LexFault) → IsRead file text at tokens place → IsFaultIn (cut_at file text at) (length tokens) fault →
@@ -109,12 +110,12 @@ read_fault file text at tokens place NoMemory r h = inl refl
 
 -- the whole text was read
 pub read_end : (file : ℕ) (text : List ℕ) (at : ℕ) (tokens new : List Token) (place : Place) → IsRead file text at tokens place → length text ≤ at → new ≡ tokens ++ record { kind = End; first = at; end = at; place = place } ∷ [] →
-    IsTokensOf file text new × (length new ≤ most_tokens + 1)
+    IsTokensOf file text new × (length new ≤ MOST_TOKENS + 1)
 read_end file text at tokens new place r past e =
     let end : at ≡ length text = let within = r.within in omega arith in
     let whole : take at text ≡ text = take_all at text past in
     let nothing : drop at text ≡ [] = drop_all at text past in
-    let split : text ≡ spelled r.pieces = sym whole ∙ r.before in
+    let split : text ≡ bytes_of_pieces r.pieces = sym whole ∙ r.before in
     let last : place ≡ place_after file text = r.placed ∙ ap (place_after file) whole in
     let few = r.few in (
       (

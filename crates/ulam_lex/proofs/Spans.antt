@@ -7,7 +7,7 @@ use Rattle.ulam_lex.specs.declared.token.Token.{Token}
 use Rattle.ulam_lex.specs.declared.scan.PieceKind.{PieceKind}
 use Rattle.ulam_lex.specs.declared.scan.PieceKind.TheVariants as piece
 use Rattle.ulam_lex.specs.Pieces.{IsToken, IsPiece}
-use Rattle.ulam_lex.specs.Texts.{TextPiece, spelled, ArePieces, place_after, token_list, tokens_after, end_token, IsTokensOf, AreInOrder}
+use Rattle.ulam_lex.specs.Texts.{TextPiece, bytes_of_pieces, ArePieces, place_after, token_list, tokens_after, end_token, IsTokensOf, AreInOrder}
 use Rattle.ulam_lex.proofs.Fronts.{piece_some}
 
 -- a token before some tokens in order
@@ -36,16 +36,16 @@ piece_order (piece.Token kind) file text before bytes rest from us e p behind or
     (omega (arith, ap length e, length-append before (bytes ++ rest), length-append bytes rest))
     (order (length before + length bytes) (omega arith))
 
-tokens_order : (file : ℕ) (text before : List ℕ) (ps : List TextPiece) (from : ℕ) → text ≡ before ++ spelled ps → ArePieces ps [] → from ≤ length before → AreInOrder text from (tokens_after file before ps ++ end_token file text ∷ [])
+tokens_order : (file : ℕ) (text before : List ℕ) (ps : List TextPiece) (from : ℕ) → text ≡ before ++ bytes_of_pieces ps → ArePieces ps [] → from ≤ length before → AreInOrder text from (tokens_after file before ps ++ end_token file text ∷ [])
 tokens_order file text before [] from e are behind =
     let whole : text ≡ before = e ∙ append-nil before in
     (refl, omega (arith, ap length whole), refl, refl)
 tokens_order file text before (p ∷ ps) from e are behind =
     let own = token_list p.kind (length before) (length before + length p.bytes) (place_after file before) in
-    let next : text ≡ (before ++ p.bytes) ++ spelled ps = e ∙ sym (append_assoc before p.bytes (spelled ps)) in
+    let next : text ≡ (before ++ p.bytes) ++ bytes_of_pieces ps = e ∙ sym (append_assoc before p.bytes (bytes_of_pieces ps)) in
     let grouped : own ++ (tokens_after file (before ++ p.bytes) ps ++ end_token file text ∷ []) ≡ (own ++ tokens_after file (before ++ p.bytes) ps) ++ end_token file text ∷ [] = sym (append_assoc own (tokens_after file (before ++ p.bytes) ps) (end_token file text ∷ [])) in
     subst (AreInOrder text from) grouped
-    (piece_order p.kind file text before p.bytes (spelled ps) from (tokens_after file (before ++ p.bytes) ps ++ end_token file text ∷ []) e are.0.piece behind
+    (piece_order p.kind file text before p.bytes (bytes_of_pieces ps) from (tokens_after file (before ++ p.bytes) ps ++ end_token file text ∷ []) e are.0.piece behind
     (λ more within. tokens_order file text (before ++ p.bytes) ps more next are.2 (omega (arith, length-append before p.bytes))))
 
 pub in_order : (file : ℕ) (text : List ℕ) (tokens : List Token) → IsTokensOf file text tokens → AreInOrder text 0 tokens

@@ -4,7 +4,8 @@ use Rattle.std.specs.Global.{Global}
 use Rattle.ulam_lex.specs.declared.token.Token.{Token}
 use Rattle.ulam_lex.specs.declared.token.LexFault.{LexFault}
 use Rattle.ulam_lex.specs.declared.token.LexFault.TheVariants.{NoMemory}
-use Rattle.ulam_lex.specs.Texts.{TextPiece, spelled, ArePieces, IsTokensOf, most_tokens, IsFaultAt, IsFaultOf}
+use Rattle.ulam_lex.specs.Texts.{TextPiece, bytes_of_pieces, ArePieces, IsTokensOf, IsFaultAt, IsFaultOf}
+use Rattle.ulam_lex.specs.declared.lexer.TheConstants.{MOST_TOKENS}
 
 -- no two of which this holds
 abbrev pub AtMostOne : {A : Type 0} → (A → Type 0) → Type 0
@@ -12,7 +13,7 @@ AtMostOne {A = A} P = (a b : A) → P a → P b → a ≡ b
 
 -- the text has a list of tokens that is no longer than it may be
 abbrev pub HasTokens : ℕ → List ℕ → Type 0
-HasTokens file text = (tokens : List Token) × IsTokensOf file text tokens × (length tokens ≤ most_tokens + 1)
+HasTokens file text = (tokens : List Token) × IsTokensOf file text tokens × (length tokens ≤ MOST_TOKENS + 1)
 
 -- the text has a first fault
 abbrev pub HasFault : ℕ → List ℕ → Type 0
@@ -23,9 +24,9 @@ pub record IsBroken (file : ℕ) (text : List ℕ) : Type 0 where
   pub pieces : List TextPiece
   pub rest : List ℕ
   pub fault : LexFault
-  pub split : text ≡ spelled pieces ++ rest
+  pub split : text ≡ bytes_of_pieces pieces ++ rest
   pub are_pieces : ArePieces pieces rest
-  pub broken : IsFaultAt file (spelled pieces) 0 rest fault
+  pub broken : IsFaultAt file (bytes_of_pieces pieces) 0 rest fault
 
 -- the text has no list of tokens, however long
 abbrev pub HasNoTokens : ℕ → List ℕ → Type 0

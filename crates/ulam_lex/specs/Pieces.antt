@@ -3,6 +3,7 @@ use Rattle.std.specs.Prelude.{◌≡◌, ◌⊎◌, ℕ, ◌+◌, ◌*◌, ◌<�
 use Rattle.std.specs.List.{AllPass}
 use Rattle.std.specs.Char.{digit_value, is_digit}
 use Rattle.feast_base.specs.TypeNames.{is_word_byte}
+use Rattle.feast_base.specs.declared.type_name.TheConstants.{LONGEST_NAME}
 use Rattle.ulam_lex.specs.declared.bytes.Class.TheVariants.{Small, Capital}
 use Rattle.ulam_lex.specs.declared.token.TokenKind.{TokenKind}
 use Rattle.ulam_lex.specs.declared.token.TokenKind.TheVariants.{Name, TypeName, Keyword, Number, Sign, End}
@@ -32,9 +33,9 @@ Holds bytes part = (front : List ℕ) × (back : List ℕ) × (bytes ≡ front +
 abbrev pub IsBlockComment : List ℕ → Type 0
 IsBlockComment bytes = (body : List ℕ) × (bytes ≡ codes "/*" ++ (body ++ codes "*/")) × ¬ Holds body (codes "*/")
 
--- at most 255 letters, digits and `_`
+-- letters, digits and `_`, no more than a name may have
 abbrev pub IsWord : List ℕ → Type 0
-IsWord bytes = (length bytes ≤ 255) × AllPass is_word_byte bytes
+IsWord bytes = (length bytes ≤ LONGEST_NAME) × AllPass is_word_byte bytes
 
 -- what a number in a base begins with
 abbrev pub prefix_of : Base → List ℕ

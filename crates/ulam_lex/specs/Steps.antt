@@ -8,7 +8,8 @@ use Rattle.ulam_lex.specs.declared.token.LexFault.TheVariants.{BadByte, OpenComm
 use Rattle.ulam_lex.specs.declared.scan.PieceKind.{PieceKind}
 use Rattle.ulam_lex.specs.declared.scan.PieceKind.TheVariants as piece
 use Rattle.ulam_lex.specs.Starts.{Stands}
-use Rattle.ulam_lex.specs.Texts.{TextPiece, spelled, is_joined, ArePieces, place_after, token_list, tokens_after, most_tokens, IsFaultAt}
+use Rattle.ulam_lex.specs.Texts.{TextPiece, bytes_of_pieces, is_joined, ArePieces, place_after, token_list, tokens_after, IsFaultAt}
+use Rattle.ulam_lex.specs.declared.lexer.TheConstants.{MOST_TOKENS}
 
 -- the place after one more byte
 abbrev pub next_place : Place → ℕ → Place
@@ -40,11 +41,11 @@ standing kind first end place = record { kind = kind; first = first; end = end; 
 
 -- if the piece is a token, it was added to the old tokens, or it is one too many; any other piece adds nothing
 abbrev pub IsAdded : StandingPiece → List Token → List Token → Result (Unit {0}) LexFault → Type 0
-IsAdded p old new (Ok x) = (new ≡ old ++ token_list p.kind p.first p.end p.place) × (length new ≤ most_tokens)
+IsAdded p old new (Ok x) = (new ≡ old ++ token_list p.kind p.first p.end p.place) × (length new ≤ MOST_TOKENS)
 IsAdded p old new (Err (BadByte at)) = ⊥
 IsAdded p old new (Err (OpenComment at)) = ⊥
 IsAdded p old new (Err (NumberTooLarge at)) = ⊥
-IsAdded p old new (Err (TooManyTokens at)) = (length old ≡ most_tokens) × (at ≡ p.place) × ((token : TokenKind) × (p.kind ≡ piece.Token token))
+IsAdded p old new (Err (TooManyTokens at)) = (length old ≡ MOST_TOKENS) × (at ≡ p.place) × ((token : TokenKind) × (p.kind ≡ piece.Token token))
 IsAdded p old new (Err NoMemory) = Unit {0}
 
 -- after this many tokens the fault is in the rest, unless memory ran out
@@ -63,7 +64,7 @@ pub record TakesPiece (cut : Cut) (old new : List Token) (n : ℕ) (next : Place
   pub stands : Stands kind cut.rest (take n cut.rest) (drop n cut.rest)
   pub apart : is_joined kind (drop n cut.rest) ≡ false
   pub added : new ≡ old ++ token_list kind (length cut.before) (length cut.before + n) (place_of cut)
-  pub few : length new ≤ most_tokens
+  pub few : length new ≤ MOST_TOKENS
   pub placed : next ≡ place_after cut.file (cut.before ++ take n cut.rest)
 
 -- a piece was taken, and its length and the place after it are given, or there is a fault
@@ -75,8 +76,8 @@ IsStep cut old new (Err fault) = IsFaultIn cut (length old) fault
 pub record IsRead (file : ℕ) (text : List ℕ) (at : ℕ) (tokens : List Token) (place : Place) : Type 0 where
   pub pieces : List TextPiece
   pub within : at ≤ length text
-  pub before : take at text ≡ spelled pieces
+  pub before : take at text ≡ bytes_of_pieces pieces
   pub are_pieces : ArePieces pieces (drop at text)
   pub listed : tokens ≡ tokens_after file [] pieces
-  pub few : length tokens ≤ most_tokens
+  pub few : length tokens ≤ MOST_TOKENS
   pub placed : place ≡ place_after file (take at text)

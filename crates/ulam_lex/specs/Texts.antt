@@ -12,6 +12,7 @@ use Rattle.ulam_lex.specs.declared.scan.PieceKind.{PieceKind}
 use Rattle.ulam_lex.specs.declared.scan.PieceKind.TheVariants as piece
 use Rattle.ulam_lex.specs.Pieces.{is_in_line, IsToken}
 use Rattle.ulam_lex.specs.Starts.{Stands, BeginsNothing, IsDigitless, LeavesOpen, BeginsTooLarge}
+use Rattle.ulam_lex.specs.declared.lexer.TheConstants.{MOST_TOKENS}
 
 -- a piece of a text
 pub record TextPiece : Type 0 where
@@ -19,8 +20,8 @@ pub record TextPiece : Type 0 where
   pub bytes : List ℕ
 
 -- the bytes of pieces, one after another
-abbrev pub spelled : List TextPiece → List ℕ
-spelled pieces = flat_map (λ (p : TextPiece). p.bytes) pieces
+abbrev pub bytes_of_pieces : List TextPiece → List ℕ
+bytes_of_pieces pieces = flat_map (λ (p : TextPiece). p.bytes) pieces
 
 -- the kinds that no letter, digit or `_` may follow
 abbrev pub is_word_kind : PieceKind → Bool
@@ -40,7 +41,7 @@ is_joined kind back = is_word_kind kind && is_word_byte (slice_index back 0)
 -- these pieces come one after another, and then the rest
 abbrev pub ArePieces : List TextPiece → List ℕ → Type 0
 ArePieces [] rest = Unit {0}
-ArePieces (p ∷ ps) rest = Stands p.kind (p.bytes ++ (spelled ps ++ rest)) p.bytes (spelled ps ++ rest) × (is_joined p.kind (spelled ps ++ rest) ≡ false) × ArePieces ps rest
+ArePieces (p ∷ ps) rest = Stands p.kind (p.bytes ++ (bytes_of_pieces ps ++ rest)) p.bytes (bytes_of_pieces ps ++ rest) × (is_joined p.kind (bytes_of_pieces ps ++ rest) ≡ false) × ArePieces ps rest
 
 -- the place after some bytes of a file: its line is 1 more than the LFs among them, and its column 1 more than the bytes after the last LF
 abbrev pub place_after : ℕ → List ℕ → Place
@@ -63,19 +64,15 @@ end_token file text = record { kind = End; first = length text; end = length tex
 
 -- the text has this list of tokens: it is a list of pieces, and these are its tokens, and `End`
 abbrev pub IsTokensOf : ℕ → List ℕ → List Token → Type 0
-IsTokensOf file text tokens = (pieces : List TextPiece) × (text ≡ spelled pieces) × ArePieces pieces [] × (tokens ≡ tokens_after file [] pieces ++ end_token file text ∷ [])
-
--- how many tokens a text may have, not counting `End`
-abbrev pub most_tokens : ℕ
-most_tokens = 200000
+IsTokensOf file text tokens = (pieces : List TextPiece) × (text ≡ bytes_of_pieces pieces) × ArePieces pieces [] × (tokens ≡ tokens_after file [] pieces ++ end_token file text ∷ [])
 
 -- the text has this list of tokens, and it is no longer than it may be
 abbrev pub IsTokenList : ℕ → List ℕ → List Token → Type 0
-IsTokenList file text tokens = IsTokensOf file text tokens × (length tokens ≤ most_tokens + 1)
+IsTokenList file text tokens = IsTokensOf file text tokens × (length tokens ≤ MOST_TOKENS + 1)
 
 -- a letter, a digit or `_` directly follows the word or number at the front, and there is room for that token
 abbrev pub JoinsWord : ℕ → List ℕ → List ℕ → List ℕ → Type 0
-JoinsWord count text front back = (kind : PieceKind) × Stands kind text front back × (is_joined kind back ≡ true) × (count < most_tokens)
+JoinsWord count text front back = (kind : PieceKind) × Stands kind text front back × (is_joined kind back ≡ true) × (count < MOST_TOKENS)
 
 -- a byte that can't be there follows the front
 abbrev pub IsBadBehind : ℕ → List ℕ → List ℕ → List ℕ → Type 0
@@ -83,7 +80,7 @@ IsBadBehind count text front back = BeginsNothing text front back ⊎ (IsDigitle
 
 -- one token more than a text may have is at the front
 abbrev pub IsOneTooMany : ℕ → List ℕ → Type 0
-IsOneTooMany count text = (count ≡ most_tokens) × (kind : TokenKind) × (front : List ℕ) × (back : List ℕ) × Stands (piece.Token kind) text front back
+IsOneTooMany count text = (count ≡ MOST_TOKENS) × (kind : TokenKind) × (front : List ℕ) × (back : List ℕ) × Stands (piece.Token kind) text front back
 
 -- after some bytes with this many tokens, this fault is in the rest
 abbrev pub IsFaultAt : ℕ → List ℕ → ℕ → List ℕ → LexFault → Type 0
@@ -99,7 +96,7 @@ token_count pieces = length (tokens_after 0 [] pieces)
 
 -- the first fault of a text: the pieces before it have no more tokens than a text may have
 abbrev pub IsFaultOf : ℕ → List ℕ → LexFault → Type 0
-IsFaultOf file text fault = (pieces : List TextPiece) × (rest : List ℕ) × (text ≡ spelled pieces ++ rest) × ArePieces pieces rest × (token_count pieces ≤ most_tokens) × IsFaultAt file (spelled pieces) (token_count pieces) rest fault
+IsFaultOf file text fault = (pieces : List TextPiece) × (rest : List ℕ) × (text ≡ bytes_of_pieces pieces ++ rest) × ArePieces pieces rest × (token_count pieces ≤ MOST_TOKENS) × IsFaultAt file (bytes_of_pieces pieces) (token_count pieces) rest fault
 
 -- each token comes after the one before it and is one of its kind; the last is at the end of the text, and no other is `End`
 abbrev pub AreInOrder : List ℕ → ℕ → List Token → Type 0

@@ -1,6 +1,7 @@
 //! Reading a text from its start to its end.
 ghost use Rattle.std.specs.Prelude.{◌≡◌, ◌+◌, ◌-◌, ◌<◌, ◌≤◌, ◌^◌, ◌∷◌, [], length, take, drop, fold, IfOk, IfErr, ◌⊎◌, List};
-ghost use Rattle.ulam_lex.specs.Texts.{is_word_kind, is_joined, place_after, most_tokens, IsTokenList, IsFaultOf, AreInOrder};
+ghost use Rattle.ulam_lex.specs.Texts.{is_word_kind, is_joined, place_after, IsTokenList, IsFaultOf, AreInOrder};
+ghost use Rattle.ulam_lex.specs.declared.lexer.TheConstants.{MOST_TOKENS};
 ghost use Rattle.ulam_lex.specs.Laws.{GivesTokens, GivesFault};
 ghost use Rattle.ulam_lex.specs.Starts.{Stands};
 ghost use Rattle.ulam_lex.specs.declared.token.Token.{Token};
@@ -59,7 +60,7 @@ fn next_place(place: Place, byte: u8) -> Place
 }
 
 /// The place after some more bytes.
-fn passed(place: Place, bytes: &[u8]) -> Place
+fn place_after(place: Place, bytes: &[u8]) -> Place
     requires line { place.line + length bytes.now < 2 ^ 32 }
     requires column { place.column + length bytes.now < 2 ^ 32 }
     ensures { result ≡ fold next_place place bytes.now }
@@ -72,7 +73,7 @@ fn passed(place: Place, bytes: &[u8]) -> Place
 }
 
 /// The most tokens that a text may have, not counting `End`.
-const MOST_TOKENS: usize = 200_000;
+pub const MOST_TOKENS: usize = 200_000;
 
 /// Adds the token of a piece, if it is one.
 fn add(
@@ -82,7 +83,7 @@ fn add(
     end: u32,
     place: Place,
 ) -> Result<(), LexFault>
-    requires { length tokens.old.items ≤ most_tokens }
+    requires { length tokens.old.items ≤ MOST_TOKENS }
     ensures { IsAdded (standing kind first end place) tokens.old.items tokens.new.items result }
 {
     let PieceKind::Token(kind) = kind else {
@@ -116,14 +117,14 @@ fn take_piece(
     requires within { at + len ≤ length bytes.now }
     requires some { 0 < len }
     requires placed { place ≡ place_after place.file (take at bytes.now) }
-    requires few { length tokens.old.items ≤ most_tokens }
+    requires few { length tokens.old.items ≤ MOST_TOKENS }
     requires stands { Stands kind (drop at bytes.now) (take len (drop at bytes.now)) (drop len (drop at bytes.now)) }
     ensures { IsStep (cut_at place.file bytes.now at) tokens.old.items tokens.new.items result }
 {
     let (_, rest) = bytes.split_at(at);
     let (piece, back) = rest.split_at(len);
     add(tokens, kind, at as u32, (at + len) as u32, place)?;
-    let next = passed(place, piece);
+    let next = place_after(place, piece);
     if is_joined(kind, back) {
         return Err(LexFault::BadByte(next));
     }
@@ -140,7 +141,7 @@ fn step(
     requires short { length bytes.now < 2 ^ 32 - 1 }
     requires within { at < length bytes.now }
     requires placed { place ≡ place_after place.file (take at bytes.now) }
-    requires few { length tokens.old.items ≤ most_tokens }
+    requires few { length tokens.old.items ≤ MOST_TOKENS }
     ensures { IsStep (cut_at place.file bytes.now at) tokens.old.items tokens.new.items result }
 {
     let (_, rest) = bytes.split_at(at);
@@ -148,7 +149,7 @@ fn step(
         Start::Piece(kind, len) => take_piece(bytes, at, place, kind, len, tokens),
         Start::BadByte(behind) => {
             let (front, _) = rest.split_at(behind);
-            Err(LexFault::BadByte(passed(place, front)))
+            Err(LexFault::BadByte(place_after(place, front)))
         }
         Start::OpenComment => Err(LexFault::OpenComment(place)),
         Start::NumberTooLarge => Err(LexFault::NumberTooLarge(place)),

@@ -10,6 +10,6 @@ mod token;
 
 pub use bytes::is_keyword;
 pub use law::one_reading;
-pub use lexer::lex;
+pub use lexer::{MOST_TOKENS, lex};
 pub use numeral::{Numeral, numeral_of};
 pub use token::{LexFault, Token, TokenKind};

@@ -2,6 +2,7 @@
 ghost use Rattle.std.specs.Prelude.{◌≡◌, ℕ, ◌+◌, ◌<◌, ◌≤◌, ◌++◌, length, slice_index, take, drop, IfSome, IfNone, IsTrue, IsFalse, min, codes};
 ghost use Rattle.std.specs.List.{prefix_len};
 ghost use Rattle.feast_base.specs.TypeNames.{is_word_byte};
+ghost use Rattle.feast_base.specs.declared.type_name.TheConstants.{LONGEST_NAME};
 ghost use Rattle.ulam_lex.specs.Bytes.{is_white, class_of, is_sign};
 ghost use Rattle.ulam_lex.specs.Pieces.{is_in_line};
 ghost use Rattle.ulam_lex.specs.Starts.{IsStart, OpensNone, ClosesAt, StaysOpenAt};
@@ -9,6 +10,7 @@ ghost use Rattle.ulam_lex.specs.Starts.{IsStart, OpensNone, ClosesAt, StaysOpenA
 use crate::bytes::{Class, class_of, is_keyword, is_sign, is_white, is_word_byte};
 use crate::numeral::{base_at, digits_at, suffix_len, worth};
 use crate::token::TokenKind;
+use feast_base::LONGEST_NAME;
 
 /// What a piece of a text is.
 #[derive(Clone, Copy)]
@@ -50,9 +52,6 @@ fn space(bytes: &[u8]) -> Start
     Start::Piece(PieceKind::Space, space_len(bytes))
 }
 
-/// The most bytes that a word may have.
-const LONGEST_WORD: usize = 255;
-
 /// How many bytes at the front are letters, digits or `_`.
 fn word_run(bytes: &[u8]) -> usize
     ensures { result ≡ prefix_len is_word_byte bytes.now }
@@ -62,10 +61,10 @@ fn word_run(bytes: &[u8]) -> usize
 
 /// The length of the word at the front.
 fn word_len(bytes: &[u8]) -> usize
-    ensures value { result ≡ min (prefix_len is_word_byte bytes.now) 255 }
+    ensures value { result ≡ min (prefix_len is_word_byte bytes.now) LONGEST_NAME }
     ensures within { result ≤ length bytes.now }
 {
-    word_run(bytes).min(LONGEST_WORD)
+    word_run(bytes).min(LONGEST_NAME)
 }
 
 /// A name or a keyword.

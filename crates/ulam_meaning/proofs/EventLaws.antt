@@ -7,7 +7,7 @@ use Rattle.datum.specs.Failures.{IsFailure}
 use Rattle.list_laws.proofs.Slots.{length_set}
 use Rattle.bit_field.specs.Atom.{AtomValue, empty_atom}
 use Rattle.bit_field.proofs.Fields.{replaced-below}
-use Rattle.window_sites.specs.Window.{WindowValue, IsWindow, atom_at, live_at, put_at, swap_at, emptied}
+use Rattle.window_sites.specs.Window.{WindowValue, IsWindow, atom_at, live_at, put_at, swap_at, without_centre}
 use Rattle.window_sites.proofs.Marks.{set_apart}
 use Rattle.sat_math.specs.declared.NumType.{NumType}
 use Rattle.sat_math.specs.declared.Kind.{Kind}
@@ -165,7 +165,7 @@ marks_kept g e w c = record {
   write = λ a first num v z h f. tt;
   put = λ x n a h f. marks_on w x (put_at x n a) h (marks_put x n a (live_at x n) refl);
   swap = λ x i j h. marks_on w x (swap_at x i j) h (marks_swap x i j (live_at x i) (live_at x j) refl refl);
-  empties = λ x h. marks_on w x (emptied x) h (marks_set x 0 empty_atom (ap (λ l. slice_index_or l 0 false) h.live ∙ c));
+  empties = λ x h. marks_on w x (without_centre x) h (marks_set x 0 empty_atom (ap (λ l. slice_index_or l 0 false) h.live ∙ c));
 }
 
 -- live marks stay, and sites that are not live keep their atoms
@@ -327,11 +327,11 @@ unfolding after
 no_element g w seed h = ap (after_by g w seed) h
 
 -- a failure empties the centre
-pub fails_by : (g : Program) (w : WindowValue) (seed c n : ℕ) → element_of g (atom_at w 0).kind ≡ Some c → failure (behaves (event_of w seed) g c w) ≡ Some n → after g w seed ≡ emptied w
+pub fails_by : (g : Program) (w : WindowValue) (seed c n : ℕ) → element_of g (atom_at w 0).kind ≡ Some c → failure (behaves (event_of w seed) g c w) ≡ Some n → after g w seed ≡ without_centre w
 unfolding after
 fails_by g w seed c n h f = ap (after_by g w seed) h ∙ by (behaves (event_of w seed) g c w) f
   where
-    by : (r : Outcome Way) → failure r ≡ Some n → left_by w r ≡ emptied w
+    by : (r : Outcome Way) → failure r ≡ Some n → left_by w r ≡ without_centre w
     by (gives way s) e = absurd cc
     by (fails i) e = refl
     by wrong e = absurd cc

@@ -6,7 +6,7 @@ use Rattle.datum.specs.Failures.{IsFailure}
 use Rattle.datum.specs.Fields.{get_field}
 use Rattle.sat_math.specs.Operations.{is_zero, one_in}
 use Rattle.bit_field.specs.Atom.{AtomValue, empty_atom, new_atom}
-use Rattle.window_sites.specs.Window.{WindowValue, atom_at, live_at, put_at, swap_at, is_empty_at, emptied}
+use Rattle.window_sites.specs.Window.{WindowValue, atom_at, live_at, put_at, swap_at, is_empty_at, without_centre}
 use Rattle.sat_math.specs.declared.NumType.{NumType}
 use Rattle.datum.specs.declared.Datum.{Datum}
 use Rattle.datum.specs.declared.Datum.TheVariants.{Number, Atom}
@@ -24,9 +24,9 @@ use Rattle.ulam_meaning.specs.Paths.{Span, Spot, itself, local, member, part, wi
 use Rattle.ulam_meaning.specs.Values.{number_type, width_of, arith_of, arith_with, operator, default_of, with_number, with_part}
 use Rattle.ulam_meaning.specs.Runs.{Event, Store, Outcome, gives, fails, wrong, Way, goes_on, breaks, continues, returns, Calls, turns_spent, too_deep, divided_by_zero, no_such_site, no_bound, lost_self, no_such_index, and_then, by_way, go_on, by_round, after_round, on_number, on_atom, on_one, on_two, on_slot, cast_to, on_self, on_site, on_index, on_bound, on_turn, on_result, with_local, with_site}
 use Rattle.ulam_meaning.specs.Places.{on_part, bit_at, read, read_at, write, write_at}
-use Rattle.ulam_meaning.specs.Expressions.{ask, draw, exchange, built, casts, built_casts, with_first, call, value_given, both, either, operate, has_kind, eval, eval_form, arguments}
-use Rattle.ulam_meaning.specs.Statements.{holds, choose, test, loop, updated, assign, if_any, one, count_op, declare, give_back, exec, exec_part, exec_all}
-use Rattle.ulam_meaning.specs.Events.{fill, fresh, answer, answer_by, run_body, returned, calls_at, left_by}
+use Rattle.ulam_meaning.specs.Expressions.{ask, draw, exchange, call_built_in, casts, built_casts, with_first, call, value_given, both, either, operate, has_kind, eval, eval_form, arguments}
+use Rattle.ulam_meaning.specs.Statements.{holds, choose, test, loop, update, assign, if_any, one, count_op, declare, give_back, exec, exec_part, exec_all}
+use Rattle.ulam_meaning.specs.Events.{fill, fresh, answer, answer_by, run_body, after_body, calls_at, left_by}
 
 abbrev pub Each : (Datum → Type 0) → List Datum → Type 0
 Each q [] = Unit {0}
@@ -57,7 +57,7 @@ pub record Kept (g : Program) (e : Event) (w : WindowValue → Type 0) (q : Datu
   pub write : (a : AtomValue) (first : ℕ) (num : NumType) (v : ℤ) → nat_eq a.kind 0 ≡ false → m num → q (Atom a) → q (Atom (with_number a first num v))
   pub put : (x : WindowValue) (n : ℕ) (a : AtomValue) → w x → q (Atom a) → w (put_at x n a)
   pub swap : (x : WindowValue) (i j : ℕ) → w x → w (swap_at x i j)
-  pub empties : (x : WindowValue) → w x → w (emptied x)
+  pub empties : (x : WindowValue) → w x → w (without_centre x)
 
 module _ (g : Program) (e : Event) (w : WindowValue → Type 0) (q : Datum → Type 0) (m : NumType → Type 0) (k : Kept g e w q m) (n : ℕ) where
   abbrev pub Fine : Store → Type 0
@@ -251,7 +251,7 @@ module _ (g : Program) (e : Event) (w : WindowValue → Type 0) (q : Datum → T
   draw_fine : (use_of : ℕ → ℤ) (x : Datum) (s : Store) → Fine s → Ends (IfAny q) (draw e use_of x s)
   draw_fine use_of x s h = number_fine (IfAny q) x _ (λ i. bound_fine (IfAny q) i _ (λ j. (k.number _, (h.0, h.1, h.2))))
 
-  built_fine : (b : Built) (xs : List Datum) (s : Store) → Fine s → Ends (IfAny q) (built e b xs s)
+  built_fine : (b : Built) (xs : List Datum) (s : Store) → Fine s → Ends (IfAny q) (call_built_in e b xs s)
   built_fine Swap xs s h = two_fine (IfAny q) xs _ (λ x y. exchange_fine x y s h)
   built_fine IsLive xs s h = one_fine (IfAny q) xs _ (λ x. ask_fine live_at x s h)
   built_fine IsEmpty xs s h = one_fine (IfAny q) xs _ (λ x. ask_fine is_empty_at x s h)
@@ -260,7 +260,7 @@ module _ (g : Program) (e : Event) (w : WindowValue → Type 0) (q : Datum → T
 
   call_fine : (h : Calls) (c : Callee) (args : List (Option NumType) → Outcome (List Datum)) → FineCalls h → ((cs : List (Option NumType)) → Ends (Each q) (args cs)) → Ends (IfAny q) (call e g h c args)
   call_fine h (called f) args hk af = then_fine (Each q) (IfAny q) (args (casts (function_of g f).params)) (λ xs s. h f xs s) (af (casts (function_of g f).params)) (λ xs s u fs. hk f xs s u fs)
-  call_fine h (built_in b) args hk af = then_fine (Each q) (IfAny q) (args (built_casts b)) (λ xs s. built e b xs s) (af (built_casts b)) (λ xs s u fs. built_fine b xs s fs)
+  call_fine h (built_in b) args hk af = then_fine (Each q) (IfAny q) (args (built_casts b)) (λ xs s. call_built_in e b xs s) (af (built_casts b)) (λ xs s u fs. built_fine b xs s fs)
   call_fine h no_callee args hk af = tt
 
   given_fine : (v : Option Datum) (s : Store) → IfAny q v → Fine s → Ends q (value_given v s)
@@ -317,14 +317,14 @@ module _ (g : Program) (e : Event) (w : WindowValue → Type 0) (q : Datum → T
       let on_after = λ (s2 : Store) (f2 : Fine s2). go_on_fine (step s2) again (hs s2 f2) on_again in
       test_fine c s so (λ s1. gives goes_on s1) hc f (λ s1 f1. then_fine (OnWay q) (OnWay q) (body s1) (λ way s2. by_round way s2 after) (hb s1 f1) (λ way s2 u f2. round_fine way s2 after u f2 on_after)) (λ s1 f1. (tt, f1))
 
-  updated_fine : (o : PairOp) (ty : Ty) (width : ℕ) (x y : Datum) (s : Store) → Fine s → Ends q (updated o ty width x y s)
+  updated_fine : (o : PairOp) (ty : Ty) (width : ℕ) (x y : Datum) (s : Store) → Fine s → Ends q (update o ty width x y s)
   updated_fine o ty width x y s h = operate_fine (operator o (arith_with ty width) (width_of ty)) x y s h
 
   assign_fine : (z : Scene) (at : Spot) (index : Option (Store → Outcome Datum)) (o : Option PairOp) (width : ℕ) (value : Store → Outcome Datum) (s : Store) → FineSpot at → FineTest index → ((s : Store) → Fine s → Ends q (value s)) → Fine s → Ends (OnWay q) (assign e z at index o width value s)
   assign_fine z at None None width value s o hi hv f = then_fine q (OnWay q) (value s) (λ x s1. write e z at x s1) (hv s f) (λ x s1 qx f1. write_fine z at x s1 o qx f1)
   assign_fine z at None (Some op) width value s o hi hv f =
       let last = λ (v : Datum) (s3 : Store). write e z at v s3 in
-      let change = λ (x y : Datum) (s2 : Store). updated op (spot_type z at) width x y s2 in
+      let change = λ (x y : Datum) (s2 : Store). update op (spot_type z at) width x y s2 in
       then_fine q (OnWay q) (read e at s) (λ x s1. and_then (value s1) (λ y s2. and_then (change x y s2) last)) (read_fine at s f) (λ x s1 qx f1.
       then_fine q (OnWay q) (value s1) (λ y s2. and_then (change x y s2) last) (hv s1 f1) (λ y s2 qy f2.
       then_fine q (OnWay q) (change x y s2) last (updated_fine op (spot_type z at) width x y s2 f2) (λ v s3 qv f3. write_fine z at v s3 o qv f3)))
@@ -333,7 +333,7 @@ module _ (g : Program) (e : Event) (w : WindowValue → Type 0) (q : Datum → T
       then_fine q (OnWay q) (value s1) (λ x s2. write_at e at i x s2) (hv s1 f1) (λ x s2 qx f2. write_at_fine at i x s2 o qx f2))
   assign_fine z at (Some index) (Some op) width value s o hi hv f =
       let last = λ (i v : Datum) (s4 : Store). write_at e at i v s4 in
-      let change = λ (x y : Datum) (s3 : Store). updated op (spot_type z at) width x y s3 in
+      let change = λ (x y : Datum) (s3 : Store). update op (spot_type z at) width x y s3 in
       then_fine q (OnWay q) (index s) (λ i s1. and_then (read_at e at i s1) (λ x s2. and_then (value s2) (λ y s3. and_then (change x y s3) (last i)))) (hi s f) (λ i s1 qi f1.
       then_fine q (OnWay q) (read_at e at i s1) (λ x s2. and_then (value s2) (λ y s3. and_then (change x y s3) (last i))) (read_at_fine at i s1 f1) (λ x s2 qx f2.
       then_fine q (OnWay q) (value s2) (λ y s3. and_then (change x y s3) (last i)) (hv s2 f2) (λ y s3 qy f3.
@@ -473,7 +473,7 @@ module _ (g : Program) (e : Event) (w : WindowValue → Type 0) (q : Datum → T
   answer_fine ty (returns None) h = none_fine ty
   answer_fine ty (returns (Some x)) h = some_fine ty x h
 
-  returned_fine : (ty : Ty) (locals : List Datum) (r : Outcome Way) → Each q locals → Ends (OnWay q) r → Ends (IfAny q) (returned g ty locals r)
+  returned_fine : (ty : Ty) (locals : List Datum) (r : Outcome Way) → Each q locals → Ends (OnWay q) r → Ends (IfAny q) (after_body g ty locals r)
   returned_fine ty locals r h f = then_fine (OnWay q) (IfAny q) r (λ way s. gives (answer_by g ty way) (record s { locals = locals })) f (λ way s u fs. (answer_fine ty way u, (fs.0, h, fs.2)))
 
   pub body_fine : (h : Calls) → FineCalls h → (f : Key) (xs : List Datum) (i : ℕ) (s : Store) → Each q xs → Fine s → i ≤ n → Ends (OnWay q) (run_body e g h f xs i s)

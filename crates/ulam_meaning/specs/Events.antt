@@ -1,7 +1,7 @@
 -- What a function does, and what an event of an element leaves.
 use Rattle.std.specs.Prelude.{ℕ, zero, suc, pos, List, [], ◌∷◌, map, Option, Some, None, ◌≡◌}
 use Rattle.bit_field.specs.Atom.{empty_atom}
-use Rattle.window_sites.specs.Window.{WindowValue, atom_at, emptied}
+use Rattle.window_sites.specs.Window.{WindowValue, atom_at, without_centre}
 use Rattle.datum.specs.declared.Datum.{Datum}
 use Rattle.datum.specs.declared.Datum.TheVariants.{Number, Atom}
 use Rattle.ulam_tree.specs.declared.resolved.Ty.{Ty}
@@ -11,6 +11,7 @@ use Rattle.ulam_meaning.specs.Paths.{Key, function_of, scene_of}
 use Rattle.ulam_meaning.specs.Values.{default_of}
 use Rattle.ulam_meaning.specs.Runs.{Event, Store, Outcome, gives, fails, wrong, Way, goes_on, breaks, continues, returns, Calls, too_deep, and_then, on_turn}
 use Rattle.ulam_meaning.specs.Statements.{exec_all}
+use Rattle.feast_base.specs.declared.limits.TheConstants.{MOST_CALLS, MOST_TURNS}
 
 -- Functions
 
@@ -41,8 +42,8 @@ module _ (g : Program) where
   answer_by ty (returns v) = answer ty v
 
   -- a body that has ended: what the function gives, and the caller's locals again
-  abbrev pub returned : Ty → List Datum → Outcome Way → Outcome (Option Datum)
-  returned ty locals r = and_then r (λ way s. gives (answer_by ty way) (record s { locals = locals }))
+  abbrev pub after_body : Ty → List Datum → Outcome Way → Outcome (Option Datum)
+  after_body ty locals r = and_then r (λ way s. gives (answer_by ty way) (record s { locals = locals }))
 
 module _ (e : Event) (g : Program) where
   -- the body of a function with these arguments, with this many turns left
@@ -53,7 +54,7 @@ module _ (e : Event) (g : Program) where
   -- with fresh locals.
   unfoldable pub calls_at : ℕ → Calls
   calls_at zero f xs s = on_turn s.turns (λ n. fails too_deep)
-  calls_at (suc d) f xs s = on_turn s.turns (λ n. returned g (function_of g f).result s.locals (run_body (calls_at d) f xs n s))
+  calls_at (suc d) f xs s = on_turn s.turns (λ n. after_body g (function_of g f).result s.locals (run_body (calls_at d) f xs n s))
 
 -- Events
 
@@ -63,12 +64,12 @@ behave_key g c = record { class = c; function = behave_of g c; base = 0 }
 
 -- an event of the element that is class c: `behave` has 1,000 turns, no word taken, and calls nest at most 16 deep in it
 unfoldable pub behaves : Event → Program → ℕ → WindowValue → Outcome Way
-behaves e g c w = run_body e g (calls_at e g 16) (behave_key g c) [] 1000 (record { locals = []; window = w; taken = 0; turns = 1000 })
+behaves e g c w = run_body e g (calls_at e g MOST_CALLS) (behave_key g c) [] MOST_TURNS (record { locals = []; window = w; taken = 0; turns = MOST_TURNS })
 
 -- the window that an event leaves: on a failure the old one with Empty at site 0
 abbrev pub left_by : WindowValue → Outcome Way → WindowValue
 left_by w (gives way s) = s.window
-left_by w (fails n) = emptied w
+left_by w (fails n) = without_centre w
 left_by w wrong = w
 
 -- the number of an event's failure, or None if it succeeds

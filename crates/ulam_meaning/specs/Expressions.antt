@@ -14,7 +14,7 @@ use Rattle.ulam_tree.specs.declared.op.PairOp.TheVariants as op
 use Rattle.ulam_tree.specs.Typed as t
 use Rattle.ulam_meaning.specs.Programs.{Program, type_number}
 use Rattle.ulam_meaning.specs.Paths.{spot, function_of, Callee, called, built_in, no_callee, callee, Scene}
-use Rattle.ulam_meaning.specs.Values.{number_type, width_of, arith_of, operator, prefixed}
+use Rattle.ulam_meaning.specs.Values.{number_type, width_of, arith_of, operator, apply_prefix}
 use Rattle.ulam_meaning.specs.Runs.{Event, Store, Outcome, gives, wrong, Calls, and_then, on_number, on_atom, on_one, on_two, cast_to, on_site, on_bound, on_result, with_swapped}
 use Rattle.ulam_meaning.specs.Places.{read, read_at}
 
@@ -34,12 +34,12 @@ module _ (e : Event) where
   draw use_of x s = on_number x (λ b. on_bound b (λ n. gives (Some (Number (use_of (event_word e.seed s.taken % n)))) (record s { taken = suc s.taken })))
 
   -- a function of the window or of the random stream, on the values of its arguments
-  abbrev pub built : Built → List Datum → Store → Outcome (Option Datum)
-  built Swap xs s = on_two xs (λ x y. exchange x y s)
-  built IsLive xs s = on_one xs (λ x. ask live_at x s)
-  built IsEmpty xs s = on_one xs (λ x. ask is_empty_at x s)
-  built Create xs s = on_one xs (λ x. draw pos x s)
-  built OneIn xs s = on_one xs (λ x. draw one_in x s)
+  abbrev pub call_built_in : Built → List Datum → Store → Outcome (Option Datum)
+  call_built_in Swap xs s = on_two xs (λ x y. exchange x y s)
+  call_built_in IsLive xs s = on_one xs (λ x. ask live_at x s)
+  call_built_in IsEmpty xs s = on_one xs (λ x. ask is_empty_at x s)
+  call_built_in Create xs s = on_one xs (λ x. draw pos x s)
+  call_built_in OneIn xs s = on_one xs (λ x. draw one_in x s)
 
 -- Calls
 
@@ -61,7 +61,7 @@ module _ (e : Event) (g : Program) (h : Calls) where
   -- a call: its arguments, which are cast as said, and then the function
   abbrev pub call : Callee → (List (Option NumType) → Outcome (List Datum)) → Outcome (Option Datum)
   call (called f) arguments = and_then (arguments (casts (function_of g f).params)) (λ xs s. h f xs s)
-  call (built_in b) arguments = and_then (arguments (built_casts b)) (λ xs s. built e b xs s)
+  call (built_in b) arguments = and_then (arguments (built_casts b)) (λ xs s. call_built_in e b xs s)
   call no_callee arguments = wrong
 
 -- a call as a value
@@ -105,7 +105,7 @@ module _ (e : Event) (z : Scene) (h : Calls) where
     eval_form (t.instance c) ty s = gives (Atom (new_atom (type_number z.program c.ty))) s
     eval_form (t.group a p) ty s = eval a s
     eval_form (t.cast c a p) ty s = and_then (eval a s) (λ x s1. cast_to (number_type c.ty) x s1)
-    eval_form (t.prefix o a p) ty s = and_then (eval a s) (λ x s1. on_number x (λ v. gives (Number (prefixed o ty v)) s1))
+    eval_form (t.prefix o a p) ty s = and_then (eval a s) (λ x s1. on_number x (λ v. gives (Number (apply_prefix o ty v)) s1))
     eval_form (t.pair op.Both a b p) ty s = and_then (eval a s) (λ x s1. both x s1 (eval b))
     eval_form (t.pair op.Either a b p) ty s = and_then (eval a s) (λ x s1. either x s1 (eval b))
     eval_form (t.pair o a b p) ty s = and_then (eval a s) (λ x s1. and_then (eval b s1) (λ y s2. operate (operator o (arith_of ty) (width_of ty)) x y s2))

@@ -3,7 +3,7 @@ use Rattle.std.specs.Prelude.{◌≡◌, ◌⊎◌, ℕ, suc, ◌≤◌, ◌<◌
 use Rattle.datum.specs.Failures.{IsFailure}
 use Rattle.datum.specs.declared.Datum.{Datum}
 use Rattle.bit_field.specs.Atom.{AtomValue, empty_atom}
-use Rattle.window_sites.specs.Window.{WindowValue, IsWindow, atom_at, live_at, emptied}
+use Rattle.window_sites.specs.Window.{WindowValue, IsWindow, atom_at, live_at, without_centre}
 use Rattle.ulam_tree.specs.Resolved as r
 use Rattle.ulam_tree.specs.Typed as t
 use Rattle.ulam_tree.specs.Ways.{NoneContainsItself}
@@ -13,6 +13,7 @@ use Rattle.ulam_meaning.specs.Paths.{Key, Scene}
 use Rattle.ulam_meaning.specs.Runs.{Event, Store, Outcome, gives, fails, wrong, Way}
 use Rattle.ulam_meaning.specs.Statements.{loop, if_any, exec, exec_part}
 use Rattle.ulam_meaning.specs.Events.{calls_at, behaves, failure, event_of, after}
+use Rattle.bit_field.specs.declared.TheConstants.{STATE_BITS}
 
 -- an atom that is Empty or of one of the elements
 abbrev pub IsKnown : Program → AtomValue → Type 0
@@ -24,7 +25,7 @@ EachAtom P w = (n : ℕ) → P (atom_at w n)
 
 -- an atom has a state below 2^71
 abbrev pub HasState : AtomValue → Type 0
-HasState a = a.state < 2 ^ 71
+HasState a = a.state < 2 ^ STATE_BITS
 
 -- a window and a later one: the live marks stay, and sites that are not live keep their atoms
 pub record KeepsMarks (w after : WindowValue) : Type 0 where
@@ -47,7 +48,7 @@ bits_of g c = sum (class_at g.layout c)
 -- quark type takes the bits that the layout gives for the quark; and no class takes more than 71.
 pub record IsLaidOut (g : Program) : Type 0 where
   pub widths : (c : ℕ) → class_at g.layout c ≡ map (λ (f : Field). member_bits (bits_of g) f.ty f.length) (fields (members_of g c))
-  pub most : (c : ℕ) → bits_of g c ≤ 71
+  pub most : (c : ℕ) → bits_of g c ≤ STATE_BITS
 
 -- Classes before and after their types are known have the same data members.
 abbrev pub SameFields : List r.Class → List t.Class → Type 0
@@ -93,7 +94,7 @@ module _ (g : Program) where
 
   -- An event that fails leaves the old window with Empty at site 0.
   abbrev pub FailureEmptiesCentre : Type 0
-  FailureEmptiesCentre = (w : WindowValue) (seed c n : ℕ) → element_of g (atom_at w 0).kind ≡ Some c → failure (behaves (event_of w seed) g c w) ≡ Some n → after g w seed ≡ emptied w
+  FailureEmptiesCentre = (w : WindowValue) (seed c n : ℕ) → element_of g (atom_at w 0).kind ≡ Some c → failure (behaves (event_of w seed) g c w) ≡ Some n → after g w seed ≡ without_centre w
 
   -- A window with an empty centre stays as it is.
   abbrev pub EmptyCentreStays : Type 0

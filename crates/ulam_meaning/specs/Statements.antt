@@ -37,8 +37,8 @@ loop (suc m) c body step s = test c s
 -- Assignments
 
 -- p op e, where p has this type and this value, and e this width
-abbrev pub updated : PairOp → Ty → ℕ → Datum → Datum → Store → Outcome Datum
-updated o ty w x y s = operate (operator o (arith_with ty w) (width_of ty)) x y s
+abbrev pub update : PairOp → Ty → ℕ → Datum → Datum → Store → Outcome Datum
+update o ty w x y s = operate (operator o (arith_with ty w) (width_of ty)) x y s
 
 -- what `++` and `--` add and take away: a plain 1
 abbrev pub one : Store → Outcome Datum
@@ -52,9 +52,9 @@ module _ (e : Event) (z : Scene) where
   -- What is assigned to a path, with or without an index. Without an operator the index is run, then the value, and then it is stored. With one the index is run once, then what is there is read, then the value is run, and the result stored. The width is that of the value.
   abbrev pub assign : Spot → Option (Store → Outcome Datum) → Option PairOp → ℕ → (Store → Outcome Datum) → Store → Outcome Way
   assign at None None w value s = and_then (value s) (λ x s1. write e z at x s1)
-  assign at None (Some o) w value s = and_then (read e at s) (λ x s1. and_then (value s1) (λ y s2. and_then (updated o (spot_type z at) w x y s2) (λ v s3. write e z at v s3)))
+  assign at None (Some o) w value s = and_then (read e at s) (λ x s1. and_then (value s1) (λ y s2. and_then (update o (spot_type z at) w x y s2) (λ v s3. write e z at v s3)))
   assign at (Some index) None w value s = and_then (index s) (λ i s1. and_then (value s1) (λ x s2. write_at e at i x s2))
-  assign at (Some index) (Some o) w value s = and_then (index s) (λ i s1. and_then (read_at e at i s1) (λ x s2. and_then (value s2) (λ y s3. and_then (updated o (spot_type z at) w x y s3) (λ v s4. write_at e at i v s4))))
+  assign at (Some index) (Some o) w value s = and_then (index s) (λ i s1. and_then (read_at e at i s1) (λ x s2. and_then (value s2) (λ y s3. and_then (update o (spot_type z at) w x y s3) (λ v s4. write_at e at i v s4))))
 
   module _ (h : Calls) where
     -- Parts of statements

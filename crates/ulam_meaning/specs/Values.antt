@@ -9,7 +9,7 @@ use Rattle.sat_math.specs.declared.Arith.{Arith}
 use Rattle.sat_math.specs.declared.Arith.TheVariants.{Int32, Unsigned32, Int64, Unsigned64}
 use Rattle.sat_math.specs.declared.CompareOp.TheVariants as c
 use Rattle.sat_math.specs.Numbers.{cast, bits}
-use Rattle.sat_math.specs.Operations.{saturated, complement, of_bool, is_zero, low64, shifted_up, shifted_down, comparison}
+use Rattle.sat_math.specs.Operations.{saturate, complement, of_bool, is_zero, low64, shifted_up, shifted_down, comparison}
 use Rattle.datum.specs.declared.Datum.{Datum}
 use Rattle.datum.specs.declared.Datum.TheVariants.{Number, Atom}
 use Rattle.ulam_tree.specs.declared.resolved.Ty.{Ty}
@@ -52,7 +52,7 @@ arith_with ty w = Int32
 
 -- the exact number, clamped to the range of the result
 abbrev pub exact : Arith → ℤ → Option ℤ
-exact how v = Some (saturated how v)
+exact how v = Some (saturate how v)
 
 -- there is no quotient and no remainder by 0
 abbrev pub unless_zero : ℤ → Option ℤ → Option ℤ
@@ -81,10 +81,10 @@ operator op.Gt how w a b = comparison c.Gt a b
 operator op.Ge how w a b = comparison c.Ge a b
 
 -- `-`, `!` and `~`, with the type of the result
-abbrev pub prefixed : PrefixOp → Ty → ℤ → ℤ
-prefixed pre.Minus ty v = saturated (arith_by k.Int (nat_le (width_of ty) 32)) (neg_ℤ v)
-prefixed pre.Not ty v = of_bool (is_zero v)
-prefixed pre.Flip ty v = pos (complement (width_of ty) (low64 v))
+abbrev pub apply_prefix : PrefixOp → Ty → ℤ → ℤ
+apply_prefix pre.Minus ty v = saturate (arith_by k.Int (nat_le (width_of ty) 32)) (neg_ℤ v)
+apply_prefix pre.Not ty v = of_bool (is_zero v)
+apply_prefix pre.Flip ty v = pos (complement (width_of ty) (low64 v))
 
 -- Atoms
 

@@ -9,7 +9,7 @@ use Rattle.ulam_tree.specs.ResolvedViews.{resolved_statement}
 use Rattle.ulam_tree.specs.declared.resolved.Statement.{Statement}
 use Rattle.ulam_names.specs.declared.scope.Entry.{Entry}
 use Rattle.ulam_tree.specs.Found.{◌>>=◌}
-use Rattle.ulam_names.specs.Scopes.{Head, Scope, Context, opened, added, is_element}
+use Rattle.ulam_names.specs.Scopes.{Head, Scope, Context, inner_scope, with_entry, is_element}
 use Rattle.ulam_names.specs.Faults.{Found}
 use Rattle.ulam_names.specs.Walk as walk
 use Rattle.ulam_names.specs.Shown.{entries_of, scope_of, with_body}
@@ -33,7 +33,7 @@ walk_while c es n k x =
 abbrev pub branches : Context → List Entry → ℕ → t.Cond → t.Statement → t.Part → Found r.Statement
 branches c es n k x z =
     walk.cond c (entries_of es) k >>= λ (d : r.Cond).
-    walk.statement c (opened (walk.narrowed c.heads (scope_of es 0) k (walk.shown d))) n x >>= λ (a : r.Statement).
+    walk.statement c (inner_scope (walk.branch_scope c.heads (scope_of es 0) k (walk.shown_element d))) n x >>= λ (a : r.Statement).
     walk.part c (scope_of es (length es)) (n + walk.locals_of x) z >>= λ (b : r.Part).
     Ok (r.if_so d a b)
 
@@ -41,23 +41,23 @@ pub walk_if : (c : Context) (es : List Entry) (from n : ℕ) (k : t.Cond) (x : t
 walk_if c es from n k x z =
     ap (λ (s : Scope).
     walk.cond c (entries_of es) k >>= λ (d : r.Cond).
-    walk.statement c (opened (walk.narrowed c.heads (scope_of es from) k (walk.shown d))) n x >>= λ (a : r.Statement).
+    walk.statement c (inner_scope (walk.branch_scope c.heads (scope_of es from) k (walk.shown_element d))) n x >>= λ (a : r.Statement).
     walk.part c s (n + walk.locals_of x) z >>= λ (b : r.Part).
     Ok (r.if_so d a b)) (opened_is es from)
     ∙ ap (λ (go : r.Cond → Scope).
     walk.cond c (entries_of es) k >>= λ (d : r.Cond).
     walk.statement c (go d) n x >>= λ (a : r.Statement).
     walk.part c (scope_of es (length es)) (n + walk.locals_of x) z >>= λ (b : r.Part).
-    Ok (r.if_so d a b)) (λ i d. narrowed_is c.heads es from k (walk.shown d) i)
+    Ok (r.if_so d a b)) (λ i d. narrowed_is c.heads es from k (walk.shown_element d) i)
   where
-    narrowed_is : (heads : List Head) (es : List Entry) (from : ℕ) (k : t.Cond) (ty : Ty) → opened (walk.narrowed heads (scope_of es from) k ty) ≡ opened (walk.narrowed heads (scope_of es 0) k ty)
+    narrowed_is : (heads : List Head) (es : List Entry) (from : ℕ) (k : t.Cond) (ty : Ty) → inner_scope (walk.branch_scope heads (scope_of es from) k ty) ≡ inner_scope (walk.branch_scope heads (scope_of es 0) k ty)
     narrowed_is heads es from (t.test e) ty = refl
     narrowed_is heads es from (t.seen w d) ty = shows (is_element heads ty)
       where
         shown_in : ℕ → Scope
-        shown_in j = added (record { name = w.name; slot = None; inside = ty }) (scope_of es j)
+        shown_in j = with_entry (record { name = w.name; slot = None; inside = ty }) (scope_of es j)
 
-        shows : (b : Bool) → opened (if b then shown_in from else scope_of es from) ≡ opened (if b then shown_in 0 else scope_of es 0)
+        shows : (b : Bool) → inner_scope (if b then shown_in from else scope_of es from) ≡ inner_scope (if b then shown_in 0 else scope_of es 0)
         shows true = refl
         shows false = refl
 

@@ -11,7 +11,7 @@ use Rattle.ulam_tree.specs.Resolved as r
 use Rattle.ulam_names.specs.Faults.{Found}
 use Rattle.ulam_names.specs.Scopes.{Text, Basic, sized, whole, Head, Context, Entry, Scope}
 use Rattle.ulam_names.specs.Walk as w
-use Rattle.ulam_names.specs.Relation.{IsWidth, IsSized, IsType, IsClass, AreSteps, IsPathFrom, IsPath, IsExpr, AreArgs, IsMaybe, IsLeft, IsCond, IsStatement, IsPart, IsBody}
+use Rattle.ulam_names.specs.Relation.{IsWidth, IsSized, IsType, IsClass, AreSteps, IsPathFrom, IsPath, IsExpr, AreArgs, IsMaybe, IsLeftSide, IsCond, IsStatement, IsPart, IsBody}
 
 pub width_fits : (values : Text → Option ℤ) (d : t.Width) (v : ℤ) → IsWidth values d v → w.width_value values d ≡ Ok v
 width_fits values (t.wide n) v h = ap Ok (sym h)
@@ -63,7 +63,7 @@ maybe_fits : (c : Context) (es : List Entry) (e : Option t.Expr) (x : Option r.E
 maybe_fits c es None x h = ap Ok (sym h)
 maybe_fits c es (Some e) x h = rw (expr_fits c es e h.0 h.1) (ap Ok (sym h.2))
 
-left_fits : (c : Context) (es : List Entry) (l : t.Left) (x : r.Left) → IsLeft c es l x → w.left c es l ≡ Ok x
+left_fits : (c : Context) (es : List Entry) (l : t.Left) (x : r.Left) → IsLeftSide c es l x → w.left_side c es l ≡ Ok x
 left_fits c es l x h = rw (path_fits c es l.path h.0 h.2, maybe_fits c es l.index h.1 h.3) (ap Ok (sym h.4))
 
 cond_fits : (c : Context) (es : List Entry) (k : t.Cond) (x : r.Cond) → IsCond c es k x → w.cond c es k ≡ Ok x

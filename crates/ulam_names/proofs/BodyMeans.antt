@@ -10,9 +10,10 @@ use Rattle.ulam_tree.specs.declared.resolved.Named.{Named}
 use Rattle.ulam_tree.specs.Raw as t
 use Rattle.ulam_tree.specs.Resolved as r
 use Rattle.ulam_tree.proofs.Means.{Means, means_then, means_found, means_must, found_means, must_means}
-use Rattle.ulam_names.specs.Scopes.{Text, Basic, sized, whole, Head, Context, Entry, Scope, allows, is_named, most_locals, opened, next_name, first_name}
+use Rattle.ulam_names.specs.Scopes.{Text, Basic, sized, whole, Head, Context, Entry, Scope, allows, is_named, inner_scope, next_name, first_name}
+use Rattle.ulam_names.specs.declared.limits.TheConstants.{MOST_LOCALS}
 use Rattle.ulam_names.specs.Walk as w
-use Rattle.ulam_names.specs.Relation.{IsWidth, IsSized, IsType, IsClass, AreSteps, IsPathFrom, IsPath, IsExpr, AreArgs, IsMaybe, IsLeft, IsCond, MayDeclare, IsStatement, IsPart, IsBody}
+use Rattle.ulam_names.specs.Relation.{IsWidth, IsSized, IsType, IsClass, AreSteps, IsPathFrom, IsPath, IsExpr, AreArgs, IsMaybe, IsLeftSide, IsCond, MayDeclare, IsStatement, IsPart, IsBody}
 
 pub width_means : (values : Text → Option ℤ) (d : t.Width) → Means (IsWidth values d) (w.width_value values d)
 width_means values (t.wide n) = refl
@@ -86,9 +87,9 @@ maybe_means : (c : Context) (es : List Entry) (e : Option t.Expr) → Means (IsM
 maybe_means c es None = refl
 maybe_means c es (Some e) = means_then _ (IsMaybe c es (Some e)) (w.expr c es e) _ (expr_means c es e) (λ d hd. (d, hd, refl))
 
-left_means : (c : Context) (es : List Entry) (l : t.Left) → Means (IsLeft c es l) (w.left c es l)
+left_means : (c : Context) (es : List Entry) (l : t.Left) → Means (IsLeftSide c es l) (w.left_side c es l)
 left_means c es l =
-    let Q : r.Left → Type 0 = IsLeft c es l in
+    let Q : r.Left → Type 0 = IsLeftSide c es l in
     means_then _ Q (w.path c es l.path) _ (path_means c es l.path) (λ q hq. means_then _ Q (w.maybe_expr c es l.index) _ (maybe_means c es l.index) (λ i hi. (q, i, hq, hi, refl)))
 
 cond_means : (c : Context) (es : List Entry) (k : t.Cond) → Means (IsCond c es k) (w.cond c es k)
@@ -97,45 +98,45 @@ cond_means c es (t.seen g d) =
     means_then _ Q (w.path c es (w.one_word g)) _ (path_means c es (w.one_word g)) (λ q hq. means_then _ Q (w.class_named (w.basic_in c) d) _ (class_means (w.basic_in c) d) (λ n hn. (q, n, hq, hn, refl)))
 cond_means c es (t.test e) = means_then _ (IsCond c es (t.test e)) (w.expr c es e) _ (expr_means c es e) (λ d hd. (d, hd, refl))
 
-declared_means : (c : Context) (s : Scope) (n : ℕ) (x : t.Word) → Means (λ _. MayDeclare c s n x) (w.declared c s n x)
+declared_means : (c : Context) (s : Scope) (n : ℕ) (x : t.Word) → Means (λ _. MayDeclare c s n x) (w.may_declare c s n x)
 declared_means c s n x =
     let Q : Unit {0} → Type 0 = λ _. MayDeclare c s n x in
-    means_must Q (nat_lt n (c.params + most_locals)) _ _ (λ few.
+    means_must Q (nat_lt n (c.params + MOST_LOCALS)) _ _ (λ few.
     let apart : Bool = not (list_any (is_named x.name) (drop s.from s.entries)) in
-    must_means Q apart _ (λ new. (ltb-true n (c.params + most_locals) few, not-true _ new)))
+    must_means Q apart _ (λ new. (ltb-true n (c.params + MOST_LOCALS) few, not-true _ new)))
 
 mutual
   pub statement_means : (c : Context) (s : Scope) (n : ℕ) (f : t.Statement) → Means (IsStatement c s n f) (w.statement c s n f)
-  statement_means c s n (t.block b) = means_then _ (IsStatement c s n (t.block b)) (w.body c (opened s) n b) _ (body_means c (opened s) n b) (λ a ha. (a, ha, refl))
+  statement_means c s n (t.block b) = means_then _ (IsStatement c s n (t.block b)) (w.body c (inner_scope s) n b) _ (body_means c (inner_scope s) n b) (λ a ha. (a, ha, refl))
   statement_means c s n t.empty = refl
   statement_means c s n (t.if_so k f g) =
       let Q : r.Statement → Type 0 = IsStatement c s n (t.if_so k f g) in
       means_then _ Q (w.cond c s.entries k) _ (cond_means c s.entries k) (λ d hd.
-      let s1 : Scope = opened (w.narrowed c.heads s k (w.shown d)) in
+      let s1 : Scope = inner_scope (w.branch_scope c.heads s k (w.shown_element d)) in
       means_then _ Q (w.statement c s1 n f) _ (statement_means c s1 n f) (λ a ha.
-      means_then _ Q (w.part c (opened s) (n + w.locals_of f) g) _ (part_means c (opened s) (n + w.locals_of f) g) (λ b hb. (d, a, b, hd, ha, hb, refl))))
+      means_then _ Q (w.part c (inner_scope s) (n + w.locals_of f) g) _ (part_means c (inner_scope s) (n + w.locals_of f) g) (λ b hb. (d, a, b, hd, ha, hb, refl))))
   statement_means c s n (t.while_so k f) =
       let Q : r.Statement → Type 0 = IsStatement c s n (t.while_so k f) in
-      means_then _ Q (w.expr c s.entries k) _ (expr_means c s.entries k) (λ d hd. means_then _ Q (w.statement c (opened s) n f) _ (statement_means c (opened s) n f) (λ a ha. (d, a, hd, ha, refl)))
+      means_then _ Q (w.expr c s.entries k) _ (expr_means c s.entries k) (λ d hd. means_then _ Q (w.statement c (inner_scope s) n f) _ (statement_means c (inner_scope s) n f) (λ a ha. (d, a, hd, ha, refl)))
   statement_means c s n (t.for_all f k g h) =
       let Q : r.Statement → Type 0 = IsStatement c s n (t.for_all f k g h) in
-      means_then _ Q (w.part c (opened s) n f) _ (part_means c (opened s) n f) (λ a ha.
-      let s1 : Scope = w.after_part c.heads (opened s) n f a in
+      means_then _ Q (w.part c (inner_scope s) n f) _ (part_means c (inner_scope s) n f) (λ a ha.
+      let s1 : Scope = w.after_part c.heads (inner_scope s) n f a in
       means_then _ Q (w.maybe_expr c s1.entries k) _ (maybe_means c s1.entries k) (λ d hd.
       means_then _ Q (w.part c s1 (n + w.locals_part f) g) _ (part_means c s1 (n + w.locals_part f) g) (λ b hb.
-      means_then _ Q (w.statement c (opened s1) (n + w.locals_part f + w.locals_part g) h) _ (statement_means c (opened s1) (n + w.locals_part f + w.locals_part g) h) (λ z hz. (a, d, b, z, ha, hd, hb, hz, refl)))))
+      means_then _ Q (w.statement c (inner_scope s1) (n + w.locals_part f + w.locals_part g) h) _ (statement_means c (inner_scope s1) (n + w.locals_part f + w.locals_part g) h) (λ z hz. (a, d, b, z, ha, hd, hb, hz, refl)))))
   statement_means c s n (t.returns p e) = means_then _ (IsStatement c s n (t.returns p e)) (w.maybe_expr c s.entries e) _ (maybe_means c s.entries e) (λ d hd. (d, hd, refl))
   statement_means c s n (t.breaks p) = refl
   statement_means c s n (t.continues p) = refl
   statement_means c s n (t.declares ty x e) =
       let Q : r.Statement → Type 0 = IsStatement c s n (t.declares ty x e) in
       means_then _ Q (w.type_in c s.entries ty) _ (type_means (w.basic_in c) (w.constant_in c s.entries) ty) (λ m hm.
-      means_then _ Q (w.declared c s n x) _ (declared_means c s n x) (λ u hu.
+      means_then _ Q (w.may_declare c s n x) _ (declared_means c s n x) (λ u hu.
       means_then _ Q (w.maybe_expr c s.entries e) _ (maybe_means c s.entries e) (λ d hd. (m, d, hm, hu, hd, refl))))
   statement_means c s n (t.assigns l op e) =
       let Q : r.Statement → Type 0 = IsStatement c s n (t.assigns l op e) in
-      means_then _ Q (w.left c s.entries l) _ (left_means c s.entries l) (λ m hm. means_then _ Q (w.expr c s.entries e) _ (expr_means c s.entries e) (λ d hd. (m, d, hm, hd, refl)))
-  statement_means c s n (t.counts l up) = means_then _ (IsStatement c s n (t.counts l up)) (w.left c s.entries l) _ (left_means c s.entries l) (λ m hm. (m, hm, refl))
+      means_then _ Q (w.left_side c s.entries l) _ (left_means c s.entries l) (λ m hm. means_then _ Q (w.expr c s.entries e) _ (expr_means c s.entries e) (λ d hd. (m, d, hm, hd, refl)))
+  statement_means c s n (t.counts l up) = means_then _ (IsStatement c s n (t.counts l up)) (w.left_side c s.entries l) _ (left_means c s.entries l) (λ m hm. (m, hm, refl))
   statement_means c s n (t.does p xs) =
       let Q : r.Statement → Type 0 = IsStatement c s n (t.does p xs) in
       means_then _ Q (w.path c s.entries p) _ (path_means c s.entries p) (λ q hq. means_then _ Q (w.args c s.entries xs) _ (args_mean c s.entries xs) (λ a ha. (q, a, hq, ha, refl)))

@@ -4,7 +4,9 @@ use Rattle.std.proofs.lemmas.Bool.{lt-ltb, not_from_false}
 use Rattle.feast_base.specs.declared.place.Place.{Place}
 use Rattle.ulam_tree.specs.Raw as t
 use Rattle.ulam_tree.specs.Resolved as r
-use Rattle.ulam_names.specs.Scopes.{Text, Names, no_names, small_names, Head, most_members, most_params, most_classes}
+use Rattle.ulam_names.specs.Scopes.{Text, Names, no_names, small_names, Head}
+use Rattle.feast_base.specs.declared.limits.TheConstants.{MOST_PARAMS}
+use Rattle.ulam_names.specs.declared.limits.TheConstants.{MOST_CLASSES, MOST_MEMBERS}
 use Rattle.ulam_names.specs.Classes as w
 use Rattle.ulam_names.specs.Classes.{Known, Half, HalfClass, half_field, half_function}
 use Rattle.ulam_names.specs.ClassRelation.{AreKnown, IsNew, IsValue, IsLength, AreParams, IsMember, AreMembers, AreItems, AllBehave, NoneCyclic, own_class, IsWhole, AreWhole, AreClasses, IsResolved}
@@ -15,12 +17,12 @@ known_fits done [] known h = ap Ok (sym h)
 known_fits done (t.ulam n ∷ xs) known h = known_fits done xs known h
 known_fits done (t.uses x ∷ xs) known h = known_fits done xs known h
 known_fits done (t.class c ∷ xs) known h =
-    let few : nat_lt (length done) most_classes ≡ true = lt-ltb (length done) most_classes h.0 in
+    let few : nat_lt (length done) MOST_CLASSES ≡ true = lt-ltb (length done) MOST_CLASSES h.0 in
     rw (few, h.1, h.2) (known_fits _ xs known h.3)
 
 new_fits : (d : Names) (n : ℕ) (free : Bool) (x : t.Word) → free ≡ true → IsNew d n x → w.new_name d n free x ≡ Ok tt
 new_fits d n free x f h =
-    let few : nat_lt n most_members ≡ true = lt-ltb n most_members h.0 in
+    let few : nat_lt n MOST_MEMBERS ≡ true = lt-ltb n MOST_MEMBERS h.0 in
     rw (few, f, h.1) refl
 
 value_fits : (d : Names) (k : t.Const) (v : Bool × ℤ) → IsValue d k v → w.const_value d k ≡ Ok v
@@ -35,7 +37,7 @@ length_fits d p (Some x) k h = rw (width_fits (w.values d) x h.0 h.1, h.2) (ap O
 params_fit : (known : Known) (d : Names) (done : List Text) (ps : List t.Param) (qs : List r.Param) → AreParams known d done ps qs → w.params_of known d done ps ≡ Ok qs
 params_fit known d done [] qs h = ap Ok (sym h)
 params_fit known d done (p ∷ ps) qs h =
-    let few : nat_lt (length done) most_params ≡ true = lt-ltb (length done) most_params h.3 in
+    let few : nat_lt (length done) MOST_PARAMS ≡ true = lt-ltb (length done) MOST_PARAMS h.3 in
     rw (type_fits (w.basics known d) (w.values d) p.of h.0 h.2, few, h.4, params_fit known d _ ps h.1 h.5) (ap Ok (sym h.6))
 
 member_fits : (known : Known) (d : Names) (m : t.Member) (x : Names × List Half) → IsMember known d m x → w.member known d m ≡ Ok x

@@ -7,7 +7,10 @@ use Rattle.ulam_tree.specs.Raw as t
 use Rattle.ulam_tree.specs.Resolved as r
 use Rattle.ulam_tree.specs.Found.{fault_of}
 use Rattle.ulam_names.specs.Faults.{Fault, Found}
-use Rattle.ulam_names.specs.Scopes.{Text, Names, no_names, declares_name, small_names, Head, is_among, names_of, as_number, most_members, most_params, most_classes}
+use Rattle.ulam_names.specs.Scopes.{Text, Names, no_names, declares_name, small_names, Head, is_among, names_of, as_number}
+use Rattle.bit_field.specs.declared.TheConstants.{STATE_BITS}
+use Rattle.feast_base.specs.declared.limits.TheConstants.{MOST_PARAMS}
+use Rattle.ulam_names.specs.declared.limits.TheConstants.{MOST_CLASSES, MOST_MEMBERS}
 use Rattle.ulam_names.specs.Classes as w
 use Rattle.ulam_names.specs.Walk.{width_value, body}
 use Rattle.ulam_names.specs.Classes.{Known, Half, HalfClass, half_field, half_function, first_fault}
@@ -23,15 +26,15 @@ neither false false h = (refl, refl)
 
 -- what is known after one more class
 abbrev IsNewClass : Known → t.Class → Known → Type 0
-IsNewClass done c more = (length done < most_classes) × (is_among c.word.name (names_of done) ≡ false) × (w.is_built_in c.word.name ≡ false) × (more ≡ done ++ (c.word.name, c.quark) ∷ [])
+IsNewClass done c more = (length done < MOST_CLASSES) × (is_among c.word.name (names_of done) ≡ false) × (w.is_built_in c.word.name ≡ false) × (more ≡ done ++ (c.word.name, c.quark) ∷ [])
 
 new_class_means : (done : Known) (c : t.Class) → Means (IsNewClass done c) (w.new_class done c)
 new_class_means done c =
     let Q : Known → Type 0 = IsNewClass done c in
-    means_must Q (nat_lt (length done) most_classes) _ _ (λ few.
+    means_must Q (nat_lt (length done) MOST_CLASSES) _ _ (λ few.
     means_must Q (not (is_among c.word.name (names_of done) || w.is_built_in c.word.name)) _ _ (λ new.
     let apart = neither (is_among c.word.name (names_of done)) (w.is_built_in c.word.name) new in
-    (ltb-true (length done) most_classes few, apart.0, apart.1, refl)))
+    (ltb-true (length done) MOST_CLASSES few, apart.0, apart.1, refl)))
 
 pub known_means : (done : Known) (xs : List t.Item) → Means (AreKnown done xs) (w.class_names done xs)
 known_means done [] = refl
@@ -46,10 +49,10 @@ known_means done (t.class c ∷ xs) =
 new_means : (d : Names) (n : ℕ) (free : Bool) (x : t.Word) → Means (λ _. (free ≡ true) × IsNew d n x) (w.new_name d n free x)
 new_means d n free x =
     let Q : Unit {0} → Type 0 = λ _. (free ≡ true) × IsNew d n x in
-    means_must Q (nat_lt n most_members) _ _ (λ few.
+    means_must Q (nat_lt n MOST_MEMBERS) _ _ (λ few.
     must_means Q (free && not (declares_name d x.name)) _ (λ new.
     let p = both free (not (declares_name d x.name)) new in
-    (p.0, (ltb-true n most_members few, not-true _ p.1))))
+    (p.0, (ltb-true n MOST_MEMBERS few, not-true _ p.1))))
 
 value_means : (d : Names) (k : t.Const) → Means (IsValue d k) (w.const_value d k)
 value_means d (t.const_number minus n u) = refl
@@ -61,17 +64,17 @@ length_means d p None = refl
 length_means d p (Some x) =
     let Q : ℕ → Type 0 = IsLength d (Some x) in
     means_then _ Q (width_value (w.values d) x) _ (width_means (w.values d) x) (λ v hv.
-    means_must Q (int_le (pos 1) v && int_le v (pos w.longest_array)) _ _ (λ ok. (v, hv, ok, refl)))
+    means_must Q (int_le (pos 1) v && int_le v (pos STATE_BITS)) _ _ (λ ok. (v, hv, ok, refl)))
 
 params_mean : (known : Known) (d : Names) (done : List Text) (ps : List t.Param) → Means (AreParams known d done ps) (w.params_of known d done ps)
 params_mean known d done [] = refl
 params_mean known d done (p ∷ ps) =
     let Q : List r.Param → Type 0 = AreParams known d done (p ∷ ps) in
     means_then _ Q (w.member_type known d p.of) _ (type_means (w.basics known d) (w.values d) p.of) (λ n hn.
-    means_must Q (nat_lt (length done) most_params) _ _ (λ few.
+    means_must Q (nat_lt (length done) MOST_PARAMS) _ _ (λ few.
     means_must Q (not (is_among p.word.name done)) _ _ (λ new.
     means_then _ Q (w.params_of known d (done ++ p.word.name ∷ []) ps) _ (params_mean known d (done ++ p.word.name ∷ []) ps) (λ more hm.
-    (n, more, hn, ltb-true (length done) most_params few, not-true _ new, hm, refl)))))
+    (n, more, hn, ltb-true (length done) MOST_PARAMS few, not-true _ new, hm, refl)))))
 
 member_means : (known : Known) (d : Names) (m : t.Member) → Means (IsMember known d m) (w.member known d m)
 member_means known d (t.typedef ty x) =

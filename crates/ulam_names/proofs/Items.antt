@@ -3,7 +3,7 @@ use Rattle.std.proofs.Common.{◌≡◌, ℕ, ◌+◌, ◌≤◌, refl, sym, ap,
 use Rattle.ulam_tree.specs.Raw as t
 use Rattle.ulam_tree.specs.Found.{◌>>=◌, with_front}
 use Rattle.ulam_names.specs.Faults.{Found}
-use Rattle.ulam_names.specs.Scopes.{most_classes}
+use Rattle.ulam_names.specs.declared.limits.TheConstants.{MOST_CLASSES}
 use Rattle.ulam_names.specs.Classes as w
 use Rattle.ulam_names.specs.ClassRelation.{AreKnown, AreItems}
 use Rattle.ulam_names.proofs.BodyFits.{answer_or}
@@ -84,7 +84,7 @@ known_len done (t.class c ∷ xs) known h =
     let more : length (done ++ (c.word.name, c.quark) ∷ []) ≡ length done + 1 = length-append done ((c.word.name, c.quark) ∷ []) in
     omega (arith, rest, more)
 
-known_few : (done : w.Known) (xs : List t.Item) (known : w.Known) → length done ≤ most_classes → AreKnown done xs known → length known ≤ most_classes
+known_few : (done : w.Known) (xs : List t.Item) (known : w.Known) → length done ≤ MOST_CLASSES → AreKnown done xs known → length known ≤ MOST_CLASSES
 known_few done [] known few h = rw h few
 known_few done (t.ulam n ∷ xs) known few h = known_few done xs known few h
 known_few done (t.uses x ∷ xs) known few h = known_few done xs known few h

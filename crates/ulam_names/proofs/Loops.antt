@@ -12,7 +12,7 @@ use Rattle.ulam_tree.proofs.RawRows.{for_is}
 use Rattle.ulam_names.specs.declared.scope.Entry.{Entry}
 use Rattle.ulam_tree.specs.Found.{◌>>=◌}
 use Rattle.ulam_names.specs.Faults.{Found}
-use Rattle.ulam_names.specs.Scopes.{Head, Scope, Context, opened}
+use Rattle.ulam_names.specs.Scopes.{Head, Scope, Context, inner_scope}
 use Rattle.ulam_names.specs.Walk as walk
 use Rattle.ulam_names.specs.Shown.{entries_of, scope_of}
 use Rattle.ulam_names.proofs.Opened.{opened_is}
@@ -31,7 +31,7 @@ abbrev turns_in : Context → Scope → ℕ → r.Part → Option t.Expr → t.P
 turns_in c z n a k g x =
     walk.maybe_expr c z.entries k >>= λ (d : Option r.Expr).
     walk.part c z n g >>= λ (b : r.Part).
-    walk.statement c (opened z) (n + walk.locals_part g) x >>= λ (y : r.Statement).
+    walk.statement c (inner_scope z) (n + walk.locals_part g) x >>= λ (y : r.Statement).
     Ok (r.for_all a d b y)
 
 turns_are : (c : Context) (es : List Entry) (from n : ℕ) (a : r.Part) (k : Option t.Expr) (g : t.Part) (x : t.Statement) → turns_in c (scope_of es from) n a k g x ≡ turns c es from n a k g x

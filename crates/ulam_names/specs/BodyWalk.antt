@@ -24,10 +24,11 @@ use Rattle.ulam_names.specs.declared.scope.Entry.{Entry}
 use Rattle.ulam_names.specs.declared.scope.Context.{Context}
 use Rattle.ulam_names.specs.Faults.{Found}
 use Rattle.ulam_names.specs.Scopes as s
-use Rattle.ulam_names.specs.Scopes.{Text, Basic, opened, inside_local}
+use Rattle.ulam_names.specs.Scopes.{Text, Basic, inner_scope, inside_local}
 use Rattle.ulam_names.specs.Walk as w
 use Rattle.ulam_names.specs.Shown.{head_of, context_of, entries_of, scope_of}
 use Rattle.ulam_names.specs.Outcomes.{Outcome}
+use Rattle.ulam_names.specs.declared.limits.TheConstants.{MOST_LOCALS}
 
 -- Paths, from a type on
 
@@ -88,15 +89,15 @@ module _ (context : Context) (entries : List Entry) where
   abbrev pub maybe_expr : Option Expr → Found (Option r.Expr)
   maybe_expr x = w.maybe_expr (context_of context) (entries_of entries) (option_map expr_of x)
 
-  abbrev pub left : Left → Found r.Left
-  left x = w.left (context_of context) (entries_of entries) (left_of x)
+  abbrev pub left_side : Left → Found r.Left
+  left_side x = w.left_side (context_of context) (entries_of entries) (left_of x)
 
   abbrev pub cond : Cond → Found r.Cond
   cond x = w.cond (context_of context) (entries_of entries) (cond_of x)
 
   -- a name that a local is declared with: the innermost scope begins at the number `from`, and `slot` is the next free one
-  abbrev pub declared : ℕ → ℕ → Word → Found (Unit {0})
-  declared from slot word = w.declared (context_of context) (scope_of entries from) slot (word_of word)
+  abbrev pub may_declare : ℕ → ℕ → Word → Found (Unit {0})
+  may_declare from slot word = w.may_declare (context_of context) (scope_of entries from) slot (word_of word)
 
 -- Statements, and how many locals they declare
 
@@ -135,11 +136,11 @@ module _ (context : Context) (entries : Vec Entry Global) where
   inner_body slot xs = w.body (context_of context) (scope_of entries.items (length entries.items)) slot (body_list xs)
 
   -- the scope with the name that a condition shows, and the first branch in a scope within
-  abbrev pub narrowed : ℕ → Cond → FoundCond → s.Scope
-  narrowed from test found = w.narrowed (map head_of context.heads.now) (scope_of entries.items from) (cond_of test) (w.shown (resolved_cond found))
+  abbrev pub branch_scope : ℕ → Cond → FoundCond → s.Scope
+  branch_scope from test found = w.branch_scope (map head_of context.heads.now) (scope_of entries.items from) (cond_of test) (w.shown_element (resolved_cond found))
 
   abbrev pub branch : ℕ → ℕ → Statement → Cond → FoundCond → Found r.Statement
-  branch from slot x test found = statement_in context (opened (narrowed from test found)) slot x
+  branch from slot x test found = statement_in context (inner_scope (branch_scope from test found)) slot x
 
   -- the scope after a statement
   abbrev pub after : ℕ → ℕ → Statement → FoundStatement → s.Scope
@@ -150,7 +151,7 @@ module _ (context : Context) (entries : Vec Entry Global) where
 
   -- outcomes from a slot on, over so many locals
   abbrev outcome : {A : Type 0} → Found A → ℕ → ℕ → Outcome A
-  outcome x slot count = record { found = x; next = slot + count; most = context.params + s.most_locals }
+  outcome x slot count = record { found = x; next = slot + count; most = context.params + MOST_LOCALS }
 
   abbrev pub statement_end : ℕ → ℕ → Statement → Outcome r.Statement
   statement_end from slot x = outcome (statement from slot x) slot (locals x)

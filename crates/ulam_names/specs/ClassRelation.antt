@@ -4,8 +4,11 @@ use Rattle.sat_math.specs.declared.NumType.{NumType}
 use Rattle.ulam_tree.specs.declared.resolved.Named.{Named}
 use Rattle.ulam_tree.specs.Raw as t
 use Rattle.ulam_tree.specs.Resolved as r
-use Rattle.ulam_names.specs.Scopes.{Text, Names, no_names, declares_name, small_names, Value, Head, is_among, names_of, beside, as_number, is_truth, most_members, most_params, most_classes}
-use Rattle.ulam_names.specs.Classes.{Known, Half, HalfClass, half_field, half_function, is_built_in, basics, values, takes_value, may_be_member, longest_array, may_use, head_of, behaves, holds_itself, context_of, scope_of}
+use Rattle.ulam_names.specs.Scopes.{Text, Names, no_names, declares_name, small_names, Value, Head, is_among, names_of, beside, as_number, is_truth}
+use Rattle.feast_base.specs.declared.limits.TheConstants.{MOST_PARAMS}
+use Rattle.ulam_names.specs.declared.limits.TheConstants.{MOST_CLASSES, MOST_MEMBERS}
+use Rattle.ulam_names.specs.Classes.{Known, Half, HalfClass, half_field, half_function, is_built_in, basics, values, takes_value, may_be_member, may_use, head_of, behaves, holds_itself, context_of, scope_of}
+use Rattle.bit_field.specs.declared.TheConstants.{STATE_BITS}
 use Rattle.ulam_names.specs.Relation.{IsWidth, IsType, IsBody}
 
 -- each class name is new and not built in, and there are not too many
@@ -14,14 +17,14 @@ AreKnown done [] known = known ≡ done
 AreKnown done (t.ulam n ∷ xs) known = AreKnown done xs known
 AreKnown done (t.uses w ∷ xs) known = AreKnown done xs known
 AreKnown done (t.class c ∷ xs) known =
-    (length done < most_classes) × (is_among c.word.name (names_of done) ≡ false) × (is_built_in c.word.name ≡ false) × AreKnown (done ++ (c.word.name, c.quark) ∷ []) xs known
+    (length done < MOST_CLASSES) × (is_among c.word.name (names_of done) ≡ false) × (is_built_in c.word.name ≡ false) × AreKnown (done ++ (c.word.name, c.quark) ∷ []) xs known
 
 abbrev pub IsMemberType : Known → Names → t.TypeRef → Named → Type 0
 IsMemberType known d ty n = IsType (basics known d) (values d) ty n
 
 -- a name may be declared in a class that has declared n names of its sort
 abbrev pub IsNew : Names → ℕ → t.Word → Type 0
-IsNew d n w = (n < most_members) × (declares_name d w.name ≡ false)
+IsNew d n w = (n < MOST_MEMBERS) × (declares_name d w.name ≡ false)
 
 -- a constant's value: whether it is a truth value, and its number
 abbrev pub IsValue : Names → t.Const → Bool × ℤ → Type 0
@@ -31,12 +34,12 @@ IsValue d (t.const_named w) v = option_map (λ (x : Value). (is_truth x.num.kind
 
 abbrev pub IsLength : Names → Option t.Width → ℕ → Type 0
 IsLength d None k = k ≡ 0
-IsLength d (Some x) k = (v : ℤ) × IsWidth (values d) x v × ((int_le (pos 1) v && int_le v (pos longest_array)) ≡ true) × (k ≡ unsigned_abs v)
+IsLength d (Some x) k = (v : ℤ) × IsWidth (values d) x v × ((int_le (pos 1) v && int_le v (pos STATE_BITS)) ≡ true) × (k ≡ unsigned_abs v)
 
 abbrev pub AreParams : Known → Names → List Text → List t.Param → List r.Param → Type 0
 AreParams known d done [] qs = qs ≡ []
 AreParams known d done (p ∷ ps) qs =
-    (n : Named) × (more : List r.Param) × IsMemberType known d p.of n × (length done < most_params) × (is_among p.word.name done ≡ false)
+    (n : Named) × (more : List r.Param) × IsMemberType known d p.of n × (length done < MOST_PARAMS) × (is_among p.word.name done ≡ false)
     × AreParams known d (done ++ p.word.name ∷ []) ps more × (qs ≡ record { of = n; word = p.word } ∷ more)
 
 -- what a class declares after a member, and what the member is resolved to

@@ -8,7 +8,6 @@ use Rattle.ulam_tree.specs.declared.type_ref.TypeRef.{TypeRef}
 use Rattle.ulam_tree.specs.declared.raw.Word.{Word}
 use Rattle.ulam_tree.specs.declared.raw.Const.{Const}
 use Rattle.ulam_tree.specs.declared.raw.Param.{Param}
-use Rattle.ulam_tree.specs.declared.raw.Statement.{Statement}
 use Rattle.ulam_tree.specs.declared.raw.Member.{Member}
 use Rattle.ulam_tree.specs.declared.raw.Class.{Class}
 use Rattle.ulam_tree.specs.declared.raw.Item.{Item}
@@ -21,6 +20,7 @@ use Rattle.ulam_names.specs.declared.half.HalfClass.{HalfClass}
 use Rattle.ulam_names.specs.declared.half.HalfParam.{HalfParam}
 use Rattle.ulam_names.specs.declared.half.Half.{Half}
 use Rattle.ulam_names.specs.declared.half.Pending.{Pending}
+use Rattle.ulam_names.specs.declared.member.Written.{Written}
 use Rattle.ulam_names.specs.declared.names.Names.{Names}
 use Rattle.ulam_names.specs.declared.scope.Context.{Context}
 use Rattle.ulam_names.specs.Faults.{Found}
@@ -66,9 +66,9 @@ params_of known names ps = w.params_of known (names_view names) [] (map param_of
 abbrev pub member : Known → Names → Member → Found (s.Names × List w.Half)
 member known names x = w.member known (names_view names) (member_of x)
 
--- a function, from its parts
-abbrev pub function : Known → Names → TypeRef → Word → List Param → List Statement → Found (s.Names × List w.Half)
-function known names of word ps body = w.member known (names_view names) (t.function (type_of of) (word_of word) (map param_of ps) (body_list body))
+-- a function as it is written
+abbrev pub function : Known → Names → Written → Found (s.Names × List w.Half)
+function known names f = w.member known (names_view names) (t.function (type_of f.of.now) (word_of f.word.now) (map param_of f.params.now) (body_list f.body.now))
 
 -- one more member, behind those that were found
 abbrev pub one_more : Known → Names → Vec Half Global → Member → Found (s.Names × List w.Half)

@@ -11,10 +11,13 @@ use Rattle.ulam_tree.specs.declared.resolved.Named.{Named}
 use Rattle.ulam_tree.specs.Raw as t
 use Rattle.ulam_tree.specs.Resolved as r
 use Rattle.ulam_tree.specs.Ways.{leads, class_number}
-use Rattle.ulam_tree.specs.Found.{◌>>=◌, found, must, fault_of}
+use Rattle.ulam_tree.specs.Found.{◌>>=◌, value_or_fault, must, fault_of}
 use Rattle.ulam_names.specs.Faults.{declared_twice, unknown_name, bad_constant, too_many, bad_width, no_behave, cyclic_quark, Fault, Found}
-use Rattle.ulam_names.specs.Scopes.{Text, Basic, basic_named, Head, Names, no_names, declares_name, small_names, Value, Context, Entry, Scope, is_among, names_of, beside, built_in, as_number, is_truth, in_range, inside_local, most_members, most_params, most_classes}
+use Rattle.ulam_names.specs.Scopes.{Text, Basic, basic_named, Head, Names, no_names, declares_name, small_names, Value, Context, Entry, Scope, is_among, names_of, beside, built_in, as_number, is_truth, in_range, inside_local}
+use Rattle.feast_base.specs.declared.limits.TheConstants.{MOST_PARAMS}
+use Rattle.ulam_names.specs.declared.limits.TheConstants.{MOST_CLASSES, MOST_MEMBERS}
 use Rattle.ulam_names.specs.Walk.{type_named, width_value, body}
+use Rattle.bit_field.specs.declared.TheConstants.{STATE_BITS}
 
 -- the names of all classes, with whether they are quarks
 abbrev pub Known : Type 0
@@ -47,7 +50,7 @@ is_built_in n = is_among n (names_of built_in)
 
 abbrev pub new_class : Known → t.Class → Found Known
 new_class done c =
-    must (nat_lt (length done) most_classes) (too_many c.word.place) >>= λ (_ : Unit {0}).
+    must (nat_lt (length done) MOST_CLASSES) (too_many c.word.place) >>= λ (_ : Unit {0}).
     must (not (is_among c.word.name (names_of done) || is_built_in c.word.name)) (declared_twice c.word.place) >>= λ (_ : Unit {0}).
     Ok (done ++ (c.word.name, c.quark) ∷ [])
 
@@ -71,14 +74,14 @@ member_type known d ty = type_named (basics known d) (values d) ty
 -- a name that is new in the class, which has declared fewer names of its sort than the limit
 abbrev pub new_name : Names → ℕ → Bool → t.Word → Found (Unit {0})
 new_name d n free w =
-    must (nat_lt n most_members) (too_many w.place) >>= λ (_ : Unit {0}).
+    must (nat_lt n MOST_MEMBERS) (too_many w.place) >>= λ (_ : Unit {0}).
     must (free && not (declares_name d w.name)) (declared_twice w.place)
 
 -- a constant's value: whether it is a truth value, and its number
 abbrev pub const_value : Names → t.Const → Found (Bool × ℤ)
 const_value d (t.const_number minus n u) = Ok (false, if minus then neg_ℤ (pos n) else pos n)
 const_value d (t.const_truth b) = Ok (true, if b then pos 1 else pos 0)
-const_value d (t.const_named w) = found (option_map (λ (v : Value). (is_truth v.num.kind, v.value)) (beside w.name d.constants)) (unknown_name w.place)
+const_value d (t.const_named w) = value_or_fault (option_map (λ (v : Value). (is_truth v.num.kind, v.value)) (beside w.name d.constants)) (unknown_name w.place)
 
 abbrev pub same_bool : Bool → Bool → Bool
 same_bool true b = b
@@ -99,22 +102,19 @@ is_member_type known ty = false
 abbrev pub may_be_member : Known → Ty → Bool → Bool
 may_be_member known ty array = is_member_type known ty && (not array || is_some (as_number ty))
 
-abbrev pub longest_array : ℕ
-longest_array = 71
-
--- an array's length, 0 where there is none
+-- an array's length, at most the bits of a state, and 0 where there is none
 abbrev pub length_of : Names → Place → Option t.Width → Found ℕ
 length_of d p None = Ok 0
 length_of d p (Some x) =
     width_value (values d) x >>= λ (v : ℤ).
-    must (int_le (pos 1) v && int_le v (pos longest_array)) (bad_width p) >>= λ (_ : Unit {0}).
+    must (int_le (pos 1) v && int_le v (pos STATE_BITS)) (bad_width p) >>= λ (_ : Unit {0}).
     Ok (unsigned_abs v)
 
 abbrev pub params_of : Known → Names → List Text → List t.Param → Found (List r.Param)
 params_of known d done [] = Ok []
 params_of known d done (p ∷ ps) =
     member_type known d p.of >>= λ (n : Named).
-    must (nat_lt (length done) most_params) (too_many p.word.place) >>= λ (_ : Unit {0}).
+    must (nat_lt (length done) MOST_PARAMS) (too_many p.word.place) >>= λ (_ : Unit {0}).
     must (not (is_among p.word.name done)) (declared_twice p.word.place) >>= λ (_ : Unit {0}).
     params_of known d (done ++ p.word.name ∷ []) ps >>= λ (more : List r.Param).
     Ok (record { of = n; word = p.word } ∷ more)
@@ -122,12 +122,12 @@ params_of known d done (p ∷ ps) =
 abbrev pub member : Known → Names → t.Member → Found (Names × List Half)
 member known d (t.typedef ty w) =
     member_type known d ty >>= λ (n : Named).
-    found (as_number n.ty) (bad_width n.place) >>= λ (num : NumType).
+    value_or_fault (as_number n.ty) (bad_width n.place) >>= λ (num : NumType).
     new_name d (small_names d) (not (is_built_in w.name)) w >>= λ (_ : Unit {0}).
     Ok (record d { typedefs = d.typedefs ++ (w.name, num) ∷ [] }, [])
 member known d (t.constant ty w k) =
     member_type known d ty >>= λ (n : Named).
-    found (as_number n.ty) (bad_width n.place) >>= λ (num : NumType).
+    value_or_fault (as_number n.ty) (bad_width n.place) >>= λ (num : NumType).
     new_name d (small_names d) true w >>= λ (_ : Unit {0}).
     const_value d k >>= λ (v : Bool × ℤ).
     must (takes_value num v) (bad_constant w.place) >>= λ (_ : Unit {0}).

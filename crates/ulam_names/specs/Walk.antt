@@ -10,15 +10,16 @@ use Rattle.ulam_tree.specs.declared.resolved.Step.TheVariants as s
 use Rattle.ulam_tree.specs.declared.resolved.Named.{Named}
 use Rattle.ulam_tree.specs.Raw as t
 use Rattle.ulam_tree.specs.Resolved as r
-use Rattle.ulam_tree.specs.Found.{◌>>=◌, found, must}
+use Rattle.ulam_tree.specs.Found.{◌>>=◌, value_or_fault, must}
 use Rattle.ulam_names.specs.Faults.{declared_twice, unknown_name, too_many, bad_width, Found}
-use Rattle.ulam_names.specs.Scopes.{Text, Basic, sized, whole, basic_named, allows, Head, Value, Context, Entry, Scope, is_named, slot_named, first_name, next_name, is_element, inside_local, opened, added, most_locals, beside}
+use Rattle.ulam_names.specs.Scopes.{Text, Basic, sized, whole, basic_named, allows, Head, Value, Context, Entry, Scope, is_named, slot_named, first_name, next_name, is_element, inside_local, inner_scope, with_entry, beside}
+use Rattle.ulam_names.specs.declared.limits.TheConstants.{MOST_LOCALS}
 
 -- Types
 
 abbrev pub width_value : (Text → Option ℤ) → t.Width → Found ℤ
 width_value values (t.wide n) = Ok (pos n)
-width_value values (t.wide_as w) = found (values w.name) (unknown_name w.place)
+width_value values (t.wide_as w) = value_or_fault (values w.name) (unknown_name w.place)
 
 abbrev pub sized_by : (Text → Option ℤ) → Place → Basic → Option t.Width → Found Ty
 sized_by values p (whole ty) None = Ok ty
@@ -31,7 +32,7 @@ sized_by values p (sized k n) (Some d) = do
 
 abbrev pub type_named : (Text → Option Basic) → (Text → Option ℤ) → t.TypeRef → Found Named
 type_named basics values x = do
-  b ← found (basics x.word.name) (unknown_name x.word.place)
+  b ← value_or_fault (basics x.word.name) (unknown_name x.word.place)
   ty ← sized_by values x.word.place b x.width
   Ok (record { ty = ty; place = x.word.place })
 
@@ -42,7 +43,7 @@ bare (whole ty) = ty
 
 abbrev pub class_named : (Text → Option Basic) → t.Word → Found Named
 class_named basics w = do
-  b ← found (basics w.name) (unknown_name w.place)
+  b ← value_or_fault (basics w.name) (unknown_name w.place)
   Ok (record { ty = bare b; place = w.place })
 
 abbrev pub basic_in : Context → Text → Option Basic
@@ -60,7 +61,7 @@ type_in c es x = type_named (basic_in c) (constant_in c es) x
 abbrev pub steps_after : List Head → Ty → List t.Word → Found (List Step)
 steps_after heads ty [] = Ok []
 steps_after heads ty (w ∷ ws) = do
-  x ← found (next_name heads ty w.name) (unknown_name w.place)
+  x ← value_or_fault (next_name heads ty w.name) (unknown_name w.place)
   more ← steps_after heads x.1 ws
   Ok (x.0 ∷ more)
 
@@ -71,7 +72,7 @@ path_by p first steps = steps >>= λ (more : List Step). Ok (record { place = p;
 abbrev pub path_from : Context → List Entry → Option Place → List t.Word → Found r.Path
 path_from c es (Some p) ws = path_by p s.Own (steps_after c.heads (y.Class c.own) ws)
 path_from c es None [] = Err (unknown_name no_place)
-path_from c es None (w ∷ ws) = found (first_name c es w.name) (unknown_name w.place) >>= λ (x : Step × Ty). path_by w.place x.0 (steps_after c.heads x.1 ws)
+path_from c es None (w ∷ ws) = value_or_fault (first_name c es w.name) (unknown_name w.place) >>= λ (x : Step × Ty). path_by w.place x.0 (steps_after c.heads x.1 ws)
 
 abbrev pub path : Context → List Entry → t.Path → Found r.Path
 path c es x = path_from c es x.own x.words
@@ -102,8 +103,8 @@ maybe_expr c es (Some e) = expr c es e >>= λ (d : r.Expr). Ok (Some d)
 
 -- Statements
 
-abbrev pub left : Context → List Entry → t.Left → Found r.Left
-left c es x = path c es x.path >>= λ (p : r.Path). maybe_expr c es x.index >>= λ (i : Option r.Expr). Ok (record { path = p; index = i })
+abbrev pub left_side : Context → List Entry → t.Left → Found r.Left
+left_side c es x = path c es x.path >>= λ (p : r.Path). maybe_expr c es x.index >>= λ (i : Option r.Expr). Ok (record { path = p; index = i })
 
 abbrev pub one_word : t.Word → t.Path
 one_word w = record { own = None; words = w ∷ [] }
@@ -113,14 +114,14 @@ cond c es (t.seen w d) = path c es (one_word w) >>= λ (p : r.Path). class_named
 cond c es (t.test e) = expr c es e >>= λ (d : r.Expr). Ok (r.test d)
 
 -- the element that a condition shows
-abbrev pub shown : r.Cond → Ty
-shown (r.seen p n) = n.ty
-shown (r.test e) = y.Nothing
+abbrev pub shown_element : r.Cond → Ty
+shown_element (r.seen p n) = n.ty
+shown_element (r.test e) = y.Nothing
 
 -- the scope of the first branch, with the name that the condition shows
-abbrev pub narrowed : List Head → Scope → t.Cond → Ty → Scope
-narrowed heads s (t.seen w d) ty = if is_element heads ty then added (record { name = w.name; slot = None; inside = ty }) s else s
-narrowed heads s (t.test e) ty = s
+abbrev pub branch_scope : List Head → Scope → t.Cond → Ty → Scope
+branch_scope heads s (t.seen w d) ty = if is_element heads ty then with_entry (record { name = w.name; slot = None; inside = ty }) s else s
+branch_scope heads s (t.test e) ty = s
 
 -- how many locals a statement declares, itself and within
 abbrev mutual
@@ -153,7 +154,7 @@ type_of x = y.Nothing
 
 -- the scope after a statement
 abbrev pub after : List Head → Scope → ℕ → t.Statement → r.Statement → Scope
-after heads s n (t.declares ty w e) x = added (record { name = w.name; slot = Some n; inside = inside_local heads (type_of x) }) s
+after heads s n (t.declares ty w e) x = with_entry (record { name = w.name; slot = Some n; inside = inside_local heads (type_of x) }) s
 after heads s n z x = s
 
 abbrev pub type_of_part : r.Part → Ty
@@ -165,40 +166,40 @@ after_part heads s n (t.part z) (r.part x) = after heads s n z x
 after_part heads s n z x = s
 
 -- a name that may be declared
-abbrev pub declared : Context → Scope → ℕ → t.Word → Found (Unit {0})
-declared c s n w = do
-  _ ← must (nat_lt n (c.params + most_locals)) (too_many w.place)
+abbrev pub may_declare : Context → Scope → ℕ → t.Word → Found (Unit {0})
+may_declare c s n w = do
+  _ ← must (nat_lt n (c.params + MOST_LOCALS)) (too_many w.place)
   must (not (list_any (is_named w.name) (drop s.from s.entries))) (declared_twice w.place)
 
 abbrev mutual
   pub statement : Context → Scope → ℕ → t.Statement → Found r.Statement
-  statement c s n (t.block b) = body c (opened s) n b >>= λ (x : r.Body). Ok (r.block x)
+  statement c s n (t.block b) = body c (inner_scope s) n b >>= λ (x : r.Body). Ok (r.block x)
   statement c s n t.empty = Ok r.empty
   statement c s n (t.if_so k x z) =
       cond c s.entries k >>= λ (d : r.Cond).
-      statement c (opened (narrowed c.heads s k (shown d))) n x >>= λ (a : r.Statement).
-      part c (opened s) (n + locals_of x) z >>= λ (b : r.Part).
+      statement c (inner_scope (branch_scope c.heads s k (shown_element d))) n x >>= λ (a : r.Statement).
+      part c (inner_scope s) (n + locals_of x) z >>= λ (b : r.Part).
       Ok (r.if_so d a b)
   statement c s n (t.while_so k x) =
       expr c s.entries k >>= λ (d : r.Expr).
-      statement c (opened s) n x >>= λ (a : r.Statement).
+      statement c (inner_scope s) n x >>= λ (a : r.Statement).
       Ok (r.while_so d a)
   statement c s n (t.for_all f k g x) =
-      part c (opened s) n f >>= λ (a : r.Part).
-      maybe_expr c (after_part c.heads (opened s) n f a).entries k >>= λ (d : Option r.Expr).
-      part c (after_part c.heads (opened s) n f a) (n + locals_part f) g >>= λ (b : r.Part).
-      statement c (opened (after_part c.heads (opened s) n f a)) (n + locals_part f + locals_part g) x >>= λ (z : r.Statement).
+      part c (inner_scope s) n f >>= λ (a : r.Part).
+      maybe_expr c (after_part c.heads (inner_scope s) n f a).entries k >>= λ (d : Option r.Expr).
+      part c (after_part c.heads (inner_scope s) n f a) (n + locals_part f) g >>= λ (b : r.Part).
+      statement c (inner_scope (after_part c.heads (inner_scope s) n f a)) (n + locals_part f + locals_part g) x >>= λ (z : r.Statement).
       Ok (r.for_all a d b z)
   statement c s n (t.returns p e) = maybe_expr c s.entries e >>= λ (d : Option r.Expr). Ok (r.returns p d)
   statement c s n (t.breaks p) = Ok (r.breaks p)
   statement c s n (t.continues p) = Ok (r.continues p)
   statement c s n (t.declares ty w e) =
       type_in c s.entries ty >>= λ (m : Named).
-      declared c s n w >>= λ (_ : Unit {0}).
+      may_declare c s n w >>= λ (_ : Unit {0}).
       maybe_expr c s.entries e >>= λ (d : Option r.Expr).
       Ok (r.declares m n w.place d)
-  statement c s n (t.assigns l op e) = left c s.entries l >>= λ (m : r.Left). expr c s.entries e >>= λ (d : r.Expr). Ok (r.assigns m op d)
-  statement c s n (t.counts l up) = left c s.entries l >>= λ (m : r.Left). Ok (r.counts m up)
+  statement c s n (t.assigns l op e) = left_side c s.entries l >>= λ (m : r.Left). expr c s.entries e >>= λ (d : r.Expr). Ok (r.assigns m op d)
+  statement c s n (t.counts l up) = left_side c s.entries l >>= λ (m : r.Left). Ok (r.counts m up)
   statement c s n (t.does p xs) = path c s.entries p >>= λ (q : r.Path). args c s.entries xs >>= λ (a : r.Args). Ok (r.does q a)
 
   pub part : Context → Scope → ℕ → t.Part → Found r.Part

@@ -7,6 +7,7 @@ ghost use Rattle.ulam_names.specs.Shown.{Gives, IsAsFound, AddsFound, halves, ha
 use crate::class_scope::is_built_in;
 use crate::fault::NameFault;
 use crate::half::HalfClass;
+use crate::limits::MOST_CLASSES;
 use crate::member::members;
 use crate::table::Table;
 use std::alloc::Global;
@@ -17,7 +18,7 @@ fn new_class<'a>(known: &mut Table<'a, bool>, class: &'a Class) -> Result<(), Na
     ensures { Gives (λ _. known.new) result (walk.new_class known.old class.now) }
 {
     let name = class.word.name.bytes();
-    if known.len() >= 256 {
+    if known.len() >= MOST_CLASSES {
         return Err(NameFault::TooMany(class.word.place));
     }
     if known.has(name) || is_built_in(name) {

@@ -2,7 +2,7 @@
 ghost use Rattle.std.specs.Prelude.{◌≡◌, ◌-◌, ◌^◌, ◌+◌, is_some, int_le, pos, neg_ℤ};
 ghost use Rattle.ulam_names.specs.ClassWalk as walk;
 ghost use Rattle.ulam_names.specs.Classes.{is_built_in, is_member_type, may_be_member, takes_value};
-ghost use Rattle.ulam_tree.specs.Found.{found};
+ghost use Rattle.ulam_tree.specs.Found.{value_or_fault};
 ghost use Rattle.ulam_names.specs.Faults.{bad_width};
 ghost use Rattle.ulam_names.specs.Scopes.{as_number, in_range};
 ghost use Rattle.ulam_names.specs.Shown.{context_of, class_context, IsAsFound};
@@ -13,6 +13,7 @@ use crate::names::{Names, is_truth};
 use crate::scope::Context;
 use crate::table::Table;
 use crate::types::{built_in, type_in, width_value};
+use bit_field::STATE_BITS;
 use feast_base::Place;
 use sat_math::{Kind, NumType};
 use ulam_tree::resolved::{Named, Ty};
@@ -43,7 +44,7 @@ pub fn member_type(known: &Table<bool>, names: &Names, of: &TypeRef) -> Result<N
 
 /// A type as a type of numbers.
 pub fn number_type(named: Named) -> Result<NumType, NameFault>
-    ensures { IsAsFound result (found (as_number named.ty) (bad_width named.place)) }
+    ensures { IsAsFound result (value_or_fault (as_number named.ty) (bad_width named.place)) }
 {
     match named.ty {
         Ty::Num { num } => Ok(num),
@@ -71,7 +72,7 @@ pub fn array_length(
         None => Ok(0),
         Some(length) => {
             let value = width_value(&class_context(known, names), &[], length)?;
-            if 1 <= value && value <= 71 {
+            if 1 <= value && value <= i128::from(STATE_BITS) {
                 Ok(value as u32)
             } else {
                 Err(NameFault::BadWidth(place))

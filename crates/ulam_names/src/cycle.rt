@@ -5,6 +5,7 @@ ghost use Rattle.ulam_names.specs.ClassWalk as walk;
 ghost use Rattle.ulam_names.specs.Rounds.{leads_by, field_part, field_parts, leads_row, row_after};
 ghost use Rattle.ulam_names.specs.Shown.{IsAsFound, head_of};
 ghost use Rattle.ulam_names.specs.declared.fault.NameFault.TheVariants.{NoMemory};
+ghost use Rattle.ulam_names.specs.declared.limits.TheConstants.{MOST_CLASSES};
 ghost use Rattle.ulam_tree.specs.Ways.{class_number};
 
 use crate::fault::NameFault;
@@ -102,7 +103,7 @@ fn holds_itself(alloc: Global, classes: &[HalfClass], class: u32) -> Result<bool
 
 /// Refuses a quark that contains itself, with a search for each class.
 fn each_apart(alloc: Global, classes: &[HalfClass]) -> Result<(), NameFault>
-    requires { length classes.now ≤ 256 }
+    requires { length classes.now ≤ MOST_CLASSES }
     ensures { IsAsFound result (walk.none_cyclic classes.now) }
 {
     let mut number = 0;
@@ -117,7 +118,7 @@ fn each_apart(alloc: Global, classes: &[HalfClass]) -> Result<(), NameFault>
 
 /// Refuses a quark that contains itself.
 pub fn none_cyclic(alloc: Global, classes: &[HalfClass]) -> Result<(), NameFault>
-    requires { length classes.now ≤ 256 }
+    requires { length classes.now ≤ MOST_CLASSES }
     ensures { IsAsFound result (walk.none_cyclic classes.now) }
 {
     if may_be_cyclic(alloc, classes)? {

@@ -36,18 +36,18 @@ pub fn expr(
             path: path(alloc, context, entries, words)?,
         }),
         raw::Expr::Call { call } => {
-            called(alloc, context, entries, &call.path, call.args.as_slice())
+            resolve_call(alloc, context, entries, &call.path, call.args.as_slice())
         }
         raw::Expr::Index { path: words, at } => index(alloc, context, entries, words, at),
         raw::Expr::Instance { class } => Ok(Expr::Instance {
             class: class_named(context, class)?,
         }),
         raw::Expr::Group { inner, place } => {
-            Ok(build::group(boxed(alloc, context, entries, inner)?, *place))
+            Ok(build::group(box_expr(alloc, context, entries, inner)?, *place))
         }
         raw::Expr::Cast { to, value, place } => cast(alloc, context, entries, to, value, *place),
         raw::Expr::Prefix { op, value, place } => {
-            Ok(build::prefix(*op, boxed(alloc, context, entries, value)?, *place))
+            Ok(build::prefix(*op, box_expr(alloc, context, entries, value)?, *place))
         }
         raw::Expr::Pair {
             op,
@@ -55,8 +55,8 @@ pub fn expr(
             right,
             place,
         } => {
-            let left = boxed(alloc, context, entries, left)?;
-            let right = boxed(alloc, context, entries, right)?;
+            let left = box_expr(alloc, context, entries, left)?;
+            let right = box_expr(alloc, context, entries, right)?;
             Ok(build::pair(*op, left, right, *place))
         }
         raw::Expr::Is {
@@ -69,7 +69,7 @@ pub fn expr(
 
 /// A call.
 #[cycle(expr)]
-fn called(
+fn resolve_call(
     alloc: Global,
     context: &Context,
     entries: &[Entry],
@@ -137,7 +137,7 @@ fn is(
 
 /// A part of an expression, in a box.
 #[cycle(expr)]
-fn boxed(
+fn box_expr(
     alloc: Global,
     context: &Context,
     entries: &[Entry],

@@ -1,5 +1,6 @@
 //! Classes whose members are resolved, except for the bodies of functions.
 ghost use Rattle.std.specs.Prelude.{◌≡◌, ◌<◌, ◌≤◌, [], ◌∷◌, ◌++◌, length, OnOk, OnErr};
+ghost use Rattle.feast_base.specs.declared.limits.TheConstants.{MOST_PARAMS};
 
 use crate::names::Names;
 use std::alloc::{AllocFailed, Global};
@@ -67,7 +68,7 @@ pub struct HalfParam<'a> {
     pub word: &'a Word,
 }
 
-/// At most 8 parameters.
+/// The parameters of a function, no more than it may have.
 #[derive(Drop)]
 pub struct Params<'a> {
     list: Vec<HalfParam<'a>>,
@@ -76,12 +77,13 @@ pub struct Params<'a> {
 impl<'a> Model for Params<'a> {
     ghost use Rattle.std.specs.Prelude.{List, length, ◌≤◌};
     ghost use Rattle.ulam_names.specs.declared.half.HalfParam.{HalfParam};
+    ghost use Rattle.feast_base.specs.declared.limits.TheConstants.{MOST_PARAMS};
 
     ghost Value = { List HalfParam };
 
     ghost view = { λ p. p.list.items };
 
-    ghost invariant = { λ p. length p.list.items ≤ 8 };
+    ghost invariant = { λ p. length p.list.items ≤ MOST_PARAMS };
 }
 
 impl<'a> Params<'a> {
@@ -97,7 +99,7 @@ impl<'a> Params<'a> {
     /// The number of parameters.
     pub fn len(&self) -> usize
         ensures count { result ≡ length self.now }
-        ensures few { result ≤ 8 }
+        ensures few { result ≤ MOST_PARAMS }
     {
         self.list.len()
     }
@@ -111,7 +113,7 @@ impl<'a> Params<'a> {
 
     /// Appends a parameter.
     pub fn push(&mut self, param: HalfParam<'a>) -> Result<(), AllocFailed<HalfParam<'a>>>
-        requires { length self.old < 8 }
+        requires { length self.old < MOST_PARAMS }
         ensures ok { OnOk result (self.new ≡ self.old ++ param.entry ∷ []) }
         ensures err { OnErr result (self.new ≡ self.old) }
     {

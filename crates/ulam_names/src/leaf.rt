@@ -5,6 +5,8 @@ ghost use Rattle.ulam_names.specs.BodyWalk as walk;
 ghost use Rattle.ulam_names.specs.Shown.{is_leaf};
 ghost use Rattle.ulam_names.specs.Outcomes.{Resolves, After};
 ghost use Rattle.ulam_names.specs.declared.fault.NameFault.TheVariants.{NoMemory};
+ghost use Rattle.feast_base.specs.declared.limits.TheConstants.{MOST_PARAMS};
+ghost use Rattle.ulam_names.specs.declared.limits.TheConstants.{MOST_LOCALS};
 ghost use Rattle.ulam_tree.specs.RawViews.{statement_of};
 ghost use Rattle.ulam_tree.specs.ResolvedViews.{resolved_statement};
 
@@ -32,8 +34,8 @@ pub fn leaf<'a>(
     slot: u32,
     raw: &'a raw::Statement,
 ) -> Result<(Statement, u32), NameFault>
-    requires params { context.now.params ≤ 8 }
-    requires slot { slot ≤ context.now.params + 64 }
+    requires params { context.now.params ≤ MOST_PARAMS }
+    requires slot { slot ≤ context.now.params + MOST_LOCALS }
     requires from { from ≤ length entries.old.items }
     requires leaf { IsTrue (is_leaf (statement_of raw.now)) }
     ensures { Resolves resolved_statement result (walk.statement_end context.now entries.old from slot raw.now) (λ x. After entries.old entries.new (walk.after context.now entries.old from slot raw.now x)) }

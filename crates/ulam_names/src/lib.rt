@@ -10,6 +10,7 @@ mod fault;
 mod half;
 mod law;
 mod leaf;
+mod limits;
 mod member;
 mod names;
 mod parts;
@@ -24,4 +25,5 @@ mod whole;
 
 pub use fault::NameFault;
 pub use law::one_resolution;
+pub use limits::{MOST_CLASSES, MOST_LOCALS, MOST_MEMBERS};
 pub use program::resolve;

@@ -13,6 +13,7 @@ use crate::fault::NameFault;
 use crate::half::{Half, HalfParam, Params, Pending};
 use crate::names::{Names, const_value, new_name};
 use crate::table::Table;
+use feast_base::MOST_PARAMS;
 use std::alloc::Global;
 use ulam_tree::{Const, Member, Param, Statement, TypeRef, Width, Word};
 
@@ -40,7 +41,7 @@ fn params<'a>(
     let mut found = Params::new(alloc);
     for param in raw {
         let of = member_type(known, names, &param.of)?;
-        if found.len() >= 8 {
+        if found.len() >= MOST_PARAMS {
             return Err(NameFault::TooMany(param.word.place));
         }
         if has_param(found.as_slice(), param.word.name.bytes()) {
@@ -113,27 +114,33 @@ fn field<'a>(
     Ok(Half::Field(named, word, length))
 }
 
+/// A function as it is written.
+#[derive(Clone, Copy)]
+struct Written<'a> {
+    of: &'a TypeRef,
+    word: &'a Word,
+    params: &'a [Param],
+    body: &'a [Statement],
+}
+
 /// Declares a function.
 fn function<'a>(
     alloc: Global,
     known: &Table<bool>,
     names: &mut Names<'a>,
-    of: &TypeRef,
-    word: &'a Word,
-    raw: &'a [Param],
-    body: &'a [Statement],
+    raw: Written<'a>,
 ) -> Result<Half<'a>, NameFault>
-    ensures { Gives (with_half names.new) result (walk.function known.now names.old of.now word.now raw.now body.now) }
+    ensures { Gives (with_half names.new) result (walk.function known.now names.old raw.entry) }
 {
-    let of = member_type(known, names, of)?;
-    new_name(names, names.functions.len(), true, word)?;
-    let params = params(alloc, known, names, raw)?;
-    names.functions.add(word.name.bytes(), ())?;
+    let of = member_type(known, names, raw.of)?;
+    new_name(names, names.functions.len(), true, raw.word)?;
+    let params = params(alloc, known, names, raw.params)?;
+    names.functions.add(raw.word.name.bytes(), ())?;
     Ok(Half::Function(Pending {
         of,
-        word,
+        word: raw.word,
         params,
-        body,
+        body: raw.body,
         typedefs: names.typedefs.len(),
         constants: names.constants.len(),
     }))
@@ -162,16 +169,13 @@ fn member<'a>(
             params,
             body,
         } => {
-            let half = function(
-                alloc,
-                known,
-                names,
+            let written = Written {
                 of,
                 word,
-                params.as_slice(),
-                body.as_slice(),
-            )?;
-            found.push(half)?;
+                params: params.as_slice(),
+                body: body.as_slice(),
+            };
+            found.push(function(alloc, known, names, written)?)?;
             Ok(())
         }
     }

@@ -4,9 +4,11 @@ ghost use Rattle.ulam_names.specs.ClassWalk as walk;
 ghost use Rattle.ulam_names.specs.Scopes.{declares_name, is_truth, no_names};
 ghost use Rattle.ulam_names.specs.Shown.{IsAsFound};
 ghost use Rattle.ulam_names.specs.NamesView.{names_view};
+ghost use Rattle.ulam_names.specs.declared.limits.TheConstants.{MOST_MEMBERS};
 
 use crate::basic::Value;
 use crate::fault::NameFault;
+use crate::limits::MOST_MEMBERS;
 use crate::table::Table;
 use sat_math::{Kind, NumType};
 use std::alloc::Global;
@@ -61,10 +63,10 @@ pub fn declares(names: &Names, name: &[u8]) -> bool
 /// declared it.
 pub fn new_name(names: &Names, count: usize, free: bool, word: &Word) -> Result<(), NameFault>
     ensures gives { IsAsFound result (walk.new_name names.now count free word.now) }
-    ensures room { OnOk result (count < 64) }
+    ensures room { OnOk result (count < MOST_MEMBERS) }
     ensures new { OnOk result (declares_name (names_view names.now) word.now.name ≡ false) }
 {
-    if count >= 64 {
+    if count >= MOST_MEMBERS {
         return Err(NameFault::TooMany(word.place));
     }
     if !free {

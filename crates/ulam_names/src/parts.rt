@@ -5,6 +5,8 @@ ghost use Rattle.ulam_names.specs.declared.fault.NameFault.TheVariants as NameFa
 ghost use Rattle.ulam_names.specs.Scopes.{is_named, is_element, inside_local};
 ghost use Rattle.ulam_names.specs.BodyWalk as walk;
 ghost use Rattle.ulam_names.specs.Shown.{head_of, scope_of, entries_of, Gives, IsAsFound, AreEntries, IsFront, AddsEntry, is_simple};
+ghost use Rattle.feast_base.specs.declared.limits.TheConstants.{MOST_PARAMS};
+ghost use Rattle.ulam_names.specs.declared.limits.TheConstants.{MOST_LOCALS};
 ghost use Rattle.ulam_tree.specs.declared.raw.Statement.TheVariants.{Declare};
 ghost use Rattle.ulam_tree.specs.RawViews.{statement_of};
 ghost use Rattle.ulam_tree.specs.ResolvedViews.{resolved_expr, resolved_left, resolved_cond, resolved_statement};
@@ -12,6 +14,7 @@ ghost use Rattle.ulam_tree.specs.ResolvedViews.{resolved_expr, resolved_left, re
 use crate::expr::{args, expr};
 use crate::fault::NameFault;
 use crate::half::HalfClass;
+use crate::limits::MOST_LOCALS;
 use crate::path::{one_word, path};
 use crate::scope::{Context, Entry};
 use crate::types::{class_named, type_in};
@@ -36,13 +39,13 @@ pub fn maybe_expr(
 }
 
 /// What is assigned to.
-fn left(
+fn left_side(
     alloc: Global,
     context: &Context,
     entries: &[Entry],
     raw: &raw::Left,
 ) -> Result<Left, NameFault>
-    ensures { Gives resolved_left result (walk.left context.now entries.now raw.now) }
+    ensures { Gives resolved_left result (walk.left_side context.now entries.now raw.now) }
 {
     let place = path(alloc, context, entries, &raw.path)?;
     match &raw.index {
@@ -100,7 +103,7 @@ pub fn inside_local(heads: &[HalfClass], ty: Ty) -> Ty
 }
 
 /// Refuses a name that may not be declared: no slot is left, or the innermost scope has it.
-fn declared(
+fn may_declare(
     context: &Context,
     entries: &[Entry],
     from: usize,
@@ -108,11 +111,11 @@ fn declared(
     word: &Word,
 ) -> Result<(), NameFault>
     requires from { from ≤ length entries.now }
-    requires params { context.now.params ≤ 8 }
-    ensures gives { IsAsFound result (walk.declared context.now entries.now from slot word.now) }
-    ensures room { OnOk result (slot + 1 ≤ context.now.params + 64) }
+    requires params { context.now.params ≤ MOST_PARAMS }
+    ensures gives { IsAsFound result (walk.may_declare context.now entries.now from slot word.now) }
+    ensures room { OnOk result (slot + 1 ≤ context.now.params + MOST_LOCALS) }
 {
-    if slot >= context.params + 64 {
+    if slot >= context.params + MOST_LOCALS {
         return Err(NameFault::TooMany(word.place));
     }
     if has(&entries[from..], word.name.bytes()) {
@@ -149,7 +152,7 @@ pub fn show<'a>(
     raw: &'a raw::Cond,
     found: &Cond,
 ) -> Result<(), NameFault>
-    ensures shown { (from : ℕ) → OnOk result (AreEntries entries.new (walk.narrowed context.now entries.old from raw.now found.now)) }
+    ensures shown { (from : ℕ) → OnOk result (AreEntries entries.new (walk.branch_scope context.now entries.old from raw.now found.now)) }
     ensures kept { OnOk result (IsFront entries.old entries.new) }
     ensures memory { OnErr result (result ≡ Err NameFault.NoMemory) }
 {
@@ -178,15 +181,15 @@ pub fn declare<'a>(
     word: &'a Word,
     value: &Option<raw::Expr>,
 ) -> Result<Statement, NameFault>
-    requires params { context.now.params ≤ 8 }
+    requires params { context.now.params ≤ MOST_PARAMS }
     requires from { from ≤ length entries.old.items }
     ensures gives { Gives resolved_statement result (walk.statement context.now entries.old from slot (Declare of.now word.now value.now)) }
-    ensures few { OnOk result (slot + 1 ≤ context.now.params + 64) }
+    ensures few { OnOk result (slot + 1 ≤ context.now.params + MOST_LOCALS) }
     ensures scope { IfOk result (λ x. AddsEntry entries.old entries.new (walk.local context.now slot word.now x)) }
     ensures kept { OnOk result (IsFront entries.old entries.new) }
 {
     let of = type_in(context, entries.as_slice(), of)?;
-    declared(context, entries.as_slice(), from, slot, word)?;
+    may_declare(context, entries.as_slice(), from, slot, word)?;
     let value = maybe_expr(alloc, context, entries.as_slice(), value)?;
     entries.push(Entry {
         name: word.name.bytes(),
@@ -223,7 +226,7 @@ pub fn simple(
             op,
             value,
         } => {
-            let to = left(alloc, context, entries, to)?;
+            let to = left_side(alloc, context, entries, to)?;
             let value = expr(alloc, context, entries, value)?;
             Ok(Statement::Assign {
                 left: to,
@@ -232,7 +235,7 @@ pub fn simple(
             })
         }
         raw::Statement::Count { left: to, up } => Ok(Statement::Count {
-            left: left(alloc, context, entries, to)?,
+            left: left_side(alloc, context, entries, to)?,
             up: *up,
         }),
         raw::Statement::Call { call } => {

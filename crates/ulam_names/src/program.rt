@@ -6,6 +6,7 @@ ghost use Rattle.ulam_names.specs.ClassRelation.{IsResolved, HaveNoResolution};
 ghost use Rattle.ulam_names.specs.Files.{all_items};
 ghost use Rattle.ulam_names.specs.Shown.{Gives};
 ghost use Rattle.ulam_names.specs.declared.fault.NameFault.TheVariants.{NoMemory};
+ghost use Rattle.ulam_names.specs.declared.limits.TheConstants.{MOST_CLASSES};
 ghost use Rattle.ulam_tree.specs.ResolvedViews.{resolved_program};
 
 use crate::class::{class_names, items};
@@ -24,7 +25,7 @@ fn whole<'a>(
     known: &Table<'a, bool>,
     halves: &[HalfClass<'a>],
 ) -> Result<Program, NameFault>
-    requires { length halves.now ≤ 256 }
+    requires { length halves.now ≤ MOST_CLASSES }
     ensures { Gives resolved_program result (walk.whole_program known.now halves.now) }
 {
     all_behave(halves)?;

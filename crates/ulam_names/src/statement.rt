@@ -7,6 +7,8 @@ ghost use Rattle.std.specs.Box.{box_value};
 ghost use Rattle.ulam_names.specs.BodyWalk as walk;
 ghost use Rattle.ulam_names.specs.Shown.{boxed_statement, each_statement, has_no_branch, IsFront};
 ghost use Rattle.ulam_names.specs.Outcomes.{Resolves, After, AreSame};
+ghost use Rattle.feast_base.specs.declared.limits.TheConstants.{MOST_PARAMS};
+ghost use Rattle.ulam_names.specs.declared.limits.TheConstants.{MOST_LOCALS};
 ghost use Rattle.ulam_tree.specs.RawViews.{statement_of};
 ghost use Rattle.ulam_tree.specs.ResolvedViews.{resolved_statement, resolved_part};
 
@@ -30,8 +32,8 @@ pub fn statement<'a>(
     slot: u32,
     raw: &'a raw::Statement,
 ) -> Result<(Statement, u32), NameFault>
-    requires params { context.now.params ≤ 8 }
-    requires slot { slot ≤ context.now.params + 64 }
+    requires params { context.now.params ≤ MOST_PARAMS }
+    requires slot { slot ≤ context.now.params + MOST_LOCALS }
     requires from { from ≤ length entries.old.items }
     ensures { Resolves resolved_statement result (walk.statement_end context.now entries.old from slot raw.now) (λ x. After entries.old entries.new (walk.after context.now entries.old from slot raw.now x)) }
 {
@@ -46,13 +48,13 @@ pub fn statement<'a>(
             let (no, next) = part(alloc, context, entries, len, next, no)?;
             Ok((build::if_so(found, yes, no), next))
         }
-        _ => looped(alloc, context, entries, from, slot, raw),
+        _ => plain_statement(alloc, context, entries, from, slot, raw),
     }
 }
 
 /// A statement other than a block or an `if`.
 #[cycle(statement)]
-fn looped<'a>(
+fn plain_statement<'a>(
     alloc: Global,
     context: &Context<'_, 'a>,
     entries: &mut Vec<Entry<'a>>,
@@ -60,8 +62,8 @@ fn looped<'a>(
     slot: u32,
     raw: &'a raw::Statement,
 ) -> Result<(Statement, u32), NameFault>
-    requires params { context.now.params ≤ 8 }
-    requires slot { slot ≤ context.now.params + 64 }
+    requires params { context.now.params ≤ MOST_PARAMS }
+    requires slot { slot ≤ context.now.params + MOST_LOCALS }
     requires from { from ≤ length entries.old.items }
     requires plain { IsTrue (has_no_branch (statement_of raw.now)) }
     ensures { Resolves resolved_statement result (walk.statement_end context.now entries.old from slot raw.now) (λ x. After entries.old entries.new (walk.after context.now entries.old from slot raw.now x)) }
@@ -97,8 +99,8 @@ fn block<'a>(
     slot: u32,
     raw: &'a [raw::Statement],
 ) -> Result<(Statement, u32), NameFault>
-    requires params { context.now.params ≤ 8 }
-    requires slot { slot ≤ context.now.params + 64 }
+    requires params { context.now.params ≤ MOST_PARAMS }
+    requires slot { slot ≤ context.now.params + MOST_LOCALS }
     ensures { Resolves resolved_statement result (walk.block_end context.now entries.old slot raw.now) (λ _. AreSame entries.old entries.new) }
 {
     let len = entries.len();
@@ -117,8 +119,8 @@ fn while_so<'a>(
     raw: &'a raw::Statement,
     test: &raw::Expr,
 ) -> Result<(Statement, u32), NameFault>
-    requires params { context.now.params ≤ 8 }
-    requires slot { slot ≤ context.now.params + 64 }
+    requires params { context.now.params ≤ MOST_PARAMS }
+    requires slot { slot ≤ context.now.params + MOST_LOCALS }
     ensures { Resolves resolved_statement result (walk.while_end context.now entries.old slot raw.now test.now) (λ _. AreSame entries.old entries.new) }
 {
     let test = expr(alloc, context, entries.as_slice(), test)?;
@@ -128,7 +130,7 @@ fn while_so<'a>(
 
 /// A statement in a box.
 #[cycle(statement)]
-fn boxed<'a>(
+fn box_statement<'a>(
     alloc: Global,
     context: &Context<'_, 'a>,
     entries: &mut Vec<Entry<'a>>,
@@ -136,8 +138,8 @@ fn boxed<'a>(
     slot: u32,
     raw: &'a raw::Statement,
 ) -> Result<(Box<Statement>, u32), NameFault>
-    requires params { context.now.params ≤ 8 }
-    requires slot { slot ≤ context.now.params + 64 }
+    requires params { context.now.params ≤ MOST_PARAMS }
+    requires slot { slot ≤ context.now.params + MOST_LOCALS }
     requires from { from ≤ length entries.old.items }
     ensures { Resolves boxed_statement result (walk.statement_end context.now entries.old from slot raw.now) (λ x. After entries.old entries.new (walk.after context.now entries.old from slot raw.now (box_value x))) }
 {
@@ -154,12 +156,12 @@ fn inner<'a>(
     slot: u32,
     raw: &'a raw::Statement,
 ) -> Result<(Box<Statement>, u32), NameFault>
-    requires params { context.now.params ≤ 8 }
-    requires slot { slot ≤ context.now.params + 64 }
+    requires params { context.now.params ≤ MOST_PARAMS }
+    requires slot { slot ≤ context.now.params + MOST_LOCALS }
     ensures { Resolves boxed_statement result (walk.inner_end context.now entries.old slot raw.now) (λ _. AreSame entries.old entries.new) }
 {
     let len = entries.len();
-    let found = boxed(alloc, context, entries, len, slot, raw)?;
+    let found = box_statement(alloc, context, entries, len, slot, raw)?;
     entries.truncate(len);
     Ok(found)
 }
@@ -174,15 +176,15 @@ fn first_part<'a>(
     slot: u32,
     raw: &'a Option<Box<raw::Statement>>,
 ) -> Result<(Option<Box<Statement>>, u32), NameFault>
-    requires params { context.now.params ≤ 8 }
-    requires slot { slot ≤ context.now.params + 64 }
+    requires params { context.now.params ≤ MOST_PARAMS }
+    requires slot { slot ≤ context.now.params + MOST_LOCALS }
     requires from { from ≤ length entries.old.items }
     ensures { Resolves resolved_part result (walk.part_end context.now entries.old from slot raw.now) (λ x. After entries.old entries.new (walk.after_part context.now entries.old from slot raw.now x)) }
 {
     match raw {
         None => Ok((None, slot)),
         Some(one) => {
-            let (one, next) = boxed(alloc, context, entries, from, slot, one)?;
+            let (one, next) = box_statement(alloc, context, entries, from, slot, one)?;
             Ok((Some(one), next))
         }
     }
@@ -198,8 +200,8 @@ fn part<'a>(
     slot: u32,
     raw: &'a Option<Box<raw::Statement>>,
 ) -> Result<(Option<Box<Statement>>, u32), NameFault>
-    requires params { context.now.params ≤ 8 }
-    requires slot { slot ≤ context.now.params + 64 }
+    requires params { context.now.params ≤ MOST_PARAMS }
+    requires slot { slot ≤ context.now.params + MOST_LOCALS }
     requires from { from ≤ length entries.old.items }
     ensures { Resolves resolved_part result (walk.part_end context.now entries.old from slot raw.now) (λ _. AreSame entries.old entries.new) }
 {
@@ -220,8 +222,8 @@ fn branch<'a>(
     test: &'a raw::Cond,
     found: &Cond,
 ) -> Result<(Box<Statement>, u32), NameFault>
-    requires params { context.now.params ≤ 8 }
-    requires slot { slot ≤ context.now.params + 64 }
+    requires params { context.now.params ≤ MOST_PARAMS }
+    requires slot { slot ≤ context.now.params + MOST_LOCALS }
     ensures { Resolves boxed_statement result (walk.branch_end context.now entries.old slot raw.now test.now found.now) (λ _. AreSame entries.old entries.new) }
 {
     let len = entries.len();
@@ -241,8 +243,8 @@ pub fn body<'a>(
     slot: u32,
     raw: &'a [raw::Statement],
 ) -> Result<(Vec<Statement>, u32), NameFault>
-    requires params { context.now.params ≤ 8 }
-    requires slot { slot ≤ context.now.params + 64 }
+    requires params { context.now.params ≤ MOST_PARAMS }
+    requires slot { slot ≤ context.now.params + MOST_LOCALS }
     requires from { from ≤ length entries.old.items }
     ensures { Resolves each_statement result (walk.body_end context.now entries.old from slot raw.now) (λ _. IsFront entries.old entries.new) }
 {

@@ -4,6 +4,8 @@ ghost use Rattle.ulam_names.specs.ClassWalk as walk;
 ghost use Rattle.ulam_names.specs.Classes.{is_behave, behaves};
 ghost use Rattle.ulam_names.specs.Shown.{Gives, IsAsFound, each, each_statement, param_of, half_of, half_class, entries_of, context_of};
 ghost use Rattle.ulam_names.specs.declared.fault.NameFault.TheVariants.{NoMemory as no_memory};
+ghost use Rattle.feast_base.specs.declared.limits.TheConstants.{MOST_PARAMS};
+ghost use Rattle.ulam_names.specs.declared.limits.TheConstants.{MOST_CLASSES};
 ghost use Rattle.ulam_tree.specs.RawViews.{word_of};
 ghost use Rattle.ulam_tree.specs.ResolvedViews.{resolved_class, resolved_member, resolved_param};
 
@@ -76,7 +78,7 @@ fn param_entries<'a>(
     heads: &[HalfClass],
     params: &[HalfParam<'a>],
 ) -> Result<Vec<Entry<'a>>, NameFault>
-    requires { length params.now ≤ 8 }
+    requires { length params.now ≤ MOST_PARAMS }
     ensures entries { IfOk result (λ v. entries_of v.items ≡ walk.param_entries heads.now params.now) }
     ensures memory { IfErr result (λ e. e ≡ no_memory) }
 {
@@ -117,7 +119,7 @@ fn whole_context<'c, 'a>(
     pending: &Pending<'a>,
 ) -> Context<'c, 'a>
     ensures context { context_of result ≡ walk.whole_context known.now heads.now own names.now pending.now }
-    ensures few { result.params ≤ 8 }
+    ensures few { result.params ≤ MOST_PARAMS }
 {
     Context {
         heads,
@@ -137,7 +139,7 @@ fn whole_body<'a>(
     context: &Context<'_, 'a>,
     pending: &Pending<'a>,
 ) -> Result<Vec<Statement>, NameFault>
-    requires { context.now.params ≤ 8 }
+    requires { context.now.params ≤ MOST_PARAMS }
     ensures { Gives each_statement result (walk.whole_body context.now pending.now) }
 {
     let params = pending.params.len() as u32;
@@ -229,7 +231,7 @@ pub fn whole_classes<'a>(
     known: &Table<'a, bool>,
     classes: &[HalfClass<'a>],
 ) -> Result<Vec<Class>, NameFault>
-    requires { length classes.now ≤ 256 }
+    requires { length classes.now ≤ MOST_CLASSES }
     ensures { Gives (each resolved_class) result (walk.whole_classes known.now classes.now) }
 {
     let mut found = Vec::new(alloc);

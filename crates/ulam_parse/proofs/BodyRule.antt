@@ -312,9 +312,9 @@ simples_back _ vs end f h = absurd f
 
 -- That a statement ends in no open `if` is known only once it is read, so the law of the `;` after it goes by cases on the answer.
 statement_then : (P : Statement → Span) (T : Statement → List Tok → Type 0) → ((b : Statement) (us rest : List Tok) → P b us rest → ends_open b ≡ false) → (us : List Tok) (x : Read Statement) →
-    ((a : Statement) (end : List Tok) → sees s.Semi end ≡ true → T a end) → Tells P T Free us x → Tells (Then P Semi) Shut Shut us (x >>= λ (y : Statement × List Tok). r.ended y.0 y.1)
+    ((a : Statement) (end : List Tok) → sees s.Semi end ≡ true → T a end) → Tells P T Free us x → Tells (Then P Semi) Shut Shut us (x >>= λ (y : Statement × List Tok). r.end_statement y.0 y.1)
 statement_then P T shut us x closes h =
-    then_law P T Free Semi Shut Shut us x (λ (y : Statement × List Tok). r.ended y.0 y.1) (λ c b vs end q w. closes c vs (seen_word s.Semi vs end q.0 q.2))
+    then_law P T Free Semi Shut Shut us x (λ (y : Statement × List Tok). r.end_statement y.0 y.1) (λ c b vs end q w. closes c vs (seen_word s.Semi vs end q.0 q.2))
     (λ c. record { tree = c; fill = λ other. tok s.Semi [] no_place ∷ other; fits = λ other. (some_word, refl, refl) }) h
     (λ a mid here l g. ended_law (length mid + 1) a (shut a us mid here) mid (omega arith))
 

@@ -11,7 +11,7 @@ use Rattle.ulam_tree.specs.declared.raw.Member.{Member}
 use Rattle.ulam_tree.specs.declared.raw.Item.{Item}
 use Rattle.ulam_parse.specs.declared.symbol.Symbol.TheVariants as s
 use Rattle.ulam_parse.specs.Tokens.{Tok}
-use Rattle.ulam_parse.specs.Reading.{Read, Reader, with_front, with_args, join_args, dotted, more_args, sees, expect, ◌>>=◌}
+use Rattle.ulam_parse.specs.Reading.{Read, Reader, with_front, with_args, join_args, names_after_dots, more_args, sees, expect, ◌>>=◌}
 use Rattle.ulam_parse.specs.Statements.{join_body, with_body, body}
 use Rattle.ulam_parse.specs.Files.{more_params, param, members, member, items, item}
 
@@ -26,9 +26,9 @@ words_pushed ws w v (Ok x) e = ap (λ z. Ok (z, x.1)) (sym (pushed word_of ws w 
 words_pushed ws w v (Err h) e = refl
 
 pub words_step : (m : ℕ) (ws : List Word) (w : Word) (v x : t.Word) (us a b : List Tok) → word_of w ≡ v → sees s.Dot us ≡ true → expect s.Dot us ≡ Ok (x, a) → expect s.Name a ≡ Ok (v, b) →
-    with_front (map word_of ws) (dotted (suc m) us) ≡ with_front (map word_of (ws ++ (w ∷ []))) (dotted m b)
-unfolding dotted
-words_step m ws w v x us a b e f g h = rw (f, g, h) (words_pushed ws w v (dotted m b) e)
+    with_front (map word_of ws) (names_after_dots (suc m) us) ≡ with_front (map word_of (ws ++ (w ∷ []))) (names_after_dots m b)
+unfolding names_after_dots
+words_step m ws w v x us a b e f g h = rw (f, g, h) (words_pushed ws w v (names_after_dots m b) e)
 
 pub joined_none : (a : Args) → join_args a no_args ≡ a
 joined_none no_args = refl

@@ -11,7 +11,7 @@ use Rattle.ulam_parse.specs.declared.symbol.Assigning.{Assigning}
 use Rattle.ulam_parse.specs.declared.symbol.Assigning.TheVariants.{Assigns, Counts, Nothing}
 use Rattle.ulam_parse.specs.Tokens.{Tok, tok}
 use Rattle.ulam_parse.specs.Tables.{opening_of, assigning_of}
-use Rattle.ulam_parse.specs.Grammar.{Span, ◌⟫◌, Takes, TakesWord, TakesAssign, TakesCount, IsPathOf, IsPath, IsExpr, AreArgs, IsIndex, IsLeft, IsSimple, IsDeclare, IsFirst, IsStep}
+use Rattle.ulam_parse.specs.Grammar.{Span, ◌⟫◌, Takes, TakesWord, TakesAssign, TakesCount, IsPathOf, IsPath, IsExpr, AreArgs, IsIndex, IsLeftSide, IsSimple, IsDeclare, IsFirst, IsStep}
 use Rattle.ulam_parse.specs.Reading.{same, sees}
 use Rattle.ulam_parse.specs.Statements as r
 use Rattle.ulam_parse.specs.Statements.{ForHead}
@@ -106,17 +106,17 @@ done_rule n x = record { rel = IsDone x; filled = done_filled x; read = r.after_
 -- an assignment, a count or a call
 
 abbrev pub Counted : Symbol → Bool → Statement → Span
-Counted k up = Then (TakesWord k) (λ a. Map (λ (l : Left). counts l up) IsLeft)
+Counted k up = Then (TakesWord k) (λ a. Map (λ (l : Left). counts l up) IsLeftSide)
 
 abbrev pub counted_made : (n : ℕ) (k : Symbol) (up : Bool) → is_end k ≡ false → Rule n Statement (Under 12) Free
 counted_made n k up e = then n (token n k e) (λ a. map n (λ l. counts l up) (left_rule n) (λ a end h. h) (λ a end h. tt)) (λ c b vs end h w. tt)
 
-pub counted_law : (n : ℕ) (k : Symbol) (up : Bool) (e : is_end k ≡ false) (us : List Tok) → length us < n → Tells (Counted k up) (Under 12) Free us (r.counted k up us)
-unfolding r.counted
+pub counted_law : (n : ℕ) (k : Symbol) (up : Bool) (e : is_end k ≡ false) (us : List Tok) → length us < n → Tells (Counted k up) (Under 12) Free us (r.count_statement k up us)
+unfolding r.count_statement
 counted_law n k up e us h = (counted_made n k up e).law us h
 
 abbrev pub counted_rule : (n : ℕ) (k : Symbol) (up : Bool) → is_end k ≡ false → Rule n Statement (Under 12) Free
-counted_rule n k up e = record { rel = Counted k up; filled = (counted_made n k up e).filled; read = r.counted k up; law = counted_law n k up e }
+counted_rule n k up e = record { rel = Counted k up; filled = (counted_made n k up e).filled; read = r.count_statement k up; law = counted_law n k up e }
 
 counted_into : (k : Symbol) (up : Bool) → assigning_of k ≡ Counts up → Into (Counted k up) IsSimple
 counted_into k up e b vs end h = rw h.3.1 (inr (h.1, (k, (h.0, h.2), e), h.3.2))

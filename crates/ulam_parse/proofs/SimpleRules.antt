@@ -10,7 +10,7 @@ use Rattle.ulam_parse.specs.declared.symbol.Assigning.{Assigning}
 use Rattle.ulam_parse.specs.declared.symbol.Assigning.TheVariants.{Assigns, Counts, Nothing}
 use Rattle.ulam_parse.specs.Tokens.{Text, Tok, tok}
 use Rattle.ulam_parse.specs.Tables.{assigning_of}
-use Rattle.ulam_parse.specs.Grammar.{Span, ◌⟫◌, TakesWord, TakesAssign, TakesCount, IsType, IsPath, IsExpr, IsIndex, IsLeft, IsMaybe, IsStart, IsDeclare}
+use Rattle.ulam_parse.specs.Grammar.{Span, ◌⟫◌, TakesWord, TakesAssign, TakesCount, IsType, IsPath, IsExpr, IsIndex, IsLeftSide, IsMaybe, IsStart, IsDeclare}
 use Rattle.ulam_parse.specs.Reading.{same, sees, expr}
 use Rattle.ulam_parse.specs.Statements as r
 use Rattle.ulam_parse.specs.Sentences.{is_end}
@@ -66,15 +66,15 @@ Lefts = Then IsPath (λ x. Map (λ (i : Option Expr). record { path = x; index =
 
 abbrev pub left_made : (n : ℕ) → Rule n Left (Under 12) Free
 left_made n = named n
-    (then n (path_rule n) (λ x. map n (λ i. record { path = x; index = i }) (index_rule n) (λ a end h. no_opens s.OpenBracket refl end (omega (arith, h))) (λ a end h. tt)) (λ c b vs end h w. index_dot h.0 vs end h.2 w)) IsLeft
+    (then n (path_rule n) (λ x. map n (λ i. record { path = x; index = i }) (index_rule n) (λ a end h. no_opens s.OpenBracket refl end (omega (arith, h))) (λ a end h. tt)) (λ c b vs end h w. index_dot h.0 vs end h.2 w)) IsLeftSide
     (λ b vs end h. rw h.3.1 (h.1, h.2, h.3.2)) (λ b vs end c h w. ((b.path, h.0, h.1, (b.index, refl, h.2)), w))
 
-pub left_law : (n : ℕ) (us : List Tok) → length us < n → Tells IsLeft (Under 12) Free us (r.left us)
-unfolding r.left
+pub left_law : (n : ℕ) (us : List Tok) → length us < n → Tells IsLeftSide (Under 12) Free us (r.left_side us)
+unfolding r.left_side
 left_law n us h = (left_made n).law us h
 
 abbrev pub left_rule : (n : ℕ) → Rule n Left (Under 12) Free
-left_rule n = record { rel = IsLeft; filled = (left_made n).filled; read = r.left; law = left_law n }
+left_rule n = record { rel = IsLeftSide; filled = (left_made n).filled; read = r.left_side; law = left_law n }
 
 -- what is optional
 

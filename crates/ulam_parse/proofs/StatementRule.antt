@@ -39,12 +39,12 @@ Semi x = Map (λ (a : Word). x) (TakesWord s.Semi)
 abbrev pub semi_part : (n : ℕ) (x : Statement) → ends_open x ≡ false → Rule n Statement Shut Shut
 semi_part n x e = map n (λ a. x) (token n s.Semi refl) (λ a end h. tt) (λ a end h q. let f : true ≡ false = sym q ∙ e in absurd cc)
 
-pub ended_law : (n : ℕ) (x : Statement) → ends_open x ≡ false → (us : List Tok) → length us < n → Tells (Semi x) Shut Shut us (r.ended x us)
-unfolding r.ended
+pub ended_law : (n : ℕ) (x : Statement) → ends_open x ≡ false → (us : List Tok) → length us < n → Tells (Semi x) Shut Shut us (r.end_statement x us)
+unfolding r.end_statement
 ended_law n x e us h = (semi_part n x e).law us h
 
 abbrev pub ended_rule : (n : ℕ) (x : Statement) → ends_open x ≡ false → Rule n Statement Shut Shut
-ended_rule n x e = record { rel = Semi x; filled = (semi_part n x e).filled; read = r.ended x; law = ended_law n x e }
+ended_rule n x e = record { rel = Semi x; filled = (semi_part n x e).filled; read = r.end_statement x; law = ended_law n x e }
 
 abbrev pub Returned : Place → Statement → Span
 Returned p = Then IsMaybe (λ e. Semi (returns p e))

@@ -5,7 +5,7 @@ use Rattle.ulam_parse.specs.declared.symbol.Symbol.{Symbol}
 use Rattle.ulam_parse.specs.declared.symbol.Symbol.TheVariants as s
 use Rattle.ulam_parse.specs.Tokens.{Tok, value_of, unsigned_of}
 use Rattle.ulam_parse.specs.Grammar.{Span, ◌⟫◌, Takes, TakesWord, IsWidth, IsSize, IsType, AreDotted, IsPath, IsPathOf}
-use Rattle.ulam_parse.specs.Reading.{sees, width, enclosed, size, type_ref, dotted, words_after, path}
+use Rattle.ulam_parse.specs.Reading.{sees, width, width_between, size, type_ref, names_after_dots, words_after, path}
 use Rattle.ulam_parse.specs.Sentences.{is_end}
 use Rattle.ulam_parse.proofs.Tells.{is_seen, unseen, Tells}
 use Rattle.ulam_parse.proofs.Rules.{Free, Rule, Filled, Then, Map, Into, Back, Seen, Unseen, Always, token, then, after, map, named, here, choice}
@@ -44,12 +44,12 @@ Between o c = Then (TakesWord o) (λ a. Then IsWidth (λ d. Map (λ (b : Word). 
 abbrev pub enclosed_made : (n : ℕ) (o c : Symbol) → is_end o ≡ false → is_end c ≡ false → Rule n (Option Width) Free Free
 enclosed_made n o c f g = then n (token n o f) (λ a. then n (width_rule n) (λ d. map n (λ b. Some d) (token n c g) (λ a end h. tt) (λ a end h. tt)) (λ c b vs end h w. tt)) (λ c b vs end h w. tt)
 
-pub enclosed_law : (n : ℕ) (o c : Symbol) (f : is_end o ≡ false) (g : is_end c ≡ false) (us : List Tok) → length us < n → Tells (Between o c) Free Free us (enclosed o c us)
-unfolding enclosed
+pub enclosed_law : (n : ℕ) (o c : Symbol) (f : is_end o ≡ false) (g : is_end c ≡ false) (us : List Tok) → length us < n → Tells (Between o c) Free Free us (width_between o c us)
+unfolding width_between
 enclosed_law n o c f g us h = (enclosed_made n o c f g).law us h
 
 abbrev pub enclosed_rule : (n : ℕ) (o c : Symbol) → is_end o ≡ false → is_end c ≡ false → Rule n (Option Width) Free Free
-enclosed_rule n o c f g = record { rel = Between o c; filled = (enclosed_made n o c f g).filled; read = enclosed o c; law = enclosed_law n o c f g }
+enclosed_rule n o c f g = record { rel = Between o c; filled = (enclosed_made n o c f g).filled; read = width_between o c; law = enclosed_law n o c f g }
 
 -- an optional width
 abbrev pub IsOptional : Symbol → Symbol → Option Width → Span
@@ -109,11 +109,11 @@ dotted_other (w ∷ ws) vs end c h f = absurd (unseen s.Dot _ _ vs h.0 h.1.1 c)
 abbrev pub dotted_filled : Filled AreDotted
 dotted_filled = record { tree = []; fill = λ other. other; fits = λ other. refl }
 
-pub dotted_law : (n : ℕ) (us : List Tok) → length us < n → Tells AreDotted (Not s.Dot) Free us (dotted n us)
-unfolding dotted
+pub dotted_law : (n : ℕ) (us : List Tok) → length us < n → Tells AreDotted (Not s.Dot) Free us (names_after_dots n us)
+unfolding names_after_dots
 dotted_law zero us h = absurd (omega (arith, h))
 dotted_law (suc n) us h =
-    let rest : Rule n (List Word) (Not s.Dot) Free = record { rel = AreDotted; filled = dotted_filled; read = dotted n; law = dotted_law n } in
+    let rest : Rule n (List Word) (Not s.Dot) Free = record { rel = AreDotted; filled = dotted_filled; read = names_after_dots n; law = dotted_law n } in
     (choice (suc n) s.Dot (after n s.Dot refl (λ a. then n (token n s.Name refl) (λ w. map n (λ ws. w ∷ ws) rest (λ a end h. h) (λ a end h. tt)) (λ c b vs end h w. tt))) (here (suc n) []) AreDotted
     (λ b vs end h. rw h.3.3.1 (h.1, (h.0, h.2), (h.3.1, h.3.2, h.3.3.2))) dotted_from (λ b vs end h. rw h.0 h.1) dotted_other).law us h
 

@@ -4,7 +4,7 @@ use Rattle.ulam_tree.specs.Raw.{Word, Width, TypeRef, Param, Const, const_number
 use Rattle.ulam_parse.specs.declared.symbol.Symbol.{Symbol}
 use Rattle.ulam_parse.specs.declared.symbol.Symbol.TheVariants as s
 use Rattle.ulam_parse.specs.Tokens.{Tok, value_of, unsigned_of}
-use Rattle.ulam_parse.specs.Reading.{tired, Reader, ◌>>=◌, sees, expect, enclosed, type_ref}
+use Rattle.ulam_parse.specs.Reading.{tired, Reader, ◌>>=◌, sees, expect, width_between, type_ref}
 use Rattle.ulam_parse.specs.Statements.{whole_body}
 
 unfoldable pub param : Reader Param
@@ -79,7 +79,7 @@ constant_in us = do
   Ok (constant ty.0 w.0 v.0, c.1)
 
 unfoldable pub length_in : Reader (Option Width)
-length_in us = if sees s.OpenBracket us then enclosed s.OpenBracket s.CloseBracket us else Ok (None, us)
+length_in us = if sees s.OpenBracket us then width_between s.OpenBracket s.CloseBracket us else Ok (None, us)
 
 -- a function, after its name
 unfoldable pub function_rest : TypeRef → Word → Reader Member

@@ -130,8 +130,8 @@ IsIndex None = Here
 IsIndex (Some e) = Takes s.OpenBracket ⟫ IsExpr 1 e ⟫ Takes s.CloseBracket
 
 -- what is assigned to
-abbrev pub IsLeft : Left → Span
-IsLeft l = IsPath l.path ⟫ IsIndex l.index
+abbrev pub IsLeftSide : Left → Span
+IsLeftSide l = IsPath l.path ⟫ IsIndex l.index
 
 -- an expression, or nothing
 abbrev pub IsMaybe : Option Expr → Span
@@ -145,8 +145,8 @@ IsStart (Some e) = Takes s.Set ⟫ IsExpr 1 e
 
 -- an assignment, a count or a call, without `;`
 abbrev pub IsSimple : Statement → Span
-IsSimple (assigns l op e) = IsLeft l ⟫ TakesAssign op ⟫ IsExpr 1 e
-IsSimple (counts l up) = λ us rest. (IsLeft l ⟫ TakesCount up) us rest ⊎ (TakesCount up ⟫ IsLeft l) us rest
+IsSimple (assigns l op e) = IsLeftSide l ⟫ TakesAssign op ⟫ IsExpr 1 e
+IsSimple (counts l up) = λ us rest. (IsLeftSide l ⟫ TakesCount up) us rest ⊎ (TakesCount up ⟫ IsLeftSide l) us rest
 IsSimple (does x es) = IsPath x ⟫ Takes s.OpenParen ⟫ AreArgs es
 IsSimple _ = Never
 

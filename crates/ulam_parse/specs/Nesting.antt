@@ -1,5 +1,6 @@
 -- How deep tokens nest: a count along the tokens alone.
 use Rattle.std.specs.Prelude.{ℕ, ◌+◌, ◌≤◌, List, [], ◌∷◌, ◌++◌, ◌≡◌, fold, Bool, true, false, not, ◌&&◌, if◌then◌else◌}
+use Rattle.ulam_parse.specs.declared.deep.TheConstants.{MOST_DEPTH}
 use Rattle.ulam_parse.specs.declared.symbol.Symbol.{Symbol}
 use Rattle.ulam_parse.specs.declared.symbol.Symbol.TheVariants as s
 use Rattle.ulam_parse.specs.declared.symbol.Weight.{Weight}
@@ -85,24 +86,24 @@ count_at c last k =
     if ends_one last && not (is_else k) then 0 else (if is_close_paren last && is_open_paren k then c + 1 else c)
 
 -- a bracket opens
-abbrev pub opened : List ℕ → ℕ → Symbol → Nest
-opened ds c k = record { inner = 0; outer = c ∷ ds; last = k }
+abbrev pub open_bracket : List ℕ → ℕ → Symbol → Nest
+open_bracket ds c k = record { inner = 0; outer = c ∷ ds; last = k }
 
 -- the last open bracket closes, if there is one
-abbrev pub closed : List ℕ → ℕ → Symbol → Nest
-closed [] c k = record { inner = c; outer = []; last = k }
-closed (d ∷ ds) c k = record { inner = d; outer = ds; last = k }
+abbrev pub close_bracket : List ℕ → ℕ → Symbol → Nest
+close_bracket [] c k = record { inner = c; outer = []; last = k }
+close_bracket (d ∷ ds) c k = record { inner = d; outer = ds; last = k }
 
 -- `if`, `while`, `for` and operators add 1, `,` sets the count to 0, and brackets open and close
-abbrev pub weighed : Weight → List ℕ → ℕ → Symbol → Nest
-weighed w.Adds ds c k = record { inner = c + 1; outer = ds; last = k }
-weighed w.Clears ds c k = record { inner = 0; outer = ds; last = k }
-weighed w.Opens ds c k = opened ds c k
-weighed w.Closes ds c k = closed ds c k
-weighed w.Nothing ds c k = record { inner = c; outer = ds; last = k }
+abbrev pub weigh : Weight → List ℕ → ℕ → Symbol → Nest
+weigh w.Adds ds c k = record { inner = c + 1; outer = ds; last = k }
+weigh w.Clears ds c k = record { inner = 0; outer = ds; last = k }
+weigh w.Opens ds c k = open_bracket ds c k
+weigh w.Closes ds c k = close_bracket ds c k
+weigh w.Nothing ds c k = record { inner = c; outer = ds; last = k }
 
 abbrev pub nest_step : Nest → Symbol → Nest
-nest_step n k = weighed (weight_of k) n.outer (count_at n.inner n.last k) k
+nest_step n k = weigh (weight_of k) n.outer (count_at n.inner n.last k) k
 
 abbrev pub symbol_at : Tok → Symbol
 symbol_at (tok k w p) = k
@@ -114,6 +115,6 @@ nest_after ts = fold (λ (n : Nest) (t : Tok). nest_step n (symbol_at t)) outsid
 abbrev pub nesting : List Tok → ℕ
 nesting ts = depth (nest_after ts)
 
--- no prefix nests deeper than 64
+-- no prefix nests too deep
 abbrev pub IsShallow : List Tok → Type 0
-IsShallow ts = (front back : List Tok) → ts ≡ front ++ back → nesting front ≤ 64
+IsShallow ts = (front back : List Tok) → ts ≡ front ++ back → nesting front ≤ MOST_DEPTH

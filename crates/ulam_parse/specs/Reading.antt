@@ -69,15 +69,15 @@ width us =
       Ok (wide_as w.0, w.1))
 
 -- a width between two brackets
-unfoldable pub enclosed : Symbol → Symbol → Reader (Option Width)
-enclosed o c us = do
+unfoldable pub width_between : Symbol → Symbol → Reader (Option Width)
+width_between o c us = do
   a ← expect o us
   d ← width a.1
   b ← expect c d.1
   Ok (Some d.0, b.1)
 
 unfoldable pub size : Reader (Option Width)
-size us = if sees s.OpenParen us then enclosed s.OpenParen s.CloseParen us else Ok (None, us)
+size us = if sees s.OpenParen us then width_between s.OpenParen s.CloseParen us else Ok (None, us)
 
 unfoldable pub type_ref : Reader TypeRef
 type_ref us = do
@@ -86,18 +86,18 @@ type_ref us = do
   Ok (record { word = w.0; width = d.0 }, d.1)
 
 -- names after dots; the number bounds the turns
-unfoldable pub dotted : ℕ → Reader (List Word)
-dotted zero us = Err tired
-dotted (suc k) us =
+unfoldable pub names_after_dots : ℕ → Reader (List Word)
+names_after_dots zero us = Err tired
+names_after_dots (suc k) us =
     if sees s.Dot us then (do
       a ← expect s.Dot us
       w ← expect s.Name a.1
-      ws ← dotted k w.1
+      ws ← names_after_dots k w.1
       Ok (w.0 ∷ ws.0, ws.1))
     else Ok ([], us)
 
 abbrev pub words_after : Reader (List Word)
-words_after us = dotted (length us + 1) us
+words_after us = names_after_dots (length us + 1) us
 
 unfoldable pub path : Reader Path
 path us =
@@ -158,8 +158,8 @@ module _ (expr : ℕ → Reader Expr) where
         Ok (index x e.0, b.1))
       else Ok (reads x, us))
 
-  abbrev pub named : Reader Expr
-  named us = path us >>= λ (x : Path × List Tok). after_path x.0 x.1
+  abbrev pub path_or_call : Reader Expr
+  path_or_call us = path us >>= λ (x : Path × List Tok). after_path x.0 x.1
 
   -- what comes after a bracket that opens at a place
   unfoldable pub in_parens : Place → Reader Expr
@@ -181,8 +181,8 @@ module _ (expr : ℕ → Reader Expr) where
   operand_by Counts t us = Ok (number (value_of (text_in t)) (unsigned_of (text_in t)) (place_at t), us)
   operand_by (Says b) t us = Ok (truth b (place_at t), us)
   operand_by Classes t us = new_atom (t ∷ us)
-  operand_by Names t us = named (t ∷ us)
-  operand_by Owns t us = named (t ∷ us)
+  operand_by Names t us = path_or_call (t ∷ us)
+  operand_by Owns t us = path_or_call (t ∷ us)
   operand_by Nothing t us = Err (stops (length (t ∷ us)))
 
   unfoldable pub operand : Reader Expr

@@ -2,6 +2,7 @@
 use Rattle.std.specs.Prelude.{ℕ, ◌<◌, ◌≡◌, ◌+◌, List, [], ◌∷◌, ◌++◌, Option, Some, None, Bool, true, false, ◌||◌, if◌then◌else◌, nat_lt}
 use Rattle.feast_base.specs.declared.place.Place.{Place}
 use Rattle.ulam_tree.specs.Raw.{Item}
+use Rattle.ulam_parse.specs.declared.deep.TheConstants.{MOST_DEPTH}
 use Rattle.ulam_parse.specs.declared.fault.ParseFault.{ParseFault}
 use Rattle.ulam_parse.specs.declared.fault.ParseFault.TheVariants.{Syntax, TooDeep, NoMemory}
 use Rattle.ulam_parse.specs.declared.symbol.Symbol.{Symbol}
@@ -52,7 +53,7 @@ pub record IsDepthFault (ts : List Tok) (place : Place) : Type 0 where
   pub placed : place ≡ place_at at
   pub begins : Begins (front ++ (at ∷ []))
   pub shallow : IsShallow front
-  pub deep : 64 < nesting (front ++ (at ∷ []))
+  pub deep : MOST_DEPTH < nesting (front ++ (at ∷ []))
 
 -- the first fault of tokens
 abbrev pub IsFaultOf : List Tok → ParseFault → Type 0
@@ -60,7 +61,7 @@ IsFaultOf ts (Syntax p) = IsSyntaxFault ts p
 IsFaultOf ts (TooDeep p) = IsDepthFault ts p
 IsFaultOf ts NoMemory = ⊥
 
--- The number of the first of these tokens at which the nesting is deeper than 64. They are counted from k, and n is the nesting before them.
+-- The number of the first of these tokens at which the nesting is too deep. They are counted from k, and n is the nesting before them.
 abbrev pub deep_from : ℕ → Nest → List Tok → Option ℕ
 deep_from k n [] = None
-deep_from k n (t ∷ ts) = if nat_lt 64 (depth (nest_step n (symbol_at t))) then Some k else deep_from (k + 1) (nest_step n (symbol_at t)) ts
+deep_from k n (t ∷ ts) = if nat_lt MOST_DEPTH (depth (nest_step n (symbol_at t))) then Some k else deep_from (k + 1) (nest_step n (symbol_at t)) ts

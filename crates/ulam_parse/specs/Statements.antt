@@ -32,8 +32,8 @@ index_in us =
       Ok (Some e.0, b.1))
     else Ok (None, us)
 
-unfoldable pub left : Reader Left
-left us = do
+unfoldable pub left_side : Reader Left
+left_side us = do
   x ← path us
   i ← index_in x.1
   Ok (record { path = x.0; index = i.0 }, i.1)
@@ -83,16 +83,16 @@ after_names x us =
       assign (record { path = x; index = i.0 }) i.1)
 
 -- a place after its `++` or `--`
-unfoldable pub counted : Symbol → Bool → Reader Statement
-counted k up us = do
+unfoldable pub count_statement : Symbol → Bool → Reader Statement
+count_statement k up us = do
   a ← expect k us
-  l ← left a.1
+  l ← left_side a.1
   Ok (counts l.0 up, l.1)
 
 unfoldable pub simple : Reader Statement
 simple us =
-    if sees s.PlusPlus us then counted s.PlusPlus true us
-    else (if sees s.MinusMinus us then counted s.MinusMinus false us
+    if sees s.PlusPlus us then count_statement s.PlusPlus true us
+    else (if sees s.MinusMinus us then count_statement s.MinusMinus false us
     else (do
       x ← path us
       after_names x.0 x.1))
@@ -148,23 +148,23 @@ while_head us = do
   Ok (e.0, b.1)
 
 -- `;` after a statement
-unfoldable pub ended : Statement → Reader Statement
-ended x us = do
+unfoldable pub end_statement : Statement → Reader Statement
+end_statement x us = do
   a ← expect s.Semi us
   Ok (x, a.1)
 
 unfoldable pub return_rest : Place → Reader Statement
 return_rest p us = do
   e ← maybe us
-  ended (returns p e.0) e.1
+  end_statement (returns p e.0) e.1
 
 -- a declaration and its `;`
-abbrev pub declared : Reader Statement
-declared us = declare us >>= λ (x : Statement × List Tok). ended x.0 x.1
+abbrev pub declaration : Reader Statement
+declaration us = declare us >>= λ (x : Statement × List Tok). end_statement x.0 x.1
 
 -- an assignment, a count or a call, and its `;`
-abbrev pub done : Reader Statement
-done us = simple us >>= λ (x : Statement × List Tok). ended x.0 x.1
+abbrev pub simple_statement : Reader Statement
+simple_statement us = simple us >>= λ (x : Statement × List Tok). end_statement x.0 x.1
 
 module _ (statement : Reader Statement) where
   unfoldable pub else_part : Reader Part
@@ -219,10 +219,10 @@ module _ (statement : Reader Statement) where
   statement_by starts.While t us = while_rest us
   statement_by starts.For t us = for_rest us
   statement_by starts.Return t us = return_rest (place_at t) us
-  statement_by starts.Break t us = ended (breaks (place_at t)) us
-  statement_by starts.Continue t us = ended (continues (place_at t)) us
-  statement_by starts.Declare t us = declared (t ∷ us)
-  statement_by starts.Simple t us = done (t ∷ us)
+  statement_by starts.Break t us = end_statement (breaks (place_at t)) us
+  statement_by starts.Continue t us = end_statement (continues (place_at t)) us
+  statement_by starts.Declare t us = declaration (t ∷ us)
+  statement_by starts.Simple t us = simple_statement (t ∷ us)
   statement_by starts.Nothing t us = Err (stops (length (t ∷ us)))
 
   unfoldable pub any_statement : Reader Statement

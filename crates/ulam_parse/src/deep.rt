@@ -10,10 +10,10 @@ use crate::tape::Tape;
 use feast_base::NoMemory;
 use std::alloc::Global;
 
-/// The limit on nesting.
+/// How deep tokens nest at most.
 const MOST_DEPTH: u32 = 64;
 
-/// The index of the first token at which the nesting is deeper than 64.
+/// The index of the first token at which the nesting is too deep.
 #[tactic(auto, using(crate::proofs::Deeper::deep_none))]
 pub fn first_deep(alloc: Global, tape: &Tape) -> Result<Option<usize>, NoMemory>
     ensures { IfOk result (λ d. deep_from 0 outside (from tape.now 0) ≡ d) }

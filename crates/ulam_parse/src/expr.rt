@@ -18,7 +18,7 @@ use ulam_tree::raw_build::{call, cast, group, is, pair, prefix};
 use ulam_tree::{Expr, Path};
 
 /// An expression in a box.
-pub fn boxed(alloc: Global, value: Expr) -> Result<Box<Expr>, NoMemory>
+pub fn box_expr(alloc: Global, value: Expr) -> Result<Box<Expr>, NoMemory>
     ensures { IfOk result (λ b. box_value b ≡ value) }
 {
     Ok(Box::new(alloc, value)?)
@@ -84,7 +84,7 @@ fn boxed_in(
     ensures { Reads boxed_expr (spec.expr_in steps least) tape.now at result }
 {
     let (value, next) = expr_in(alloc, steps, least, tape, at)?;
-    Ok((boxed(alloc, value)?, next))
+    Ok((box_expr(alloc, value)?, next))
 }
 
 /// An operand and the operators and operands that follow it.
@@ -132,7 +132,7 @@ fn operand(alloc: Global, steps: usize, tape: &Tape, at: usize) -> Result<(Expr,
             Ok((Expr::Truth { value, place }, at + 1))
         }
         Opening::Classes => new_atom(alloc, tape, at),
-        Opening::Names | Opening::Owns => named(alloc, steps, tape, at),
+        Opening::Names | Opening::Owns => path_or_call(alloc, steps, tape, at),
         Opening::Nothing => Err(Halt::Left(count_from(tape, at))),
     }
 }
@@ -185,7 +185,7 @@ fn more(
             Infix::Joins(op) => {
                 let level = level(op);
                 if least <= level && level <= top {
-                    let left = boxed(alloc, value)?;
+                    let left = box_expr(alloc, value)?;
                     let (right, behind) = boxed_in(alloc, steps, level_behind(op), tape, next + 1)?;
                     value = pair(op, left, right, sign.place);
                     top = level;
@@ -197,7 +197,7 @@ fn more(
             Infix::Tests => {
                 if least <= 8 && 9 <= top {
                     let (mark, behind) = expect(Symbol::TypeName, tape, next + 1)?;
-                    let tested = boxed(alloc, value)?;
+                    let tested = box_expr(alloc, value)?;
                     value = is(tested, word(alloc, tape, mark)?, sign.place);
                     top = 8;
                     next = behind;
@@ -213,8 +213,8 @@ fn more(
 
 /// A path, a call or an element of an array.
 #[cycle(expr)]
-fn named(alloc: Global, steps: usize, tape: &Tape, at: usize) -> Result<(Expr, usize), Halt>
-    ensures { Reads expr_of (spec.named (spec.expr_in steps)) tape.now at result }
+fn path_or_call(alloc: Global, steps: usize, tape: &Tape, at: usize) -> Result<(Expr, usize), Halt>
+    ensures { Reads expr_of (spec.path_or_call (spec.expr_in steps)) tape.now at result }
 {
     let (path, next) = path(alloc, tape, at)?;
     after_path(alloc, steps, path, tape, next)

@@ -8,7 +8,7 @@ use crate::expr::expr;
 use crate::for_parts::ForParts;
 use crate::halt::Halt;
 use crate::simple::{cond, declare, maybe, simple};
-use crate::statement::boxed;
+use crate::statement::box_statement;
 use crate::symbol::Symbol;
 use crate::take::{sees, skip};
 use crate::tape::Tape;
@@ -28,10 +28,10 @@ fn first_part(
         Ok((None, at))
     } else if sees(Symbol::TypeName, tape, at) {
         let (statement, next) = declare(alloc, tape, at)?;
-        Ok((Some(boxed(alloc, statement)?), next))
+        Ok((Some(box_statement(alloc, statement)?), next))
     } else {
         let (statement, next) = simple(alloc, tape, at)?;
-        Ok((Some(boxed(alloc, statement)?), next))
+        Ok((Some(box_statement(alloc, statement)?), next))
     }
 }
 
@@ -44,7 +44,7 @@ fn step_part(alloc: Global, tape: &Tape, at: usize) -> Result<(Option<Box<Statem
         return Ok((None, at));
     }
     let (step, next) = simple(alloc, tape, at)?;
-    Ok((Some(boxed(alloc, step)?), next))
+    Ok((Some(box_statement(alloc, step)?), next))
 }
 
 /// The parts of a `for` that are in its brackets.

@@ -10,7 +10,7 @@ use crate::statement::whole_body;
 use crate::symbol::Symbol;
 use crate::take::{count_from, expect, past, sees, skip, word};
 use crate::tape::Tape;
-use crate::types::{enclosed, type_ref};
+use crate::types::{type_ref, width_between};
 use std::alloc::Global;
 use ulam_tree::{Const, Member, Param, TypeRef, Width, Word};
 
@@ -135,7 +135,7 @@ fn length_in(alloc: Global, tape: &Tape, at: usize) -> Result<(Option<Width>, us
     ensures { Reads (option_map width_of) spec.length_in tape.now at result }
 {
     if sees(Symbol::OpenBracket, tape, at) {
-        enclosed(alloc, Symbol::OpenBracket, Symbol::CloseBracket, tape, at)
+        width_between(alloc, Symbol::OpenBracket, Symbol::CloseBracket, tape, at)
     } else {
         Ok((None, at))
     }

@@ -2,6 +2,7 @@
 ghost use Rattle.std.specs.Prelude.{◌≡◌, ◌+◌, ◌≤◌, IfOk};
 ghost use Rattle.ulam_parse.specs.Nests.{nest_of};
 ghost use Rattle.ulam_parse.specs.Nesting as spec;
+ghost use Rattle.ulam_parse.specs.declared.deep.TheConstants.{MOST_DEPTH};
 
 use crate::nesting::Nest;
 use crate::symbol::{Symbol, Weight};
@@ -23,7 +24,7 @@ pub fn outside(alloc: Global) -> Nest
 
 /// The depth of the nesting.
 pub fn depth(nest: &Nest) -> u32
-    requires { spec.depth (nest_of nest.now) ≤ 66 }
+    requires { spec.depth (nest_of nest.now) ≤ MOST_DEPTH + 2 }
     ensures { result ≡ spec.depth (nest_of nest.now) }
 {
     nest.inner + nest.around
@@ -31,7 +32,7 @@ pub fn depth(nest: &Nest) -> u32
 
 /// The innermost count at a symbol, according to the one before it.
 fn count_at(inner: u32, last: Symbol, symbol: Symbol) -> u32
-    requires { inner ≤ 64 }
+    requires { inner ≤ MOST_DEPTH }
     ensures count { result ≡ spec.count_at inner last symbol }
     ensures small { result ≤ inner + 1 }
 {
@@ -46,9 +47,9 @@ fn count_at(inner: u32, last: Symbol, symbol: Symbol) -> u32
 
 /// The count after a bracket opens.
 #[tactic(auto, using(crate::proofs::Nests::reverse_push))]
-fn opened(nest: Nest, count: u32, last: Symbol) -> Result<Nest, NoMemory>
-    requires few { nest.around + count ≤ 66 }
-    ensures { IfOk result (λ n. nest_of n ≡ spec.opened (nest_of nest).outer count last) }
+fn open_bracket(nest: Nest, count: u32, last: Symbol) -> Result<Nest, NoMemory>
+    requires few { nest.around + count ≤ MOST_DEPTH + 2 }
+    ensures { IfOk result (λ n. nest_of n ≡ spec.open_bracket (nest_of nest).outer count last) }
 {
     let Nest {
         inner: _,
@@ -69,8 +70,8 @@ fn opened(nest: Nest, count: u32, last: Symbol) -> Result<Nest, NoMemory>
 
 /// The count after the last open bracket closes, if there is one.
 #[tactic(auto, using(crate::proofs::Nests::reverse_push))]
-fn closed(nest: Nest, count: u32, last: Symbol) -> Nest
-    ensures { nest_of result ≡ spec.closed (nest_of nest).outer count last }
+fn close_bracket(nest: Nest, count: u32, last: Symbol) -> Nest
+    ensures { nest_of result ≡ spec.close_bracket (nest_of nest).outer count last }
 {
     let Nest {
         inner: _,
@@ -95,7 +96,7 @@ fn closed(nest: Nest, count: u32, last: Symbol) -> Nest
 }
 
 /// The count with a new innermost count.
-fn counted(nest: Nest, inner: u32, last: Symbol) -> Nest
+fn with_count(nest: Nest, inner: u32, last: Symbol) -> Nest
     ensures { nest_of result ≡ record { inner = inner; outer = (nest_of nest).outer; last = last } }
 {
     let Nest {
@@ -114,16 +115,16 @@ fn counted(nest: Nest, inner: u32, last: Symbol) -> Nest
 
 /// The count after one more token.
 pub fn step(nest: Nest, symbol: Symbol) -> Result<Nest, NoMemory>
-    requires { spec.depth (nest_of nest) ≤ 64 }
+    requires { spec.depth (nest_of nest) ≤ MOST_DEPTH }
     ensures steps { IfOk result (λ n. nest_of n ≡ spec.nest_step (nest_of nest) symbol) }
-    ensures small { IfOk result (λ n. spec.depth (nest_of n) ≤ 66) }
+    ensures small { IfOk result (λ n. spec.depth (nest_of n) ≤ MOST_DEPTH + 2) }
 {
     let count = count_at(nest.inner, nest.last, symbol);
     match weight_of(symbol) {
-        Weight::Adds => Ok(counted(nest, count + 1, symbol)),
-        Weight::Clears => Ok(counted(nest, 0, symbol)),
-        Weight::Opens => opened(nest, count, symbol),
-        Weight::Closes => Ok(closed(nest, count, symbol)),
-        Weight::Nothing => Ok(counted(nest, count, symbol)),
+        Weight::Adds => Ok(with_count(nest, count + 1, symbol)),
+        Weight::Clears => Ok(with_count(nest, 0, symbol)),
+        Weight::Opens => open_bracket(nest, count, symbol),
+        Weight::Closes => Ok(close_bracket(nest, count, symbol)),
+        Weight::Nothing => Ok(with_count(nest, count, symbol)),
     }
 }

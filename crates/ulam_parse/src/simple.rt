@@ -4,7 +4,7 @@ ghost use Rattle.ulam_tree.specs.RawViews.{path_of, expr_of, boxed_expr, cond_of
 ghost use Rattle.ulam_parse.specs.Statements as spec;
 ghost use Rattle.ulam_parse.specs.Views.{Reads};
 
-use crate::expr::{args, boxed, expr};
+use crate::expr::{args, box_expr, expr};
 use crate::halt::Halt;
 use crate::symbol::{Assigning, Symbol};
 use crate::tables::assigning_of;
@@ -45,7 +45,7 @@ fn index_in(alloc: Global, tape: &Tape, at: usize) -> Result<(Option<Box<Expr>>,
 {
     if let Some(next) = past(Symbol::OpenBracket, tape, at) {
         let (value, next) = expr(alloc, 1, tape, next)?;
-        let value = boxed(alloc, value)?;
+        let value = box_expr(alloc, value)?;
         let next = skip(Symbol::CloseBracket, tape, next)?;
         Ok((Some(value), next))
     } else {
@@ -54,9 +54,9 @@ fn index_in(alloc: Global, tape: &Tape, at: usize) -> Result<(Option<Box<Expr>>,
 }
 
 /// What is assigned to.
-#[tactic(auto, unfolding(crate::specs::Statements::left))]
+#[tactic(auto, unfolding(crate::specs::Statements::left_side))]
 fn left_side(alloc: Global, tape: &Tape, at: usize) -> Result<(Left, usize), Halt>
-    ensures { Reads left_of spec.left tape.now at result }
+    ensures { Reads left_of spec.left_side tape.now at result }
 {
     let (path, next) = path(alloc, tape, at)?;
     let (index, next) = index_in(alloc, tape, next)?;
@@ -139,15 +139,15 @@ fn after_names(
 }
 
 /// The left side of a count, after its `++` or `--`.
-#[tactic(auto, unfolding(crate::specs::Statements::counted))]
-fn counted(
+#[tactic(auto, unfolding(crate::specs::Statements::count_statement))]
+fn count_statement(
     alloc: Global,
     sign: Symbol,
     up: bool,
     tape: &Tape,
     at: usize,
 ) -> Result<(Statement, usize), Halt>
-    ensures { Reads statement_of (spec.counted sign up) tape.now at result }
+    ensures { Reads statement_of (spec.count_statement sign up) tape.now at result }
 {
     let next = skip(sign, tape, at)?;
     let (left, next) = left_side(alloc, tape, next)?;
@@ -160,9 +160,9 @@ pub fn simple(alloc: Global, tape: &Tape, at: usize) -> Result<(Statement, usize
     ensures { Reads statement_of spec.simple tape.now at result }
 {
     if sees(Symbol::PlusPlus, tape, at) {
-        counted(alloc, Symbol::PlusPlus, true, tape, at)
+        count_statement(alloc, Symbol::PlusPlus, true, tape, at)
     } else if sees(Symbol::MinusMinus, tape, at) {
-        counted(alloc, Symbol::MinusMinus, false, tape, at)
+        count_statement(alloc, Symbol::MinusMinus, false, tape, at)
     } else {
         let (path, next) = path(alloc, tape, at)?;
         after_names(alloc, path, tape, next)

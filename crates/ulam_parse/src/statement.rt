@@ -19,7 +19,7 @@ use std::alloc::Global;
 use ulam_tree::{Statement, raw_build as build};
 
 /// A statement in a box.
-pub fn boxed(alloc: Global, statement: Statement) -> Result<Box<Statement>, NoMemory>
+pub fn box_statement(alloc: Global, statement: Statement) -> Result<Box<Statement>, NoMemory>
     ensures { IfOk result (λ b. box_value b ≡ statement) }
 {
     Ok(Box::new(alloc, statement)?)
@@ -34,9 +34,9 @@ fn keep(found: &mut Vec<Statement>, statement: Statement) -> Result<(), NoMemory
 }
 
 /// The `;` after a statement.
-#[tactic(auto, unfolding(crate::specs::Statements::ended))]
-fn ended(statement: Statement, tape: &Tape, at: usize) -> Result<(Statement, usize), Halt>
-    ensures { Reads statement_of (spec.ended (statement_of statement)) tape.now at result }
+#[tactic(auto, unfolding(crate::specs::Statements::end_statement))]
+fn end_statement(statement: Statement, tape: &Tape, at: usize) -> Result<(Statement, usize), Halt>
+    ensures { Reads statement_of (spec.end_statement (statement_of statement)) tape.now at result }
 {
     let next = skip(Symbol::Semi, tape, at)?;
     Ok((statement, next))
@@ -53,23 +53,23 @@ fn return_rest(
     ensures { Reads statement_of (spec.return_rest place) tape.now at result }
 {
     let (value, next) = maybe(alloc, tape, at)?;
-    ended(Statement::Return { place, value }, tape, next)
+    end_statement(Statement::Return { place, value }, tape, next)
 }
 
 /// A declaration and its `;`.
-fn declared(alloc: Global, tape: &Tape, at: usize) -> Result<(Statement, usize), Halt>
-    ensures { Reads statement_of spec.declared tape.now at result }
+fn declaration(alloc: Global, tape: &Tape, at: usize) -> Result<(Statement, usize), Halt>
+    ensures { Reads statement_of spec.declaration tape.now at result }
 {
     let (statement, next) = declare(alloc, tape, at)?;
-    ended(statement, tape, next)
+    end_statement(statement, tape, next)
 }
 
 /// An assignment, a count or a call, and its `;`.
-fn done(alloc: Global, tape: &Tape, at: usize) -> Result<(Statement, usize), Halt>
-    ensures { Reads statement_of spec.done tape.now at result }
+fn simple_statement(alloc: Global, tape: &Tape, at: usize) -> Result<(Statement, usize), Halt>
+    ensures { Reads statement_of spec.simple_statement tape.now at result }
 {
     let (statement, next) = simple(alloc, tape, at)?;
-    ended(statement, tape, next)
+    end_statement(statement, tape, next)
 }
 
 /// A statement, read in fewer than `steps` steps.
@@ -100,7 +100,7 @@ fn boxed_in(
     ensures { Reads boxed_statement (spec.statement_in steps) tape.now at result }
 {
     let (statement, next) = statement_in(alloc, steps, tape, at)?;
-    Ok((boxed(alloc, statement)?, next))
+    Ok((box_statement(alloc, statement)?, next))
 }
 
 /// A statement, by its first token.
@@ -125,10 +125,10 @@ fn any_statement(
         Starting::While => while_rest(alloc, steps, tape, at + 1),
         Starting::For => for_rest(alloc, steps, tape, at + 1),
         Starting::Return => return_rest(alloc, place, tape, at + 1),
-        Starting::Break => ended(Statement::Break { place }, tape, at + 1),
-        Starting::Continue => ended(Statement::Continue { place }, tape, at + 1),
-        Starting::Declare => declared(alloc, tape, at),
-        Starting::Simple => done(alloc, tape, at),
+        Starting::Break => end_statement(Statement::Break { place }, tape, at + 1),
+        Starting::Continue => end_statement(Statement::Continue { place }, tape, at + 1),
+        Starting::Declare => declaration(alloc, tape, at),
+        Starting::Simple => simple_statement(alloc, tape, at),
         Starting::Nothing => Err(Halt::Left(count_from(tape, at))),
     }
 }

@@ -27,15 +27,15 @@ pub fn width(alloc: Global, tape: &Tape, at: usize) -> Result<(Width, usize), Ha
 }
 
 /// A width between two symbols.
-#[tactic(auto, unfolding(crate::specs::Reading::enclosed))]
-pub fn enclosed(
+#[tactic(auto, unfolding(crate::specs::Reading::width_between))]
+pub fn width_between(
     alloc: Global,
     before: Symbol,
     behind: Symbol,
     tape: &Tape,
     at: usize,
 ) -> Result<(Option<Width>, usize), Halt>
-    ensures { Reads (option_map width_of) (spec.enclosed before behind) tape.now at result }
+    ensures { Reads (option_map width_of) (spec.width_between before behind) tape.now at result }
 {
     let next = skip(before, tape, at)?;
     let (width, next) = width(alloc, tape, next)?;
@@ -49,7 +49,7 @@ fn size(alloc: Global, tape: &Tape, at: usize) -> Result<(Option<Width>, usize),
     ensures { Reads (option_map width_of) spec.size tape.now at result }
 {
     if sees(Symbol::OpenParen, tape, at) {
-        enclosed(alloc, Symbol::OpenParen, Symbol::CloseParen, tape, at)
+        width_between(alloc, Symbol::OpenParen, Symbol::CloseParen, tape, at)
     } else {
         Ok((None, at))
     }

@@ -1,6 +1,6 @@
 -- What holds of the value that a step finds.
 use Rattle.std.proofs.Common.{◌≡◌, refl, ap, sym, subst, List, [], ◌∷◌, ◌++◌, append_assoc, Bool, true, false, Option, Some, None, Ok, Err}
-use Rattle.ulam_tree.specs.Found.{Found, ◌>>=◌, found, must, with_front}
+use Rattle.ulam_tree.specs.Found.{Found, ◌>>=◌, value_or_fault, must, with_front}
 
 -- if something is found, this holds of it
 abbrev pub Means : {F A : Type 0} → (A → Type 0) → Found F A → Type 0
@@ -15,7 +15,7 @@ pub means_then : {F A B : Type 0} (P : A → Type 0) (Q : B → Type 0) (x : Fou
 means_then P Q (Ok a) f h k = k a h
 means_then P Q (Err e) f h k = tt
 
-pub means_found : {F A B : Type 0} (Q : B → Type 0) (o : Option A) (e : F) (f : A → Found F B) → ((a : A) → o ≡ Some a → Means Q (f a)) → Means Q (found o e >>= f)
+pub means_found : {F A B : Type 0} (Q : B → Type 0) (o : Option A) (e : F) (f : A → Found F B) → ((a : A) → o ≡ Some a → Means Q (f a)) → Means Q (value_or_fault o e >>= f)
 means_found Q (Some a) e f k = k a refl
 means_found Q None e f k = tt
 
@@ -23,7 +23,7 @@ pub means_must : {F B : Type 0} (Q : B → Type 0) (b : Bool) (e : F) (f : Unit 
 means_must Q true e f k = k refl
 means_must Q false e f k = tt
 
-pub found_means : {F A : Type 0} (o : Option A) (e : F) → Means (λ a. o ≡ Some a) (found o e)
+pub found_means : {F A : Type 0} (o : Option A) (e : F) → Means (λ a. o ≡ Some a) (value_or_fault o e)
 found_means (Some a) e = refl
 found_means None e = tt
 

@@ -12,9 +12,9 @@ abbrev pub ◌>>=◌ : {F A B : Type 0} → Found F A → (A → Found F B) → 
 (Err e) >>= f = Err e
 
 -- the value of an option, or else this fault
-abbrev pub found : {F A : Type 0} → Option A → F → Found F A
-found (Some x) f = Ok x
-found None f = Err f
+abbrev pub value_or_fault : {F A : Type 0} → Option A → F → Found F A
+value_or_fault (Some x) f = Ok x
+value_or_fault None f = Err f
 
 -- a rule that holds, or else this fault
 abbrev pub must : {F : Type 0} → Bool → F → Found F (Unit {0})
@@ -27,4 +27,4 @@ fault_of (Err f) = Some f
 
 -- what a list begins with, before more that is found
 abbrev pub with_front : {F A : Type 0} → List A → Found F (List A) → Found F (List A)
-with_front {A = A} front found = found >>= λ (more : List A). Ok (front ++ more)
+with_front {A = A} front value_or_fault = value_or_fault >>= λ (more : List A). Ok (front ++ more)

@@ -4,7 +4,7 @@ use Rattle.sat_math.specs.declared.Kind.{Kind}
 use Rattle.sat_math.specs.declared.Kind.TheVariants as k
 use Rattle.ulam_tree.specs.Typed as t
 use Rattle.ulam_types.specs.Faults.{Found}
-use Rattle.ulam_types.specs.Rows.{taken, beside}
+use Rattle.ulam_types.specs.Rows.{kind_from, beside}
 use Rattle.ulam_types.specs.Walk.{operands}
 use Rattle.ulam_tree.proofs.Means.{Means, means_is, means_then}
 
@@ -20,10 +20,10 @@ pub operands_mean : (pl pr : Bool) (left right : Kind → Found t.Expr) → (pl 
     Means (λ (ab : t.Expr × t.Expr). (left (beside pr (t.ty_of ab.1)) ≡ Ok ab.0) × (right (beside pl (t.ty_of ab.0)) ≡ Ok ab.1)) (operands pl pr left right)
 operands_mean true false left right any =
     means_then _ _ (right k.Int) _ (means_is (right k.Int)) (λ b hb.
-    means_then _ _ (left (taken (t.ty_of b))) _ (means_is (left (taken (t.ty_of b)))) (λ a ha. (ha, hb)))
+    means_then _ _ (left (kind_from (t.ty_of b))) _ (means_is (left (kind_from (t.ty_of b)))) (λ a ha. (ha, hb)))
 operands_mean true true left right any =
     means_then _ _ (left k.Int) _ (means_is (left k.Int)) (λ a ha.
     means_then _ _ (right k.Int) _ (means_is (right k.Int)) (λ b hb. (ha, hb)))
 operands_mean false pr left right any =
     means_then _ _ (left k.Int) _ (means_is (left k.Int)) (λ a ha.
-    means_then _ _ (right (taken (t.ty_of a))) _ (means_is (right (taken (t.ty_of a)))) (λ b hb. (any refl (beside pr (t.ty_of b)) k.Int ∙ ha, hb)))
+    means_then _ _ (right (kind_from (t.ty_of a))) _ (means_is (right (kind_from (t.ty_of a)))) (λ b hb. (any refl (beside pr (t.ty_of b)) k.Int ∙ ha, hb)))

@@ -10,7 +10,7 @@ use Rattle.ulam_tree.specs.Resolved as r
 use Rattle.ulam_tree.specs.Typed as t
 use Rattle.ulam_types.specs.Faults.{Found}
 use Rattle.ulam_types.specs.Scopes.{Scope, in_loop, is_value, target_type}
-use Rattle.ulam_types.specs.Rows.{taken, plain_type, pair_type, is_truth, is_void, assignable}
+use Rattle.ulam_types.specs.Rows.{kind_from, plain_type, pair_type, is_truth, is_void, assignable}
 use Rattle.ulam_types.specs.Walk.{plain, count, index_by, expr, args, call}
 use Rattle.ulam_types.specs.Bodies as b
 use Rattle.ulam_types.specs.Bodies.{atom_slot, is_element_type}
@@ -29,23 +29,23 @@ left_by_means g x (Some e) =
     means_then _ Q (index_by g x (expr g k.Int e)) _ (index_means g x (IsTyped g k.Int e) (expr g k.Int e) (expr_means g k.Int e)) (λ i h. (i.0, h.0, h.1, h.2, refl))
 
 value_fits : (g : Scope) (p : Place) (ty : Ty) (e : r.Expr) (a : t.Expr) → IsValueFor g ty e a → b.value_for g p ty e ≡ Ok a
-value_fits g p ty e a h = rw (expr_fits g (taken ty) e a h.0, h.1) refl
+value_fits g p ty e a h = rw (expr_fits g (kind_from ty) e a h.0, h.1) refl
 
 value_means : (g : Scope) (p : Place) (ty : Ty) (e : r.Expr) → Means (IsValueFor g ty e) (b.value_for g p ty e)
 value_means g p ty e =
     let Q = IsValueFor g ty e in
-    means_then _ Q (expr g (taken ty) e) _ (expr_means g (taken ty) e) (λ a ha.
+    means_then _ Q (expr g (kind_from ty) e) _ (expr_means g (kind_from ty) e) (λ a ha.
     means_must Q (assignable g ty (t.ty_of a)) _ _ (λ hx. (ha, hx)))
 
-assigned_fits : (g : Scope) (p : Place) (ty : Ty) (op : Option PairOp) (e : r.Expr) (a : t.Expr) → IsAssigned g ty op e a → b.assigned g p ty op e ≡ Ok a
+assigned_fits : (g : Scope) (p : Place) (ty : Ty) (op : Option PairOp) (e : r.Expr) (a : t.Expr) → IsAssigned g ty op e a → b.assigned_value g p ty op e ≡ Ok a
 assigned_fits g p ty None e a h = value_fits g p ty e a h
-assigned_fits g p ty (Some op) e a h = rw (expr_fits g (taken ty) e a h.1, h.2, h.3) refl
+assigned_fits g p ty (Some op) e a h = rw (expr_fits g (kind_from ty) e a h.1, h.2, h.3) refl
 
-assigned_means : (g : Scope) (p : Place) (ty : Ty) (op : Option PairOp) (e : r.Expr) → Means (IsAssigned g ty op e) (b.assigned g p ty op e)
+assigned_means : (g : Scope) (p : Place) (ty : Ty) (op : Option PairOp) (e : r.Expr) → Means (IsAssigned g ty op e) (b.assigned_value g p ty op e)
 assigned_means g p ty None e = value_means g p ty e
 assigned_means g p ty (Some op) e =
     let Q = IsAssigned g ty (Some op) e in
-    means_then _ Q (expr g (taken ty) e) _ (expr_means g (taken ty) e) (λ a ha.
+    means_then _ Q (expr g (kind_from ty) e) _ (expr_means g (kind_from ty) e) (λ a ha.
     means_found Q (pair_type op (plain e) ty (t.ty_of a)) _ _ (λ sum hs.
     means_must Q (assignable g ty sum) _ _ (λ hx. (sum, ha, hs, hx))))
 
@@ -88,13 +88,13 @@ call_means g x es = called_means g x (count es) (λ ws bs. AreTyped g ws es bs) 
 
 result_fits : (g : Scope) (p : Place) (e : Option r.Expr) (a : Option t.Expr) → IsResult g e a → b.result g p e ≡ Ok a
 result_fits g p None a h = rw h.0 (ap Ok (sym h.1))
-result_fits g p (Some e) a h = rw (expr_fits g (taken g.result) e h.0 h.2.0, h.1, h.2.1) (ap Ok (sym h.3))
+result_fits g p (Some e) a h = rw (expr_fits g (kind_from g.result) e h.0 h.2.0, h.1, h.2.1) (ap Ok (sym h.3))
 
 result_means : (g : Scope) (p : Place) (e : Option r.Expr) → Means (IsResult g e) (b.result g p e)
 result_means g p None = means_must (IsResult g None) (is_void g.result) _ _ (λ h. (h, refl))
 result_means g p (Some e) =
     let Q = IsResult g (Some e) in
-    means_then _ Q (expr g (taken g.result) e) _ (expr_means g (taken g.result) e) (λ a ha.
+    means_then _ Q (expr g (kind_from g.result) e) _ (expr_means g (kind_from g.result) e) (λ a ha.
     means_must Q (not (is_void g.result)) _ _ (λ hv.
     means_must Q (assignable g g.result (t.ty_of a)) _ _ (λ hx. (a, not-true _ hv, (ha, hx), refl))))
 
@@ -156,12 +156,12 @@ mutual
       means_then _ Q (b.maybe (b.value_for g p of.ty) e) _ (maybe_means (IsValueFor g of.ty) (b.value_for g p of.ty) (value_means g p of.ty) e) (λ a ha. (a, hv, ha, refl)))
   statement_means g (r.assigns l op e) =
       let Q = IsTypedStatement g (r.assigns l op e) in
-      means_then _ Q (b.left g l) _ (left_by_means g l.path l.index) (λ a ha.
-      means_then _ Q (b.assigned g l.path.place a.1 op e) _ (assigned_means g l.path.place a.1 op e) (λ d hd. (a.0, a.1, d, ha, hd, refl)))
+      means_then _ Q (b.left_side g l) _ (left_by_means g l.path l.index) (λ a ha.
+      means_then _ Q (b.assigned_value g l.path.place a.1 op e) _ (assigned_means g l.path.place a.1 op e) (λ d hd. (a.0, a.1, d, ha, hd, refl)))
   statement_means g (r.counts l up) =
       let Q = IsTypedStatement g (r.counts l up) in
-      means_then _ Q (b.left g l) _ (left_by_means g l.path l.index) (λ a ha.
-      means_found Q (pair_type op.Add true a.1 (plain_type (taken a.1))) _ _ (λ sum hs.
+      means_then _ Q (b.left_side g l) _ (left_by_means g l.path l.index) (λ a ha.
+      means_found Q (pair_type op.Add true a.1 (plain_type (kind_from a.1))) _ _ (λ sum hs.
       means_must Q (assignable g a.1 sum) _ _ (λ hx. (a.0, a.1, sum, ha, hs, hx, refl))))
   statement_means g (r.does x es) = means_then _ (IsTypedStatement g (r.does x es)) (call g x es) _ (call_means g x es) (λ c hc. (c.0, c.1, hc, refl))
 

@@ -8,7 +8,7 @@ use Rattle.ulam_tree.specs.Typed as t
 use Rattle.ulam_tree.specs.Locals.{locals, part_locals, all_locals}
 use Rattle.ulam_tree.specs.Completes.{completes, part_completes, all_complete}
 use Rattle.ulam_types.specs.Scopes.{Scope, in_loop}
-use Rattle.ulam_types.specs.Rows.{taken, pair_type}
+use Rattle.ulam_types.specs.Rows.{kind_from, pair_type}
 use Rattle.ulam_types.specs.Typing.{IsLeftBy, IsValueFor, IsAssigned, IsTest, IsMaybe, IsCond, IsResult, IsTypedStatement, IsTypedPart, IsTypedBody}
 use Rattle.ulam_types.specs.Well.{IsWellLeft, IsWellValue, IsWellAssigned, IsWellTest, IfSome, IsWellCond, IsWellResult, IsWellStatement, IsWellPart, IsWellBody}
 use Rattle.ulam_types.proofs.Well.{plain_same, well, call_well}
@@ -18,12 +18,12 @@ left_well g x None a ty h = subst (λ z. IsWellLeft g z ty) (sym h.1) h.0
 left_well g x (Some e) a ty h = subst (λ z. IsWellLeft g z ty) (sym h.4) (h.1, well g k.Int e h.0 h.2, h.3)
 
 value_well : (g : Scope) (ty : Ty) (e : r.Expr) (a : t.Expr) → IsValueFor g ty e a → IsWellValue g ty a
-value_well g ty e a h = (well g (taken ty) e a h.0, h.1)
+value_well g ty e a h = (well g (kind_from ty) e a h.0, h.1)
 
 assigned_well : (g : Scope) (ty : Ty) (op : Option PairOp) (e : r.Expr) (a : t.Expr) → IsAssigned g ty op e a → IsWellAssigned g ty op a
 assigned_well g ty None e a h = value_well g ty e a h
 assigned_well g ty (Some op) e a h =
-    (h.0, well g (taken ty) e a h.1, subst (λ b. pair_type op b ty (t.ty_of a) ≡ Some h.0) (sym (plain_same g (taken ty) e a h.1)) h.2, h.3)
+    (h.0, well g (kind_from ty) e a h.1, subst (λ b. pair_type op b ty (t.ty_of a) ≡ Some h.0) (sym (plain_same g (kind_from ty) e a h.1)) h.2, h.3)
 
 test_well : (g : Scope) (e : r.Expr) (a : t.Expr) → IsTest g e a → IsWellTest g a
 test_well g e a h = (well g k.Int e a h.0, h.1)

@@ -11,36 +11,36 @@ use Rattle.ulam_tree.specs.declared.op.PairOp.TheVariants as op
 use Rattle.std.specs.Prelude.{Bool}
 use Rattle.ulam_tree.specs.Resolved as r
 use Rattle.ulam_tree.specs.Typed as t
-use Rattle.ulam_tree.specs.Found.{◌>>=◌, found, must}
+use Rattle.ulam_tree.specs.Found.{◌>>=◌, value_or_fault, must}
 use Rattle.ulam_types.specs.Faults.{wrong_type, not_assignable, bad_as, break_outside, Found}
-use Rattle.ulam_types.specs.Scopes.{Scope, in_loop, narrowed, is_element, is_value, target_type}
-use Rattle.ulam_types.specs.Rows.{taken, plain_type, pair_found, is_truth, is_void, assignable}
+use Rattle.ulam_types.specs.Scopes.{Scope, in_loop, scope_as, is_element, is_value, target_type}
+use Rattle.ulam_types.specs.Rows.{kind_from, plain_type, pair_found, is_truth, is_void, assignable}
 use Rattle.ulam_types.specs.Walk.{plain, place_of, expr, call, item}
 
 -- a left side, and its type
 abbrev pub left_by : Scope → r.Path → Option r.Expr → Found (t.Left × Ty)
 left_by g x None = do
-  ty ← found (target_type g x.steps) (not_assignable x.place)
+  ty ← value_or_fault (target_type g x.steps) (not_assignable x.place)
   Ok (record { path = x; index = None }, ty)
 left_by g x (Some e) = do
   i ← item g x e
   Ok (record { path = x; index = Some i.0 }, i.1)
 
-abbrev pub left : Scope → r.Left → Found (t.Left × Ty)
-left g l = left_by g l.path l.index
+abbrev pub left_side : Scope → r.Left → Found (t.Left × Ty)
+left_side g l = left_by g l.path l.index
 
 -- a value for a type; the place is that of the name or the left side that it is for
 abbrev pub value_for : Scope → Place → Ty → r.Expr → Found t.Expr
 value_for g p ty e = do
-  a ← expr g (taken ty) e
+  a ← expr g (kind_from ty) e
   _ ← must (assignable g ty (t.ty_of a)) (not_assignable p)
   Ok a
 
 -- the value of an assignment to a left side of this type, by `=`, or by an operator with `=`
-abbrev pub assigned : Scope → Place → Ty → Option PairOp → r.Expr → Found t.Expr
-assigned g p ty None e = value_for g p ty e
-assigned g p ty (Some op) e = do
-  a ← expr g (taken ty) e
+abbrev pub assigned_value : Scope → Place → Ty → Option PairOp → r.Expr → Found t.Expr
+assigned_value g p ty None e = value_for g p ty e
+assigned_value g p ty (Some op) e = do
+  a ← expr g (kind_from ty) e
   sum ← pair_found p op (plain e) ty (t.ty_of a)
   _ ← must (assignable g ty sum) (not_assignable p)
   Ok a
@@ -82,9 +82,9 @@ is_element_type g ty = false
 -- the condition of an `if`, and the scope of its first branch
 abbrev pub cond : Scope → r.Cond → Found (t.Cond × Scope)
 cond g (r.seen x c) = do
-  n ← found (atom_slot g x.steps) (bad_as x.place)
+  n ← value_or_fault (atom_slot g x.steps) (bad_as x.place)
   _ ← must (is_element_type g c.ty) (bad_as c.place)
-  Ok (t.seen x c, narrowed g n c.ty)
+  Ok (t.seen x c, scope_as g n c.ty)
 cond g (r.test e) = do
   a ← test g e
   Ok (t.test a, g)
@@ -102,7 +102,7 @@ result g p None = do
   _ ← must (is_void g.result) (wrong_type p)
   Ok None
 result g p (Some e) = do
-  a ← expr g (taken g.result) e
+  a ← expr g (kind_from g.result) e
   _ ← must (not (is_void g.result)) (wrong_type p)
   _ ← must (assignable g g.result (t.ty_of a)) (not_assignable p)
   Ok (Some a)
@@ -141,12 +141,12 @@ unfoldable mutual
     a ← maybe_value g p of.ty e
     Ok (t.declares of n p a)
   statement g (r.assigns l op e) = do
-    a ← left g l
-    b ← assigned g l.path.place a.1 op e
+    a ← left_side g l
+    b ← assigned_value g l.path.place a.1 op e
     Ok (t.assigns a.0 op b)
   statement g (r.counts l up) = do
-    a ← left g l
-    sum ← pair_found l.path.place op.Add true a.1 (plain_type (taken a.1))
+    a ← left_side g l
+    sum ← pair_found l.path.place op.Add true a.1 (plain_type (kind_from a.1))
     _ ← must (assignable g a.1 sum) (not_assignable l.path.place)
     Ok (t.counts a.0 up)
   statement g (r.does x es) = do

@@ -16,15 +16,15 @@ use Rattle.ulam_types.specs.declared.scope.NumClass.{NumClass}
 use Rattle.ulam_types.specs.declared.scope.NumClass.TheVariants.{Int, Unsigned, Bits, Bool as Truth, Other}
 use Rattle.ulam_types.specs.declared.scope.Want.{Want}
 use Rattle.ulam_types.specs.declared.scope.Want.TheVariants.{Value, Site, Bound}
-use Rattle.ulam_tree.specs.Found.{found}
+use Rattle.ulam_tree.specs.Found.{value_or_fault}
 use Rattle.ulam_types.specs.Faults.{Fault, wrong_type, mixed_signs, not_assignable, Found}
 use Rattle.ulam_types.specs.Scopes.{Scope, is_element, Callee, function, built}
 
 abbrev pub int : ℕ → Ty
 int w = Num (record { kind = k.Int; width = w })
 
-abbrev pub unsigned : ℕ → Ty
-unsigned w = Num (record { kind = k.Unsigned; width = w })
+abbrev pub unsigned_type : ℕ → Ty
+unsigned_type w = Num (record { kind = k.Unsigned; width = w })
 
 abbrev pub bits : ℕ → Ty
 bits w = Num (record { kind = k.Bits; width = w })
@@ -52,13 +52,13 @@ taken_by (Bits w) = k.Bits
 taken_by c = k.Int
 
 -- the kind that a plain number takes from the type beside it, or from the type that it is for
-abbrev pub taken : Ty → Kind
-taken ty = taken_by (class_of ty)
+abbrev pub kind_from : Ty → Kind
+kind_from ty = taken_by (class_of ty)
 
 -- the kind that one operand takes if it is plain: Int beside another plain number
 abbrev pub beside : Bool → Ty → Kind
 beside true ty = k.Int
-beside false ty = taken ty
+beside false ty = kind_from ty
 
 abbrev pub plain_type : Kind → Ty
 plain_type kind = Num (record { kind = kind; width = 32 })
@@ -77,7 +77,7 @@ wide m n = if nat_le m 32 && nat_le n 32 then 32 else 64
 -- + - * / %
 abbrev pub arith_type : NumClass → NumClass → Option Ty
 arith_type (Int m) (Int n) = Some (int (wide m n))
-arith_type (Unsigned m) (Unsigned n) = Some (unsigned (wide m n))
+arith_type (Unsigned m) (Unsigned n) = Some (unsigned_type (wide m n))
 arith_type a b = None
 
 -- < <= > >=
@@ -157,7 +157,7 @@ pair_fault p op a b = if takes_signs op && are_mixed (class_of a) (class_of b) t
 
 -- the type of two operands, or what is wrong with them
 abbrev pub pair_found : Place → PairOp → Bool → Ty → Ty → Found Ty
-pair_found p op plain a b = found (pair_type op plain a b) (pair_fault p op a b)
+pair_found p op plain a b = value_or_fault (pair_type op plain a b) (pair_fault p op a b)
 
 -- Other forms
 
@@ -238,7 +238,7 @@ assignable g to a = false
 
 -- the kind that a plain argument takes
 abbrev pub taken_want : Want → Kind
-taken_want (Value ty) = taken ty
+taken_want (Value ty) = kind_from ty
 taken_want Site = k.Int
 taken_want Bound = k.Int
 
@@ -283,8 +283,8 @@ built_result Swap es = Nothing
 built_result IsLive es = bool
 built_result IsEmpty es = bool
 built_result OneIn es = bool
-built_result Create t.no_args = unsigned 32
-built_result Create (t.arg e es) = unsigned (wide (width_of (t.ty_of e)) 0)
+built_result Create t.no_args = unsigned_type 32
+built_result Create (t.arg e es) = unsigned_type (wide (width_of (t.ty_of e)) 0)
 
 abbrev pub result_of : Callee → t.Args → Ty
 result_of (function f) es = f.result

@@ -97,8 +97,8 @@ module _ (g : Scope) where
   in_loop = record g { looped = true }
 
   -- the scope in which a slot is seen as an element
-  abbrev pub narrowed : ℕ → Ty → Scope
-  narrowed s ty = record g { slots = slice_set g.slots s ty }
+  abbrev pub scope_as : ℕ → Ty → Scope
+  scope_as s ty = record g { slots = slice_set g.slots s ty }
 
   -- Types of values
 

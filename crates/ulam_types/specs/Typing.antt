@@ -9,8 +9,8 @@ use Rattle.ulam_tree.specs.declared.op.PairOp.TheVariants as op
 use Rattle.ulam_tree.specs.Resolved as r
 use Rattle.ulam_tree.specs.Typed as t
 use Rattle.ulam_types.specs.declared.scope.Want.{Want}
-use Rattle.ulam_types.specs.Scopes.{Scope, Callee, in_loop, narrowed, is_value, value_type, target_type, item_type, callee, wants_of}
-use Rattle.ulam_types.specs.Rows.{unsigned, bool, taken, beside, plain_type, plain_fits, pair_type, prefix_type, cast_type, is_atom, is_species, instance_type, is_index, is_truth, is_void, assignable, taken_want, all_suit, result_of}
+use Rattle.ulam_types.specs.Scopes.{Scope, Callee, in_loop, scope_as, is_value, value_type, target_type, item_type, callee, wants_of}
+use Rattle.ulam_types.specs.Rows.{unsigned_type, bool, kind_from, beside, plain_type, plain_fits, pair_type, prefix_type, cast_type, is_atom, is_species, instance_type, is_index, is_truth, is_void, assignable, taken_want, all_suit, result_of}
 use Rattle.ulam_types.specs.Walk.{plain, count}
 use Rattle.ulam_types.specs.Bodies.{atom_slot, is_element_type}
 
@@ -18,7 +18,7 @@ use Rattle.ulam_types.specs.Bodies.{atom_slot, is_element_type}
 
 -- A number with `u` is unsigned; one without has the kind w. Its value is in the range of 32 bits of its kind.
 abbrev pub IsNumber : Kind → ℕ → Bool → Place → t.Expr → Type 0
-IsNumber w v true p a = (plain_fits k.Unsigned v ≡ true) × (a ≡ t.typed (t.number v true p) (unsigned 32))
+IsNumber w v true p a = (plain_fits k.Unsigned v ≡ true) × (a ≡ t.typed (t.number v true p) (unsigned_type 32))
 IsNumber w v false p a = (plain_fits w v ≡ true) × (a ≡ t.typed (t.number v false p) (plain_type w))
 
 -- the typed arguments of a call, and the type of the call
@@ -72,17 +72,17 @@ IsLeftBy g x (Some e) a ty =
     (i : t.Expr) × (item_type g x.steps ≡ Some ty) × IsTyped g k.Int e i × (is_index (t.ty_of i) ≡ true) × (a ≡ record { path = x; index = Some i })
 
 -- a left side, and its type
-abbrev pub IsLeft : Scope → r.Left → t.Left → Ty → Type 0
-IsLeft g l a ty = IsLeftBy g l.path l.index a ty
+abbrev pub IsLeftSide : Scope → r.Left → t.Left → Ty → Type 0
+IsLeftSide g l a ty = IsLeftBy g l.path l.index a ty
 
 -- a value for a type
 abbrev pub IsValueFor : Scope → Ty → r.Expr → t.Expr → Type 0
-IsValueFor g ty e a = IsTyped g (taken ty) e a × (assignable g ty (t.ty_of a) ≡ true)
+IsValueFor g ty e a = IsTyped g (kind_from ty) e a × (assignable g ty (t.ty_of a) ≡ true)
 
 -- the value of an assignment to a left side of this type, by `=`, or by an operator with `=`
 abbrev pub IsAssigned : Scope → Ty → Option PairOp → r.Expr → t.Expr → Type 0
 IsAssigned g ty None e a = IsValueFor g ty e a
-IsAssigned g ty (Some op) e a = (sum : Ty) × IsTyped g (taken ty) e a × (pair_type op (plain e) ty (t.ty_of a) ≡ Some sum) × (assignable g ty sum ≡ true)
+IsAssigned g ty (Some op) e a = (sum : Ty) × IsTyped g (kind_from ty) e a × (pair_type op (plain e) ty (t.ty_of a) ≡ Some sum) × (assignable g ty sum ≡ true)
 
 -- a condition
 abbrev pub IsTest : Scope → r.Expr → t.Expr → Type 0
@@ -94,7 +94,7 @@ IsMaybe P (Some e) a = (b : t.Expr) × P e b × (a ≡ Some b)
 
 -- the condition of an `if`, and the scope of its first branch
 abbrev pub IsCond : Scope → r.Cond → t.Cond → Scope → Type 0
-IsCond g (r.seen x c) a h = (n : ℕ) × (atom_slot g x.steps ≡ Some n) × (is_element_type g c.ty ≡ true) × (a ≡ t.seen x c) × (h ≡ narrowed g n c.ty)
+IsCond g (r.seen x c) a h = (n : ℕ) × (atom_slot g x.steps ≡ Some n) × (is_element_type g c.ty ≡ true) × (a ≡ t.seen x c) × (h ≡ scope_as g n c.ty)
 IsCond g (r.test e) a h = (b : t.Expr) × IsTest g e b × (a ≡ t.test b) × (h ≡ g)
 
 -- the value of a `return`, which has one exactly if the function has a result
@@ -116,9 +116,9 @@ unfoldable mutual
   IsTypedStatement g (r.breaks p) u = (g.looped ≡ true) × (u ≡ t.breaks p)
   IsTypedStatement g (r.continues p) u = (g.looped ≡ true) × (u ≡ t.continues p)
   IsTypedStatement g (r.declares of n p e) u = (a : Option t.Expr) × (is_value g of.ty ≡ true) × IsMaybe (IsValueFor g of.ty) e a × (u ≡ t.declares of n p a)
-  IsTypedStatement g (r.assigns l op e) u = (a : t.Left) × (ty : Ty) × (b : t.Expr) × IsLeft g l a ty × IsAssigned g ty op e b × (u ≡ t.assigns a op b)
+  IsTypedStatement g (r.assigns l op e) u = (a : t.Left) × (ty : Ty) × (b : t.Expr) × IsLeftSide g l a ty × IsAssigned g ty op e b × (u ≡ t.assigns a op b)
   IsTypedStatement g (r.counts l up) u =
-      (a : t.Left) × (ty : Ty) × (sum : Ty) × IsLeft g l a ty × (pair_type op.Add true ty (plain_type (taken ty)) ≡ Some sum) × (assignable g ty sum ≡ true) × (u ≡ t.counts a up)
+      (a : t.Left) × (ty : Ty) × (sum : Ty) × IsLeftSide g l a ty × (pair_type op.Add true ty (plain_type (kind_from ty)) ≡ Some sum) × (assignable g ty sum ≡ true) × (u ≡ t.counts a up)
   IsTypedStatement g (r.does x es) u = (xs : t.Args) × (ty : Ty) × IsCall g x es xs ty × (u ≡ t.does x xs)
 
   pub IsTypedPart : Scope → r.Part → t.Part → Type 0

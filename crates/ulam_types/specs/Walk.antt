@@ -8,10 +8,10 @@ use Rattle.ulam_tree.specs.declared.op.PairOp.{PairOp}
 use Rattle.ulam_tree.specs.Resolved as r
 use Rattle.ulam_tree.specs.Typed as t
 use Rattle.ulam_types.specs.declared.scope.Want.{Want}
-use Rattle.ulam_tree.specs.Found.{◌>>=◌, found, must}
+use Rattle.ulam_tree.specs.Found.{◌>>=◌, value_or_fault, must}
 use Rattle.ulam_types.specs.Faults.{wrong_type, wrong_count, bad_as, Found}
 use Rattle.ulam_types.specs.Scopes.{Scope, Callee, is_value, value_type, item_type, callee, wants_of}
-use Rattle.ulam_types.specs.Rows.{unsigned, bool, taken, beside, plain_type, plain_fits, pair_found, prefix_type, cast_type, is_atom, is_species, instance_type, is_index, taken_want, all_suit, is_built, misfit, result_of}
+use Rattle.ulam_types.specs.Rows.{unsigned_type, bool, kind_from, beside, plain_type, plain_fits, pair_found, prefix_type, cast_type, is_atom, is_species, instance_type, is_index, taken_want, all_suit, is_built, misfit, result_of}
 
 -- a number without `u`, in any number of brackets
 abbrev pub plain : r.Expr → Bool
@@ -40,7 +40,7 @@ count (r.arg e es) = suc (count es)
 abbrev pub number : Kind → ℕ → Bool → Place → Found t.Expr
 number w v true p = do
   _ ← must (plain_fits k.Unsigned v) (wrong_type p)
-  Ok (t.typed (t.number v true p) (unsigned 32))
+  Ok (t.typed (t.number v true p) (unsigned_type 32))
 number w v false p = do
   _ ← must (plain_fits w v) (wrong_type p)
   Ok (t.typed (t.number v false p) (plain_type w))
@@ -56,15 +56,15 @@ arguments_by g p built ws n read = do
   Ok es
 
 -- the arguments of a call of f, and the type of the call
-abbrev pub called : Scope → Place → Callee → ℕ → (List Want → Found t.Args) → Found (t.Args × Ty)
-called g p f n read = do
+abbrev pub call_found : Scope → Place → Callee → ℕ → (List Want → Found t.Args) → Found (t.Args × Ty)
+call_found g p f n read = do
   es ← arguments_by g p (is_built f) (wants_of f) n read
   Ok (es, result_of f es)
 
 abbrev pub called_by : Scope → r.Path → ℕ → (List Want → Found t.Args) → Found (t.Args × Ty)
 called_by g x n read = do
-  f ← found (callee g x.steps) (wrong_type x.place)
-  called g x.place f n read
+  f ← value_or_fault (callee g x.steps) (wrong_type x.place)
+  call_found g x.place f n read
 
 -- a call that stands for a value
 abbrev pub call_value : Scope → r.Path → t.Args × Ty → Found t.Expr
@@ -75,7 +75,7 @@ call_value g x c = do
 -- an index in square brackets, and the type of what stands at it
 abbrev pub index_by : Scope → r.Path → Found t.Expr → Found (t.Expr × Ty)
 index_by g x read = do
-  ty ← found (item_type g x.steps) (wrong_type x.place)
+  ty ← value_or_fault (item_type g x.steps) (wrong_type x.place)
   i ← read
   _ ← must (is_index (t.ty_of i)) (wrong_type x.place)
   Ok (i, ty)
@@ -84,7 +84,7 @@ index_by g x read = do
 abbrev pub right_first : (Kind → Found t.Expr) → (Kind → Found t.Expr) → Found (t.Expr × t.Expr)
 right_first left right = do
   b ← right k.Int
-  a ← left (taken (t.ty_of b))
+  a ← left (kind_from (t.ty_of b))
   Ok (a, b)
 
 abbrev pub left_first : Bool → (Kind → Found t.Expr) → (Kind → Found t.Expr) → Found (t.Expr × t.Expr)
@@ -113,7 +113,7 @@ unfoldable mutual
   expr g w (r.number v u p) = number w v u p
   expr g w (r.truth b p) = Ok (t.typed (t.truth b p) bool)
   expr g w (r.reads x) = do
-    ty ← found (value_type g x.steps) (wrong_type x.place)
+    ty ← value_or_fault (value_type g x.steps) (wrong_type x.place)
     Ok (t.typed (t.reads x) ty)
   expr g w (r.calls x es) = called_by g x (count es) (λ ws. args g ws es) >>= call_value g x
   expr g w (r.index x e) = do
@@ -127,11 +127,11 @@ unfoldable mutual
     Ok (t.typed (t.group a p) (t.ty_of a))
   expr g w (r.cast c e p) = do
     a ← expr g k.Int e
-    ty ← found (cast_type c.ty (t.ty_of a)) (wrong_type p)
+    ty ← value_or_fault (cast_type c.ty (t.ty_of a)) (wrong_type p)
     Ok (t.typed (t.cast c a p) ty)
   expr g w (r.prefix op e p) = do
     a ← expr g k.Int e
-    ty ← found (prefix_type op (t.ty_of a)) (wrong_type p)
+    ty ← value_or_fault (prefix_type op (t.ty_of a)) (wrong_type p)
     Ok (t.typed (t.prefix op a p) ty)
   expr g w (r.pair op l r p) = pair_of op (plain l) (plain r) p (λ v. expr g v l) (λ v. expr g v r)
   expr g w (r.is e c p) = do
@@ -157,7 +157,7 @@ args_of g p built ws es = arguments_by g p built ws (count es) (λ ws. args g ws
 
 -- the arguments of a call of f, and the type of the call
 abbrev pub call_of : Scope → Place → Callee → r.Args → Found (t.Args × Ty)
-call_of g p f es = called g p f (count es) (λ ws. args g ws es)
+call_of g p f es = call_found g p f (count es) (λ ws. args g ws es)
 
 -- the arguments of a call by a path, and the type of the call
 abbrev pub call : Scope → r.Path → r.Args → Found (t.Args × Ty)

@@ -6,8 +6,8 @@ use Rattle.ulam_tree.specs.declared.op.PairOp.{PairOp}
 use Rattle.ulam_tree.specs.declared.op.PairOp.TheVariants as op
 use Rattle.ulam_tree.specs.Typed as t
 use Rattle.ulam_tree.specs.Completes.{all_complete}
-use Rattle.ulam_types.specs.Scopes.{Scope, ClassSig, Callee, in_loop, narrowed, is_value, value_type, target_type, item_type, callee, wants_of}
-use Rattle.ulam_types.specs.Rows.{unsigned, bool, taken, plain_type, plain_fits, pair_type, prefix_type, cast_type, is_atom, is_species, instance_type, is_index, is_truth, is_void, assignable, all_suit, result_of}
+use Rattle.ulam_types.specs.Scopes.{Scope, ClassSig, Callee, in_loop, scope_as, is_value, value_type, target_type, item_type, callee, wants_of}
+use Rattle.ulam_types.specs.Rows.{unsigned_type, bool, kind_from, plain_type, plain_fits, pair_type, prefix_type, cast_type, is_atom, is_species, instance_type, is_index, is_truth, is_void, assignable, all_suit, result_of}
 use Rattle.ulam_types.specs.Bodies.{atom_slot, is_element_type}
 use Rattle.ulam_types.specs.Programs.{class_sig, scope_of}
 use Rattle.ulam_types.specs.ProgramTyping.{HaveValues}
@@ -20,7 +20,7 @@ count (t.arg e es) = suc (count es)
 
 -- the type of a number, which may have the value
 abbrev pub IsNumberType : ℕ → Bool → Ty → Type 0
-IsNumberType v true ty = ty ≡ unsigned 32
+IsNumberType v true ty = ty ≡ unsigned_type 32
 IsNumberType v false ty = (kind : Kind) × (plain_fits kind v ≡ true) × (ty ≡ plain_type kind)
 
 abbrev pub IsCallee : Scope → t.Path → t.Args → Ty → Type 0
@@ -72,7 +72,7 @@ IfSome P (Some e) = P e
 
 -- the condition of an `if`, and the scope of its first branch
 abbrev pub IsWellCond : Scope → t.Cond → Scope → Type 0
-IsWellCond g (t.seen x c) h = (n : ℕ) × (atom_slot g x.steps ≡ Some n) × (is_element_type g c.ty ≡ true) × (h ≡ narrowed g n c.ty)
+IsWellCond g (t.seen x c) h = (n : ℕ) × (atom_slot g x.steps ≡ Some n) × (is_element_type g c.ty ≡ true) × (h ≡ scope_as g n c.ty)
 IsWellCond g (t.test e) h = IsWellTest g e × (h ≡ g)
 
 abbrev pub IsWellResult : Scope → Option t.Expr → Type 0
@@ -91,7 +91,7 @@ unfoldable mutual
   IsWellStatement g (t.continues p) = g.looped ≡ true
   IsWellStatement g (t.declares of n p e) = (is_value g of.ty ≡ true) × IfSome (IsWellValue g of.ty) e
   IsWellStatement g (t.assigns l op e) = (ty : Ty) × IsWellLeft g l ty × IsWellAssigned g ty op e
-  IsWellStatement g (t.counts l up) = (ty : Ty) × (sum : Ty) × IsWellLeft g l ty × (pair_type op.Add true ty (plain_type (taken ty)) ≡ Some sum) × (assignable g ty sum ≡ true)
+  IsWellStatement g (t.counts l up) = (ty : Ty) × (sum : Ty) × IsWellLeft g l ty × (pair_type op.Add true ty (plain_type (kind_from ty)) ≡ Some sum) × (assignable g ty sum ≡ true)
   IsWellStatement g (t.does x es) = (ty : Ty) × IsCallee g x es ty × AreWell g es
 
   pub IsWellPart : Scope → t.Part → Type 0

@@ -12,9 +12,9 @@ ghost use Rattle.ulam_types.specs.Walk as walk;
 
 use crate::copy;
 use crate::fault::TypeFault;
-use crate::form::{call_value, instance, known, number, pair, truth_at, value_at};
+use crate::form::{call_value, instance, number, pair, truth_at, type_or_fault, value_at};
 use crate::lookup::{begins_local, function_at, is_atom, is_species, item_type, last_step};
-use crate::rows::{beside, cast_type, is_index, prefix_type, taken, truth};
+use crate::rows::{beside, cast_type, is_index, kind_from, prefix_type, truth};
 use crate::scope::{Scope, Want};
 use crate::suits::{all_suit, built_type, taken_want};
 use feast_base::Place;
@@ -93,17 +93,17 @@ fn compound(alloc: Global, scope: &Scope, want: Kind, raw: &Expr) -> Result<type
 {
     match raw {
         Expr::Group { inner, place } => {
-            let inner = boxed(alloc, scope, want, inner)?;
+            let inner = box_expr(alloc, scope, want, inner)?;
             Ok(build::group(inner, *place))
         }
         Expr::Cast { to, value, place } => {
-            let value = boxed(alloc, scope, Kind::Int, value)?;
-            let ty = known(cast_type(to.ty, value.ty), *place)?;
+            let value = box_expr(alloc, scope, Kind::Int, value)?;
+            let ty = type_or_fault(cast_type(to.ty, value.ty), *place)?;
             Ok(build::cast(*to, value, *place, ty))
         }
         Expr::Prefix { op, value, place } => {
-            let value = boxed(alloc, scope, Kind::Int, value)?;
-            let ty = known(prefix_type(*op, value.ty), *place)?;
+            let value = box_expr(alloc, scope, Kind::Int, value)?;
+            let ty = type_or_fault(prefix_type(*op, value.ty), *place)?;
             Ok(build::prefix(*op, value, *place, ty))
         }
         Expr::Pair {
@@ -115,12 +115,12 @@ fn compound(alloc: Global, scope: &Scope, want: Kind, raw: &Expr) -> Result<type
             let plain_left = plain(left);
             let plain_right = plain(right);
             if plain_left && !plain_right {
-                let right = boxed(alloc, scope, Kind::Int, right)?;
-                let left = boxed(alloc, scope, taken(right.ty), left)?;
+                let right = box_expr(alloc, scope, Kind::Int, right)?;
+                let left = box_expr(alloc, scope, kind_from(right.ty), left)?;
                 pair(*op, left, right, plain_right, *place)
             } else {
-                let left = boxed(alloc, scope, Kind::Int, left)?;
-                let right = boxed(alloc, scope, beside(plain_left, left.ty), right)?;
+                let left = box_expr(alloc, scope, Kind::Int, left)?;
+                let right = box_expr(alloc, scope, beside(plain_left, left.ty), right)?;
                 pair(*op, left, right, plain_right, *place)
             }
         }
@@ -158,7 +158,7 @@ fn is(
 
 /// A part of an expression.
 #[cycle(expr)]
-fn boxed(
+fn box_expr(
     alloc: Global,
     scope: &Scope,
     want: Kind,

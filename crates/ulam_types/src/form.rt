@@ -1,7 +1,7 @@
 //! Typed expressions from their parts.
 ghost use Rattle.std.specs.Prelude.{◌≡◌};
 ghost use Rattle.sat_math.specs.declared.Kind.{Kind};
-ghost use Rattle.ulam_tree.specs.Found.{found};
+ghost use Rattle.ulam_tree.specs.Found.{value_or_fault};
 ghost use Rattle.ulam_tree.specs.ResolvedViews.{resolved_path};
 ghost use Rattle.ulam_tree.specs.Resolved as tree;
 ghost use Rattle.ulam_tree.specs.Typed as typed_tree;
@@ -15,7 +15,7 @@ ghost use Rattle.ulam_types.specs.Walk as walk;
 use crate::copy;
 use crate::fault::TypeFault;
 use crate::lookup::{instance_type, is_species, is_value, value_type};
-use crate::rows::{pair_row, plain_fits, plain_type, truth, unsigned};
+use crate::rows::{pair_row, plain_fits, plain_type, truth, unsigned_type};
 use crate::scope::Scope;
 use feast_base::Place;
 use sat_math::Kind;
@@ -35,7 +35,7 @@ pub fn number(want: Kind, value: u32, with_u: bool, place: Place) -> Result<type
                 unsigned: true,
                 place,
             },
-            ty: unsigned(32),
+            ty: unsigned_type(32),
         })
     } else if plain_fits(want, value) {
         Ok(typed::Expr {
@@ -66,8 +66,8 @@ pub fn pair(
 }
 
 /// The type, or `WrongType` if there is none.
-pub fn known(ty: Option<Ty>, place: Place) -> Result<Ty, TypeFault>
-    ensures { Gives (λ x. x) result (found ty (wrong_type place)) }
+pub fn type_or_fault(ty: Option<Ty>, place: Place) -> Result<Ty, TypeFault>
+    ensures { Gives (λ x. x) result (value_or_fault ty (wrong_type place)) }
 {
     match ty {
         None => Err(TypeFault::WrongType(place)),
@@ -90,7 +90,7 @@ pub fn truth_at(value: bool, place: Place) -> typed::Expr
 pub fn value_at(alloc: Global, scope: &Scope, path: &Path) -> Result<typed::Expr, TypeFault>
     ensures { (want : Kind) → GivesExpr result scope.now want (tree.reads (resolved_path path.now)) }
 {
-    let ty = known(value_type(scope, path.steps.as_slice()), path.place)?;
+    let ty = type_or_fault(value_type(scope, path.steps.as_slice()), path.place)?;
     let path = copy::path(alloc, path)?;
     Ok(typed::Expr {
         form: Form::Path { path },

@@ -13,7 +13,7 @@ use crate::copy;
 use crate::expr::{call, expr, index, place_of, plain};
 use crate::fault::TypeFault;
 use crate::lookup::{assignable, is_value, target_type};
-use crate::rows::{is_truth, is_void, pair_row, plain_type, taken};
+use crate::rows::{is_truth, is_void, kind_from, pair_row, plain_type};
 use crate::scope::Scope;
 use feast_base::Place;
 use sat_math::Kind;
@@ -22,8 +22,8 @@ use ulam_tree::resolved::{Call, Expr, Left, Named, Ty};
 use ulam_tree::{PairOp, typed, typed_build as build};
 
 /// A left side, and its type.
-fn left(alloc: Global, scope: &Scope, raw: &Left) -> Result<(typed::Left, Ty), TypeFault>
-    ensures { Gives left_view result (walk.left (here scope.now) (resolved_left raw.now)) }
+fn left_side(alloc: Global, scope: &Scope, raw: &Left) -> Result<(typed::Left, Ty), TypeFault>
+    ensures { Gives left_view result (walk.left_side (here scope.now) (resolved_left raw.now)) }
 {
     match &raw.index {
         None => match target_type(scope, raw.path.steps.as_slice()) {
@@ -55,7 +55,7 @@ fn value_for(
 ) -> Result<typed::Expr, TypeFault>
     ensures { Gives typed_expr result (walk.value_for (here scope.now) place ty (resolved_expr raw.now)) }
 {
-    let found = expr(alloc, scope, taken(ty), raw)?;
+    let found = expr(alloc, scope, kind_from(ty), raw)?;
     if assignable(scope, ty, found.ty) {
         Ok(found)
     } else {
@@ -106,7 +106,7 @@ fn maybe_value(
 }
 
 /// The value of an assignment, by `=` or by an operator with `=`.
-fn assigned(
+fn assigned_value(
     alloc: Global,
     scope: &Scope,
     place: Place,
@@ -114,12 +114,12 @@ fn assigned(
     op: Option<PairOp>,
     raw: &Expr,
 ) -> Result<typed::Expr, TypeFault>
-    ensures { Gives typed_expr result (walk.assigned (here scope.now) place ty op (resolved_expr raw.now)) }
+    ensures { Gives typed_expr result (walk.assigned_value (here scope.now) place ty op (resolved_expr raw.now)) }
 {
     match op {
         None => value_for(alloc, scope, place, ty, raw),
         Some(op) => {
-            let found = expr(alloc, scope, taken(ty), raw)?;
+            let found = expr(alloc, scope, kind_from(ty), raw)?;
             let sum = pair_row(place, op, plain(raw), ty, found.ty)?;
             if assignable(scope, ty, sum) {
                 Ok(found)
@@ -131,7 +131,7 @@ fn assigned(
 }
 
 /// The value of a `return`, which has one exactly if the function has a result.
-fn returned(
+fn returned_value(
     alloc: Global,
     scope: &Scope,
     place: Place,
@@ -148,7 +148,7 @@ fn returned(
             }
         }
         Some(raw) => {
-            let found = expr(alloc, scope, taken(scope.result), raw)?;
+            let found = expr(alloc, scope, kind_from(scope.result), raw)?;
             if is_void(scope.result) {
                 Err(TypeFault::WrongType(place))
             } else if assignable(scope, scope.result, found.ty) {
@@ -170,7 +170,7 @@ pub fn give(
 ) -> Result<typed::Statement, TypeFault>
     ensures { GivesStatement result scope.now (tree.returns place (resolved_maybe raw.now)) }
 {
-    let value = returned(alloc, scope, place, raw)?;
+    let value = returned_value(alloc, scope, place, raw)?;
     Ok(typed::Statement::Return { place, value })
 }
 
@@ -238,8 +238,8 @@ pub fn assign(
 ) -> Result<typed::Statement, TypeFault>
     ensures { GivesStatement result scope.now (tree.assigns (resolved_left to.now) op (resolved_expr raw.now)) }
 {
-    let (left, ty) = left(alloc, scope, to)?;
-    let value = assigned(alloc, scope, to.path.place, ty, op, raw)?;
+    let (left, ty) = left_side(alloc, scope, to)?;
+    let value = assigned_value(alloc, scope, to.path.place, ty, op, raw)?;
     Ok(typed::Statement::Assign { left, op, value })
 }
 
@@ -253,8 +253,14 @@ pub fn count(
 ) -> Result<typed::Statement, TypeFault>
     ensures { GivesStatement result scope.now (tree.counts (resolved_left to.now) up) }
 {
-    let (left, ty) = left(alloc, scope, to)?;
-    let sum = pair_row(to.path.place, PairOp::Add, true, ty, plain_type(taken(ty)))?;
+    let (left, ty) = left_side(alloc, scope, to)?;
+    let sum = pair_row(
+        to.path.place,
+        PairOp::Add,
+        true,
+        ty,
+        plain_type(kind_from(ty)),
+    )?;
     if assignable(scope, ty, sum) {
         Ok(typed::Statement::Count { left, up })
     } else {

@@ -1,5 +1,5 @@
 //! The typed tree of a program.
-ghost use Rattle.std.specs.Prelude.{◌≢◌, ◌≤◌, length, map, IfOk, IfErr};
+ghost use Rattle.std.specs.Prelude.{◌≢◌, ◌≤◌, length, map, IfOk, IfErr, ◌-◌, ◌^◌};
 ghost use Rattle.ulam_tree.specs.ResolvedViews.{resolved_class, resolved_member, resolved_program};
 ghost use Rattle.ulam_tree.specs.TypedViews.{typed_class, typed_program};
 ghost use Rattle.ulam_types.specs.Programs as walk;
@@ -51,7 +51,7 @@ fn class(alloc: Global, sigs: &[ClassSig], own: u32, raw: &Class) -> Result<type
 
 /// Classes with the types of their members, or the first fault among them.
 fn classes(alloc: Global, sigs: &[ClassSig], raw: &[Class]) -> Result<Vec<typed::Class>, TypeFault>
-    requires { length raw.now ≤ 4294967295 }
+    requires { length raw.now ≤ 2 ^ 32 - 1 }
     ensures { Gives classes_view result (walk.classes (sigs_view sigs.now) 0 (map resolved_class raw.now)) }
 {
     let mut found = Vec::new(alloc);
@@ -66,7 +66,7 @@ fn classes(alloc: Global, sigs: &[ClassSig], raw: &[Class]) -> Result<Vec<typed:
 
 /// The typed tree, or the first fault.
 fn find(alloc: Global, program: &Program) -> Result<Typed, TypeFault>
-    requires { length program.now.classes.items ≤ 4294967295 }
+    requires { length program.now.classes.items ≤ 2 ^ 32 - 1 }
     ensures { Gives typed_program result (walk.program (resolved_program program.now)) }
 {
     let raw = program.classes.as_slice();
@@ -82,7 +82,7 @@ fn find(alloc: Global, program: &Program) -> Result<Typed, TypeFault>
 /// A program has a layout if its quarks and elements are narrow enough. That is checked before
 /// types are, so a layout is needed here; no rule of types depends on it.
 pub fn check(alloc: Global, program: &Program, _layout: &Layout) -> Result<Typed, TypeFault>
-    requires { length program.now.classes.items ≤ 4294967295 }
+    requires { length program.now.classes.items ≤ 2 ^ 32 - 1 }
     ensures found { Gives typed_program result (walk.program (resolved_program program.now)) }
     ensures is { IfOk result (λ t. IsTypedProgram (resolved_program program.now) (typed_program t)) }
     ensures well { IfOk result (λ t. IsWellProgram (typed_program t)) }

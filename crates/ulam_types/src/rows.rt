@@ -23,8 +23,8 @@ pub fn int(width: u8) -> Ty
 }
 
 /// The type `Unsigned` of a width.
-pub fn unsigned(width: u8) -> Ty
-    ensures { result ≡ row.unsigned width }
+pub fn unsigned_type(width: u8) -> Ty
+    ensures { result ≡ row.unsigned_type width }
 {
     Ty::Num {
         num: NumType {
@@ -75,8 +75,8 @@ pub fn class_of(ty: Ty) -> NumClass
 }
 
 /// The kind that a plain number takes from the type that it is for.
-pub fn taken(ty: Ty) -> Kind
-    ensures { result ≡ row.taken ty }
+pub fn kind_from(ty: Ty) -> Kind
+    ensures { result ≡ row.kind_from ty }
 {
     match class_of(ty) {
         NumClass::Unsigned { .. } => Kind::Unsigned,
@@ -89,7 +89,7 @@ pub fn taken(ty: Ty) -> Kind
 pub fn beside(plain: bool, ty: Ty) -> Kind
     ensures { result ≡ row.beside plain ty }
 {
-    if plain { Kind::Int } else { taken(ty) }
+    if plain { Kind::Int } else { kind_from(ty) }
 }
 
 /// The type of a plain number.
@@ -125,7 +125,7 @@ fn arith_type(a: NumClass, b: NumClass) -> Option<Ty>
     match (a, b) {
         (NumClass::Int { width: m }, NumClass::Int { width: n }) => Some(int(wide(m, n))),
         (NumClass::Unsigned { width: m }, NumClass::Unsigned { width: n }) => {
-            Some(unsigned(wide(m, n)))
+            Some(unsigned_type(wide(m, n)))
         }
         _ => None,
     }

@@ -139,14 +139,14 @@ fn branch(
             let yes = inside(alloc, scope, yes)?;
             Ok((typed::Cond::Test { value }, yes))
         }
-        Cond::Seen { path, class } => seen(alloc, scope, yes, path, *class),
+        Cond::Seen { path, class } => if_as(alloc, scope, yes, path, *class),
     }
 }
 
 /// The condition of an `if` with `as`, and its first branch, in which the name is seen as the
 /// element.
 #[cycle(statement)]
-fn seen(
+fn if_as(
     alloc: Global,
     scope: &Scope,
     yes: &Statement,

@@ -6,7 +6,7 @@ ghost use Rattle.ulam_types.specs.Rows as row;
 ghost use Rattle.ulam_types.specs.Shown.{here};
 
 use crate::lookup::assignable;
-use crate::rows::{is_index, is_unsigned, taken, truth, unsigned, wide, width_of};
+use crate::rows::{is_index, is_unsigned, kind_from, truth, unsigned_type, wide, width_of};
 use crate::scope::{Scope, Want};
 use sat_math::Kind;
 use ulam_tree::resolved::{Built, Ty};
@@ -18,7 +18,7 @@ pub fn taken_want(want: Want) -> Kind
     ensures { result ≡ row.taken_want want }
 {
     match want {
-        Want::Value { ty } => taken(ty),
+        Want::Value { ty } => kind_from(ty),
         Want::Site | Want::Bound => Kind::Int,
     }
 }
@@ -61,7 +61,7 @@ pub fn all_suit(scope: &Scope, wants: &[Want], args: &[typed::Expr]) -> bool
 
 /// The width of the result of `create`.
 fn create_width(args: &[typed::Expr]) -> u8
-    ensures { row.unsigned result ≡ row.built_result Built.Create (typed_args args.now) }
+    ensures { row.unsigned_type result ≡ row.built_result Built.Create (typed_args args.now) }
 {
     match args {
         [] => 32,
@@ -76,6 +76,6 @@ pub fn built_type(call: Built, args: &[typed::Expr]) -> Ty
     match call {
         Built::Swap => Ty::Nothing,
         Built::IsLive | Built::IsEmpty | Built::OneIn => truth(),
-        Built::Create => unsigned(create_width(args)),
+        Built::Create => unsigned_type(create_width(args)),
     }
 }

@@ -27,10 +27,10 @@ abbrev pub inner_window : List AtomValue → ℕ → ℕ → WindowValue
 inner_window plane low width = record { atoms = inner_atoms plane low width; live = replicate 41 true }
 
 -- a list of atoms after those of these sites are written into it, from the last site to the first
-abbrev pub filled : List AtomValue → List AtomValue → ℕ → ℕ → List ℕ → List AtomValue
-filled into plane low width [] = into
-filled into plane low width (n ∷ ns) = slice_set (filled into plane low width ns) n (slice_index_or plane (inner_place low width n) empty_atom)
+abbrev pub copy_sites : List AtomValue → List AtomValue → ℕ → ℕ → List ℕ → List AtomValue
+copy_sites into plane low width [] = into
+copy_sites into plane low width (n ∷ ns) = slice_set (copy_sites into plane low width ns) n (slice_index_or plane (inner_place low width n) empty_atom)
 
 -- a list of atoms after those of `count` sites, from site `first` on, are written into it
 unfoldable pub with_sites_read : List AtomValue → List AtomValue → ℕ → ℕ → ℕ → ℕ → List AtomValue
-with_sites_read into plane low width first count = filled into plane low width (range_with_len first count)
+with_sites_read into plane low width first count = copy_sites into plane low width (range_with_len first count)

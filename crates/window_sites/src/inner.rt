@@ -6,13 +6,14 @@
 
 ghost use Rattle.std.specs.Prelude.{◌≡◌, ◌<◌, ◌≤◌, ◌+◌, ◌*◌, length};
 ghost use Rattle.window_sites.specs.Inner.{inner_atoms, with_sites_read};
+ghost use Rattle.window_sites.specs.declared.window.TheConstants.{MOST_COLUMNS};
 
 use bit_field::Atom;
 
 /// Reads sites 33 to 40, the eastern half of the sites at distance 4.
 #[inline]
 fn read_sites_33_to_40(into: &mut [Atom; 41], plane: &[Atom], low: usize, width: usize)
-    requires small { width ≤ 512 }
+    requires small { width ≤ MOST_COLUMNS }
     requires whole { low + 8 * width + 8 < length plane.now }
     ensures { into.new ≡ with_sites_read into.old plane.now low width 33 8 }
 {
@@ -29,7 +30,7 @@ fn read_sites_33_to_40(into: &mut [Atom; 41], plane: &[Atom], low: usize, width:
 /// Reads sites 25 to 32, the western half of the sites at distance 4.
 #[inline]
 fn read_sites_25_to_32(into: &mut [Atom; 41], plane: &[Atom], low: usize, width: usize)
-    requires small { width ≤ 512 }
+    requires small { width ≤ MOST_COLUMNS }
     requires whole { low + 8 * width + 8 < length plane.now }
     ensures { into.new ≡ with_sites_read into.old plane.now low width 25 8 }
 {
@@ -46,7 +47,7 @@ fn read_sites_25_to_32(into: &mut [Atom; 41], plane: &[Atom], low: usize, width:
 /// Reads sites 19 to 24, the eastern half of the sites at distance 3.
 #[inline]
 fn read_sites_19_to_24(into: &mut [Atom; 41], plane: &[Atom], low: usize, width: usize)
-    requires small { width ≤ 512 }
+    requires small { width ≤ MOST_COLUMNS }
     requires whole { low + 8 * width + 8 < length plane.now }
     ensures { into.new ≡ with_sites_read into.old plane.now low width 19 6 }
 {
@@ -61,7 +62,7 @@ fn read_sites_19_to_24(into: &mut [Atom; 41], plane: &[Atom], low: usize, width:
 /// Reads sites 13 to 18, the western half of the sites at distance 3.
 #[inline]
 fn read_sites_13_to_18(into: &mut [Atom; 41], plane: &[Atom], low: usize, width: usize)
-    requires small { width ≤ 512 }
+    requires small { width ≤ MOST_COLUMNS }
     requires whole { low + 8 * width + 8 < length plane.now }
     ensures { into.new ≡ with_sites_read into.old plane.now low width 13 6 }
 {
@@ -76,7 +77,7 @@ fn read_sites_13_to_18(into: &mut [Atom; 41], plane: &[Atom], low: usize, width:
 /// Reads sites 5 to 12, the sites at distance 2.
 #[inline]
 fn read_sites_5_to_12(into: &mut [Atom; 41], plane: &[Atom], low: usize, width: usize)
-    requires small { width ≤ 512 }
+    requires small { width ≤ MOST_COLUMNS }
     requires whole { low + 8 * width + 8 < length plane.now }
     ensures { into.new ≡ with_sites_read into.old plane.now low width 5 8 }
 {
@@ -93,7 +94,7 @@ fn read_sites_5_to_12(into: &mut [Atom; 41], plane: &[Atom], low: usize, width: 
 /// Reads sites 0 to 4, the centre and the sites at distance 1.
 #[inline]
 fn read_sites_0_to_4(into: &mut [Atom; 41], plane: &[Atom], low: usize, width: usize)
-    requires small { width ≤ 512 }
+    requires small { width ≤ MOST_COLUMNS }
     requires whole { low + 8 * width + 8 < length plane.now }
     ensures { into.new ≡ with_sites_read into.old plane.now low width 0 5 }
 {
@@ -108,7 +109,7 @@ fn read_sites_0_to_4(into: &mut [Atom; 41], plane: &[Atom], low: usize, width: u
 #[inline]
 pub(crate) fn read_inner(into: &mut [Atom; 41], plane: &[Atom], low: usize, width: usize)
     requires long { length into.old ≡ 41 }
-    requires small { width ≤ 512 }
+    requires small { width ≤ MOST_COLUMNS }
     requires whole { low + 8 * width + 8 < length plane.now }
     ensures { into.new ≡ inner_atoms plane.now low width }
 {

@@ -4,6 +4,8 @@ ghost use Rattle.std.specs.Prelude.{◌≡◌, ◌≤◌, ◌<◌, ◌+◌, ◌*
 ghost use Rattle.bit_field.specs.Atom.{empty_atom};
 ghost use Rattle.window_sites.specs.Inner.{inner_window};
 ghost use Rattle.window_sites.specs.Window.{WindowValue, IsWindow, atom_at, live_at, put_at, swap_at};
+ghost use Rattle.bit_field.specs.declared.TheConstants.{STATE_BITS};
+ghost use Rattle.window_sites.specs.declared.window.TheConstants.{MOST_COLUMNS};
 
 use crate::inner::read_inner;
 use bit_field::Atom;
@@ -11,6 +13,9 @@ use std::marker::Model;
 
 /// How many sites a window has.
 const SITES: u8 = 41;
+
+/// The most columns of a plane, and the most rows.
+pub const MOST_COLUMNS: usize = 512;
 
 /// The atoms of the 41 sites of a window, and which of the sites are live. A site that is not
 /// live is empty. The centre is live.
@@ -56,7 +61,7 @@ impl Window {
     /// plane holds its atoms row by row, `width` of them in a row and at most 512. The window's
     /// nine rows and nine columns start at index `low`.
     pub fn refill(&mut self, plane: &[Atom], low: usize, width: usize)
-        requires small { width ≤ 512 }
+        requires small { width ≤ MOST_COLUMNS }
         requires whole { low + 8 * width + 8 < length plane.now }
         ensures { self.new ≡ inner_window plane.now low width }
     {
@@ -74,7 +79,7 @@ impl Window {
     /// Reads the state of each atom. Only the proof of `laws` needs it.
     fn read_states(&self)
         requires { IsWindow self.now }
-        ensures { (n : ℕ) → (atom_at self.now n).state < 2 ^ 71 }
+        ensures { (n : ℕ) → (atom_at self.now n).state < 2 ^ STATE_BITS }
     {
         for n in 0..SITES {
             // `state` says that it is below 2^71.
@@ -86,7 +91,7 @@ impl Window {
     /// centre is live, and each state is below 2^71. It changes nothing.
     pub fn laws(&self)
         ensures window { IsWindow self.now }
-        ensures states { (n : ℕ) → (atom_at self.now n).state < 2 ^ 71 }
+        ensures states { (n : ℕ) → (atom_at self.now n).state < 2 ^ STATE_BITS }
     {
         // Reading a field makes known what holds of every window.
         let _atoms = &self.atoms;

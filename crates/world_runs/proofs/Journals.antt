@@ -11,7 +11,7 @@ use Rattle.event_journal.specs.declared.abandoned.Abandoned.{Abandoned}
 use Rattle.report_text.specs.declared.journal_fault.LineFault.{LineFault}
 use Rattle.report_text.specs.declared.journal_fault.LineFault.TheVariants.{BadForm}
 use Rattle.report_text.specs.Forms.{record_form, abandoned_form, is_atom, is_header}
-use Rattle.report_text.specs.Reading.{Said, Wants, header, atom_count, atoms, record_count, records, abandoned_count, abandoned, nothing, want_atoms, want_records, want_abandoned, counted, earlier, fields_step, first_of, go_on, is_at_home, is_attempt, is_behind, is_over, line_step, not_later, nothing_said, put_abandoned, put_record, put_sites, read_lines, read_report, record_fault, record_step, unless}
+use Rattle.report_text.specs.Reading.{Said, Wants, header, atom_count, atoms, record_count, records, abandoned_count, abandoned, nothing, want_atoms, want_records, want_abandoned, count_line, earlier, fields_step, first_of, go_on, is_at_home, is_attempt, is_behind, is_over, line_step, not_later, nothing_said, put_abandoned, put_record, put_sites, read_lines, read_report, record_fault, record_step, unless}
 use Rattle.tile_map.specs.Plane.{MapValue, site, in_plane, is_on, owner_of}
 use Rattle.world_runs.specs.Worlds.{IsAttempt, IsLiveEvent}
 
@@ -27,7 +27,7 @@ module _ (m : MapValue) (lists : List (List Attempt)) (attempts : (t : ℕ) → 
   by_end n true x e h live = let same : x ≡ e = cc in subst Live same live
   by_end n false x e h live = cc
 
-  by_count : (o : Option ℕ) (next : ℕ → Wants) (d e : Said) → counted d next o ≡ Ok e → Live d → Live e
+  by_count : (o : Option ℕ) (next : ℕ → Wants) (d e : Said) → count_line d next o ≡ Ok e → Live d → Live e
   by_count None next d e h live = cc
   by_count (Some k) next d e h live = let same : record d { wants = next k } ≡ e = cc in subst Live same live
 

@@ -8,7 +8,7 @@ use Rattle.bit_field.specs.Atom.{AtomValue, empty_atom}
 use Rattle.window_sites.specs.Inner.{site_numbers}
 use Rattle.window_sites.specs.Window.{WindowValue}
 use Rattle.cell_grid.specs.declared.record.Record.{Record}
-use Rattle.cell_grid.specs.Grid.{GridValue, atom_left, event, place_of, put_window, seen, sites_at, window_of}
+use Rattle.cell_grid.specs.Grid.{GridValue, atom_left, event, place_of, put_window, atom_at_place, sites_at, window_of}
 use Rattle.cell_grid.specs.Records.{replay}
 use Rattle.tile_map.specs.Plane.{MapValue}
 use Rattle.cell_grid.specs.Known.{BringsNone, IsKnown, ShowsKnown}
@@ -24,13 +24,13 @@ at_known n atoms all i = elim (cases_lt i (length atoms)) [
   | inr past ↦ inl (get_or-eq_default atoms empty_atom {n = i} past)
 ]
 
-seen_known : (n : ℕ) (g : GridValue) → All (IsKnown n) g.atoms → (p : Option ℕ) → IsKnown n (seen g p)
+seen_known : (n : ℕ) (g : GridValue) → All (IsKnown n) g.atoms → (p : Option ℕ) → IsKnown n (atom_at_place g p)
 seen_known n g all None = inl refl
 seen_known n g all (Some i) = at_known n g.atoms all i
 
 pub window_known : (n : ℕ) (g : GridValue) (x y : ℕ) → All (IsKnown n) g.atoms → ShowsKnown n (window_of g x y)
 unfolding window_of
-window_known n g x y all = at_known n (map (λ k. seen g (place_of g x y k)) site_numbers) (All-map (IsKnown n) (λ k. seen g (place_of g x y k)) site_numbers (λ k d lt. seen_known n g all (place_of g x y (get_or site_numbers k d))))
+window_known n g x y all = at_known n (map (λ k. atom_at_place g (place_of g x y k)) site_numbers) (All-map (IsKnown n) (λ k. atom_at_place g (place_of g x y k)) site_numbers (λ k d lt. seen_known n g all (place_of g x y (get_or site_numbers k d))))
 
 left_known : (n : ℕ) (g : GridValue) (w : WindowValue) (i : ℕ) (ns : List ℕ) → All (IsKnown n) g.atoms → ShowsKnown n w → IsKnown n (atom_left g w i ns)
 left_known n g w i [] all shows = at_known n g.atoms all i

@@ -14,7 +14,7 @@ use Rattle.draw_stream.proofs.Plans.{length_seeded_attempts, length_seeded_lists
 use Rattle.tile_map.specs.Plane.{MapValue, IsMap, tiles_of}
 use Rattle.text_lines.specs.Lines.{lines}
 use Rattle.world_text.specs.Drafts.{DraftValue, IsDraft, missing, nothing_said}
-use Rattle.world_text.specs.Named.{ReadsWorld, WorldValue, name_fault, placed, plan_by, unless, world_of}
+use Rattle.world_text.specs.Named.{ReadsWorld, WorldValue, name_fault, placed_atom, plan_by, unless, world_of}
 use Rattle.world_text.specs.Printed.{IsNamed}
 use Rattle.world_text.specs.Reading.{go_on, line_step, over, read_lines, read_text}
 use Rattle.world_text.proofs.Kept.{line_step_kept, start_is}
@@ -66,7 +66,7 @@ world_valid names w h = on (name_fault names (h.0.plane.tx * h.0.plane.w) [] h.0
           map = h.1.map;
           lists = plan_long h.0 h.1 h.0.origin;
           attempts = plan_are h.0 h.1 h.0.origin;
-          atoms = All-map (IsPlaced h.0.plane) (placed names) h.0.atoms (λ k d lt. (h.1.atoms k d lt).live);
+          atoms = All-map (IsPlaced h.0.plane) (placed_atom names) h.0.atoms (λ k d lt. (h.1.atoms k d lt).live);
         })
 
 pub world_known : (names : List (List ℕ)) (w : WorldValue) → IsNamed names w → ArePlacedKnown (length names) w.atoms

@@ -16,7 +16,7 @@ mod tiles;
 pub use law::{each_attempt_is_an_event, laws, listed_order};
 pub use one_tile::journal;
 pub use order::order_of;
-pub use replaying::replayed;
+pub use replaying::replay_world;
 pub use starting::start;
 pub use stepping::stepped;
 pub use threading::threaded;

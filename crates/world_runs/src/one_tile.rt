@@ -6,6 +6,7 @@ ghost use Rattle.draw_stream.specs.Plans.{attempts};
 ghost use Rattle.event_journal.specs.Logs.{IsLog, abandoned_in, log_of, records_in};
 ghost use Rattle.world_runs.specs.OneTile.{IsAlone, event_of, events_from, events_of};
 ghost use Rattle.tile_map.specs.Plane.{IsMap, tiles_of};
+ghost use Rattle.feast_base.specs.declared.limits.TheConstants.{MOST_ATTEMPTS};
 
 use cell_grid::Record;
 use draw_stream::{Attempt, AttemptPlan, Attempts};
@@ -17,7 +18,7 @@ use tile_map::Map;
 /// The event of an attempt of tile 0, by the attempt's number.
 fn event_of(map: &Map, number: u64, attempt: &Attempt) -> Record
     requires map { IsMap map.now }
-    requires number { number < 1000000 }
+    requires number { number < MOST_ATTEMPTS }
     requires centre { attempt.now.centre < map.now.w * map.now.h }
     requires some { 0 < tiles_of map.now }
     ensures { result ≡ event_of map.now (number, attempt.now) }
@@ -41,7 +42,7 @@ fn events<G: Gate>(
     gate: &G,
 ) -> Result<Vec<Record>, NoMemory>
     requires map { IsMap map.now }
-    requires few { length attempts ≤ 1000000 }
+    requires few { length attempts ≤ MOST_ATTEMPTS }
     requires centres { All (λ (a : Attempt). a.centre < map.now.w * map.now.h) attempts }
     requires some { 0 < tiles_of map.now }
     ensures { IfOk result (λ v. v.items ≡ events_from map.now 0 attempts) }
@@ -59,7 +60,7 @@ fn events<G: Gate>(
 /// The journal of some events of tile 0.
 fn journal_of(alloc: Global, records: Vec<Record>) -> Result<Journal, NoMemory>
     requires log { IsLog (log_of 0 records.items []) }
-    requires few { length records.items ≤ 1000000 }
+    requires few { length records.items ≤ MOST_ATTEMPTS }
     ensures { IfOk result (λ j. j ≡ log_of 0 records.items [] ∷ []) }
 {
     let mut logs = Vec::new(alloc);

@@ -3,6 +3,7 @@ ghost use Rattle.std.specs.Prelude.{◌≡◌, ◌+◌, ◌*◌, ◌<◌, ◌≤
 ghost use Rattle.tile_map.specs.Plane.{tiles_of};
 ghost use Rattle.world_text.specs.Values.{world_value, order_value};
 ghost use Rattle.world_runs.specs.Orders.{IsOrder, attempts_in, drawn_order, order_in};
+ghost use Rattle.feast_base.specs.declared.limits.TheConstants.{MOST_ATTEMPTS, MOST_TILES};
 
 use draw_stream::{AttemptPlan, TileStream};
 use feast_base::NoMemory;
@@ -13,7 +14,7 @@ use world_text::{Order, World};
 fn attempts_of(plan: &AttemptPlan, tiles: u32) -> u32
     requires { tiles ≡ length plan.now.lists }
     ensures value { result ≡ attempts_in plan.now }
-    ensures most { result ≤ 1000000 }
+    ensures most { result ≤ MOST_ATTEMPTS }
 {
     let mut sum = 0u32;
     for tile in 0..tiles {
@@ -33,9 +34,9 @@ fn push_two(order: &mut Vec<u32>, one: u32, other: u32) -> Result<(), NoMemory>
 
 /// The tiles that a seed draws: each word of its generator names one, by its remainder modulo the
 /// number of tiles. An attempt of a stream takes two words.
-fn drawn(alloc: Global, seed: u64, tiles: u32, pairs: u32) -> Result<Vec<u32>, NoMemory>
+fn draw_order(alloc: Global, seed: u64, tiles: u32, pairs: u32) -> Result<Vec<u32>, NoMemory>
     requires some { 1 ≤ tiles }
-    requires most { tiles ≤ 64 }
+    requires most { tiles ≤ MOST_TILES }
     ensures { IfOk result (λ v. v.items ≡ drawn_order seed tiles (2 * pairs)) }
 {
     let sites = u64::from(tiles);
@@ -51,7 +52,7 @@ fn drawn(alloc: Global, seed: u64, tiles: u32, pairs: u32) -> Result<Vec<u32>, N
 /// The order of a world's stepped run, a tile for each step: the tiles that are written out, or 16
 /// for each attempt of all tiles, drawn from a seed. `NoMemory` if there is none for the list.
 pub fn order_of(alloc: Global, world: &World) -> Result<Vec<u32>, NoMemory>
-    requires tiles { (1 ≤ tiles_of (world_value world.now).plane) × (tiles_of (world_value world.now).plane ≤ 64) }
+    requires tiles { (1 ≤ tiles_of (world_value world.now).plane) × (tiles_of (world_value world.now).plane ≤ MOST_TILES) }
     requires lists { length world.now.plan.lists ≡ tiles_of (world_value world.now).plane }
     requires order { IsOrder (world_value world.now).plane (order_value world.now.order) }
     ensures value { IfOk result (λ v. v.items ≡ order_in (world_value world.now)) }
@@ -60,6 +61,6 @@ pub fn order_of(alloc: Global, world: &World) -> Result<Vec<u32>, NoMemory>
     let tiles = world.map.tiles();
     match &world.order {
         Order::List(turns) => Ok(Vec::from_slice(alloc, turns.as_slice())?),
-        Order::Seed(seed) => drawn(alloc, *seed, tiles, 8 * attempts_of(&world.plan, tiles)),
+        Order::Seed(seed) => draw_order(alloc, *seed, tiles, 8 * attempts_of(&world.plan, tiles)),
     }
 }

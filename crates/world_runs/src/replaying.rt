@@ -16,7 +16,7 @@ use world_text::World;
 /// Each event is at a live site. If the atoms of the world are of the first n types and no event
 /// brings an atom of another type into a window, the grid has none either. `NoMemory` if there is
 /// not enough memory for the grid.
-pub fn replayed<B: Behave>(
+pub fn replay_world<B: Behave>(
     alloc: Global,
     world: &World,
     records: &[Record],

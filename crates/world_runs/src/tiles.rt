@@ -6,6 +6,7 @@ ghost use Rattle.tile_core.specs.Underway.{CanAttempt, IsFreshTile};
 ghost use Rattle.tile_core.specs.Values.{atoms_of};
 ghost use Rattle.tile_map.specs.Plane.{tiles_of};
 ghost use Rattle.world_runs.specs.Fresh.{AllCanAttempt, AreMade};
+ghost use Rattle.feast_base.specs.declared.limits.TheConstants.{MOST_TILES};
 
 use cell_grid::{Behave, Grid};
 use draw_stream::AttemptPlan;
@@ -35,7 +36,7 @@ fn fresh_tile<B: Behave + Drop>(
 
 /// How many there are, given that there are no more than there can be tiles.
 fn count<T>(items: &[T]) -> u32
-    requires { length items.now ≤ 64 }
+    requires { length items.now ≤ MOST_TILES }
     ensures { result ≡ length items.now }
 {
     items.len() as u32

@@ -14,7 +14,7 @@ use Rattle.world_text.specs.Forms.{line_of, form_of, form, plane_form, short_for
 use Rattle.world_text.specs.Drafts.{DraftValue, step, nothing_said}
 use Rattle.world_text.specs.Printed.{line_fields}
 use Rattle.world_text.specs.Reading.{read_text, read_lines, line_step, go_on}
-use Rattle.world_text.specs.Saying.{IsPrinted, said, SaysItsLines}
+use Rattle.world_text.specs.Saying.{IsPrinted, draft_after_lines, SaysItsLines}
 
 all_decimal : (ts : List ℕ) → All (λ n. n < 2 ^ 64) ts → list_all is_field (map decimal ts) ≡ true
 all_decimal [] p = refl
@@ -108,14 +108,14 @@ step_again : (n : ℕ) (d : DraftValue) (l : Line) → IsPrinted l → line_step
 unfolding line_step
 step_again n d l p = rw (not_skipped l, line_again l p) refl
 
-lines_said : (n : ℕ) (d : DraftValue) (ls : List Line) → All IsPrinted ls → read_lines n d (map line_text (map line_fields ls)) ≡ said n d ls
-unfolding read_lines said
+lines_said : (n : ℕ) (d : DraftValue) (ls : List Line) → All IsPrinted ls → read_lines n d (map line_text (map line_fields ls)) ≡ draft_after_lines n d ls
+unfolding read_lines draft_after_lines
 lines_said n d [] p = refl
 lines_said n d (l ∷ ls) p =
     rw (step_again n d l (All-head IsPrinted l ls p)) (on (λ e. lines_said (n + 1) e ls (All-tail IsPrinted l ls p)) (step n d (Some l)))
   where
-    on : ((e : DraftValue) → read_lines (n + 1) e (map line_text (map line_fields ls)) ≡ said (n + 1) e ls) → (r : Result DraftValue ℕ) →
-        go_on n r (λ e. read_lines (n + 1) e (map line_text (map line_fields ls))) ≡ go_on n r (λ e. said (n + 1) e ls)
+    on : ((e : DraftValue) → read_lines (n + 1) e (map line_text (map line_fields ls)) ≡ draft_after_lines (n + 1) e ls) → (r : Result DraftValue ℕ) →
+        go_on n r (λ e. read_lines (n + 1) e (map line_text (map line_fields ls))) ≡ go_on n r (λ e. draft_after_lines (n + 1) e ls)
     on again (Ok e) = again e
     on again (Err code) = refl
 

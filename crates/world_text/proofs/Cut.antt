@@ -6,11 +6,11 @@ use Rattle.std.proofs.lemmas.List.Elements.{All-head, All-tail, All-cons, All-ni
 use Rattle.std.proofs.lemmas.Bool.{both_ways}
 use Rattle.tile_map.specs.Plane.{MapValue}
 use Rattle.world_text.specs.Line.{Line, IsFormed, header, tiles, size, off, seed, attempts, try, atom, order_seed, order}
-use Rattle.world_text.specs.Drafts.{DraftValue, IsDraft, is_early, step, put, kind_of, may_follow, in_range, too_many, misplaced, missing, nothing_said, raw_atom}
-use Rattle.world_text.specs.Named.{WorldValue, name_fault, named, atom_place, type_of, unless, world_of}
+use Rattle.world_text.specs.Drafts.{DraftValue, IsDraft, is_early, step, put, kind_of, may_follow, in_range, too_many, misplaced_code, missing, nothing_said, raw_atom}
+use Rattle.world_text.specs.Named.{WorldValue, name_fault, world_with_names, atom_place, type_of, unless, world_of}
 use Rattle.world_text.specs.Printed.{IsNamed, lines_text, world_lines}
 use Rattle.world_text.specs.Reading.{go_on, over, read_text}
-use Rattle.world_text.specs.Saying.{AreCut, AreNamedToo, AreWorldCuts, IsPrinted, IsReadBut, IsWorldBut, last_kind, said}
+use Rattle.world_text.specs.Saying.{AreCut, AreNamedToo, AreWorldCuts, IsPrinted, IsReadBut, IsWorldBut, last_kind, draft_after_lines}
 use Rattle.world_text.specs.declared.draft.RawAtom.{RawAtom}
 use Rattle.world_text.specs.declared.kind.Kind.{Kind}
 use Rattle.world_text.specs.declared.kind.Kind.TheVariants.{Header, Off, Size, Start, Tiles}
@@ -84,14 +84,14 @@ step_done : (n : ℕ) (d e : DraftValue) (l : Line) → step n d (Some l) ≡ Ok
 unfolding step
 step_done n d e l h = by (may_follow d.second d.last (kind_of l)) (in_range d.plane l) (too_many d l) refl h
   where
-    by : (a b c : Bool) → may_follow d.second d.last (kind_of l) ≡ a → (if not a then Err (misplaced d.last) else (if not b then Err 72 else (if c then Err 75 else Ok (put n d l)))) ≡ Ok e → Stepped d e l
+    by : (a b c : Bool) → may_follow d.second d.last (kind_of l) ≡ a → (if not a then Err (misplaced_code d.last) else (if not b then Err 72 else (if c then Err 75 else Ok (put n d l)))) ≡ Ok e → Stepped d e l
     by false b c may h = cc
     by true false c may h = cc
     by true true true may h = cc
     by true true false may h = let same : put n d l ≡ e = cc in subst (λ z. Stepped d z l) same (record { last = put_last n d l; grows = put_grows n d l may })
 
-said_grows : (ls : List Line) (n : ℕ) (d e : DraftValue) → said n d ls ≡ Ok e → Grows d e
-unfolding said
+said_grows : (ls : List Line) (n : ℕ) (d e : DraftValue) → draft_after_lines n d ls ≡ Ok e → Grows d e
+unfolding draft_after_lines
 said_grows [] n d e h = on (missing d.last) h
   where
     on : (o : Option ℕ) → over n d o ≡ Ok e → Grows d e
@@ -99,7 +99,7 @@ said_grows [] n d e h = on (missing d.last) h
     on None h = let same : d ≡ e = cc in subst (Grows d) same (record { more = []; atoms = sym (append-nil d.atoms); plane = λ l. refl; late = λ l. l })
 said_grows (l ∷ ls) n d e h = on (step n d (Some l)) refl h (λ m g. said_grows ls (n + 1) m e g)
   where
-    on : (r : Result DraftValue ℕ) → step n d (Some l) ≡ r → go_on n r (λ e. said (n + 1) e ls) ≡ Ok e → ((m : DraftValue) → said (n + 1) m ls ≡ Ok e → Grows m e) → Grows d e
+    on : (r : Result DraftValue ℕ) → step n d (Some l) ≡ r → go_on n r (λ e. draft_after_lines (n + 1) e ls) ≡ Ok e → ((m : DraftValue) → draft_after_lines (n + 1) m ls ≡ Ok e → Grows m e) → Grows d e
     on (Err code) is h rest = cc
     on (Ok m) is h rest = grows_then d m e (step_done n d m l is).grows (rest m h)
 
@@ -119,14 +119,14 @@ printed_formed (order ts) p = tt {0}
 -- the first k lines say something too, but for what is missing behind them, and it grows to what all say
 record Cut (k n : ℕ) (d e : DraftValue) (ls : List Line) : Type 0 where
   draft : DraftValue
-  said_first : said n d (take k ls) ≡ over (n + k) draft (missing draft.last)
+  said_first : draft_after_lines n d (take k ls) ≡ over (n + k) draft (missing draft.last)
   last : draft.last ≡ last_kind d.last (take k ls)
   valid : IsDraft draft
   grows : Grows draft e
 
 -- where lines say something, each cut of them does
-said_cut : (k n : ℕ) (d e : DraftValue) (ls : List Line) → All IsPrinted ls → IsDraft d → said n d ls ≡ Ok e → k ≤ length ls → Cut k n d e ls
-unfolding said
+said_cut : (k n : ℕ) (d e : DraftValue) (ls : List Line) → All IsPrinted ls → IsDraft d → draft_after_lines n d ls ≡ Ok e → k ≤ length ls → Cut k n d e ls
+unfolding draft_after_lines
 said_cut zero n d e ls p is h le = record { draft = d; said_first = ap (λ m. over m d (missing d.last)) (omega arith); last = refl; valid = is; grows = said_grows ls n d e h }
 said_cut (suc k) n d e [] p is h le = absurd (omega (arith, le))
 said_cut (suc k) n d e (l ∷ ls) p is h le =
@@ -135,13 +135,13 @@ said_cut (suc k) n d e (l ∷ ls) p is h le =
     formed : (x : Line) → Some l ≡ Some x → IsFormed x
     formed x e = let same : l ≡ x = cc in subst IsFormed same (printed_formed l (All-head IsPrinted l ls p))
 
-    on : ((m : DraftValue) → IsDraft m → said (n + 1) m ls ≡ Ok e → Cut k (n + 1) m e ls) → (r : Result DraftValue ℕ) → step n d (Some l) ≡ r → go_on n r (λ e. said (n + 1) e ls) ≡ Ok e → Cut (suc k) n d e (l ∷ ls)
+    on : ((m : DraftValue) → IsDraft m → draft_after_lines (n + 1) m ls ≡ Ok e → Cut k (n + 1) m e ls) → (r : Result DraftValue ℕ) → step n d (Some l) ≡ r → go_on n r (λ e. draft_after_lines (n + 1) e ls) ≡ Ok e → Cut (suc k) n d e (l ∷ ls)
     on next (Err code) now h = cc
     on next (Ok m) now h =
         let c = next m (step_kept n d m (Some l) formed is now) h in
         let count : n + 1 + k ≡ n + suc k = omega arith in record {
           draft = c.draft;
-          said_first = ap (λ (r : Result DraftValue ℕ). go_on n r (λ e. said (n + 1) e (take k ls))) now ∙ c.said_first ∙ ap (λ j. over j c.draft (missing c.draft.last)) count;
+          said_first = ap (λ (r : Result DraftValue ℕ). go_on n r (λ e. draft_after_lines (n + 1) e (take k ls))) now ∙ c.said_first ∙ ap (λ j. over j c.draft (missing c.draft.last)) count;
           last = c.last ∙ ap (λ j. last_kind j (take k ls)) (step_done n d m l now).last;
           valid = c.valid;
           grows = c.grows;
@@ -194,7 +194,7 @@ are_cut = λ ls e k p reads le.
     subst (λ j. IsReadBut e (lines_text (take k ls)) k j (missing j)) c.last
     (read_but (lines_text (take k ls)) k e c.draft (missing c.draft.last) (named_too c.draft e c.valid c.grows) (text_again (take k ls) (take_printed k ls p) ∙ c.said_first))
 
-world_but : (names : List (List ℕ)) (bytes : List ℕ) (n : ℕ) (e : DraftValue) (w : WorldValue) (k : Kind) (o : Option ℕ) → named names e ≡ Ok w → IsReadBut e bytes n k o → IsWorldBut names bytes n o
+world_but : (names : List (List ℕ)) (bytes : List ℕ) (n : ℕ) (e : DraftValue) (w : WorldValue) (k : Kind) (o : Option ℕ) → world_with_names names e ≡ Ok w → IsReadBut e bytes n k o → IsWorldBut names bytes n o
 world_but names bytes n e w k None name r = (world_of names r.0, (r.0, r.1, r.3 names w name))
 world_but names bytes n e w k (Some code) name r = r
 

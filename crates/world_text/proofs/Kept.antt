@@ -17,7 +17,7 @@ use Rattle.text_lines.specs.Lines.{is_skipped}
 use Rattle.world_text.specs.Reading.{line_step}
 use Rattle.world_text.specs.declared.kind.Kind.{Kind}
 use Rattle.world_text.specs.declared.kind.Kind.TheVariants.{Start, Header, Tiles, Size, Off, Seed, Attempts, Try, Atom}
-use Rattle.world_text.specs.Drafts.{DraftValue, IsDraft, IsTry, IsRawAtom, in_range, too_many, put, between, nothing_said, only_plane, with_off, attempt_of, raw_atom, step, may_follow, misplaced, kind_of, is_early}
+use Rattle.world_text.specs.Drafts.{DraftValue, IsDraft, IsTry, IsRawAtom, in_range, too_many, put, between, nothing_said, only_plane, with_off, attempt_of, raw_atom, step, may_follow, misplaced_code, kind_of, is_early}
 use Rattle.world_text.proofs.Formed.{line_formed}
 
 between_is : (low high n : ℕ) → between low high n ≡ true → (low ≤ n) × (n ≤ high)
@@ -333,7 +333,7 @@ step_kept n d e None formed k s = cc
 step_kept n d e (Some l) formed k s = by (may_follow d.second d.last (kind_of l)) (in_range d.plane l) (too_many d l) refl refl refl s
   where
     by : (a b c : Bool) → may_follow d.second d.last (kind_of l) ≡ a → in_range d.plane l ≡ b → too_many d l ≡ c →
-        (if not a then Err (misplaced d.last) else (if not b then Err 72 else (if c then Err 75 else Ok (put n d l)))) ≡ Ok e → IsDraft e
+        (if not a then Err (misplaced_code d.last) else (if not b then Err 72 else (if c then Err 75 else Ok (put n d l)))) ≡ Ok e → IsDraft e
     by false b c m r f h = cc
     by true false c m r f h = cc
     by true true true m r f h = cc

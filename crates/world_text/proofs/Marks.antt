@@ -7,7 +7,7 @@ use Rattle.std.proofs.lemmas.List.{take_more, map-append, get_or-set_same, get_o
 use Rattle.std.proofs.lemmas.Bool.Decides.{eqb_tells}
 use Rattle.std.proofs.lemmas.List.Folds.{list_any-append}
 use Rattle.list_laws.specs.Options.{or_zero}
-use Rattle.world_text.specs.Named.{name_fault, atom_place, placed, type_from, type_of, AreMarked}
+use Rattle.world_text.specs.Named.{name_fault, atom_place, placed_atom, type_from, type_of, AreMarked}
 use Rattle.bit_field.specs.Atom.{AtomValue}
 use Rattle.world_text.specs.declared.draft.RawAtom.{RawAtom}
 use Rattle.world_text.specs.declared.world.Placed.{Placed}
@@ -92,9 +92,9 @@ one_fine names width before a rest e f = rw (e, f) refl
 -- the atoms that were found, with one more
 pub found_more : (names : List (List ℕ)) (atoms : List RawAtom) (i k : ℕ) (a : RawAtom) (t : AtomValue) (found new : List Placed) → i < length atoms → get_or atoms i a ≡ a →
     type_of names a.name ≡ Some k → t ≡ record { kind = k; state = a.state } →
-    found ≡ map (placed names) (take i atoms) → new ≡ found ++ (record { x = a.x; y = a.y; atom = t }) ∷ [] → new ≡ map (placed names) (take (i + 1) atoms)
+    found ≡ map (placed_atom names) (take i atoms) → new ≡ found ++ (record { x = a.x; y = a.y; atom = t }) ∷ [] → new ≡ map (placed_atom names) (take (i + 1) atoms)
 found_more names atoms i k a t found new lt is type atom was more =
-    let one : record { x = a.x; y = a.y; atom = t } ≡ placed names a =
+    let one : record { x = a.x; y = a.y; atom = t } ≡ placed_atom names a =
     ap (λ (u : AtomValue). record { x = a.x; y = a.y; atom = u }) (atom ∙ ap (λ (o : Option ℕ). record { kind = or_zero o; state = a.state }) (sym type)) in
-    more ∙ ap (λ z. z ++ (record { x = a.x; y = a.y; atom = t }) ∷ []) was ∙ ap (λ (p : Placed). map (placed names) (take i atoms) ++ p ∷ []) one
-    ∙ sym (ap (map (placed names)) (take_more atoms i a lt ∙ ap (λ z. take i atoms ++ z ∷ []) is) ∙ map-append (placed names) (take i atoms) (a ∷ []))
+    more ∙ ap (λ z. z ++ (record { x = a.x; y = a.y; atom = t }) ∷ []) was ∙ ap (λ (p : Placed). map (placed_atom names) (take i atoms) ++ p ∷ []) one
+    ∙ sym (ap (map (placed_atom names)) (take_more atoms i a lt ∙ ap (λ z. take i atoms ++ z ∷ []) is) ∙ map-append (placed_atom names) (take i atoms) (a ∷ []))

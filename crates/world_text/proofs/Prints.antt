@@ -7,7 +7,7 @@ use Rattle.draw_stream.specs.Plans.{TakesNext}
 use Rattle.draw_stream.proofs.Plans.{length_seeded_lists}
 use Rattle.std.specs.List.{list_any}
 use Rattle.world_text.specs.Drafts.{DraftValue, IsDraft}
-use Rattle.world_text.specs.Named.{WorldValue, named, name_fault, atom_place, placed, plan_by, type_from, type_of, unless, world_of}
+use Rattle.world_text.specs.Named.{WorldValue, world_with_names, name_fault, atom_place, placed_atom, plan_by, type_from, type_of, unless, world_of}
 use Rattle.world_text.specs.Printed.{IsNamed, IsPrintable, line_fields, lines_text, off_lines, off_one, text_of_line, try_line, try_lines}
 use Rattle.world_text.specs.Values.{Names, world_value}
 use Rattle.world_text.specs.declared.fault.WorldFault.{WorldFault}
@@ -54,24 +54,24 @@ all_known names width before (a ∷ more) e =
 abbrev HasName : List (List ℕ) → Placed → Type 0
 HasName names p = (1 ≤ p.atom.kind) × (p.atom.kind ≤ length names)
 
-named_one : (names : List (List ℕ)) (a : RawAtom) → IsKnown names a → HasName names (placed names a)
+named_one : (names : List (List ℕ)) (a : RawAtom) → IsKnown names a → HasName names (placed_atom names a)
 named_one names a known = on (type_of names a.name) refl known
   where
     on : (o : Option ℕ) → type_of names a.name ≡ o → is_some o ≡ true → (1 ≤ or_zero o) × (or_zero o ≤ length names)
     on None is h = cc
     on (Some k) is h = let p = type_bound names 1 a.name k is in (p.0, omega (arith, p.1))
 
-all_named : (names : List (List ℕ)) (atoms : List RawAtom) → All (IsKnown names) atoms → All (HasName names) (map (placed names) atoms)
+all_named : (names : List (List ℕ)) (atoms : List RawAtom) → All (IsKnown names) atoms → All (HasName names) (map (placed_atom names) atoms)
 all_named names [] known = All-nil _
 all_named names (a ∷ more) known =
-    All-cons (HasName names) (placed names a) (map (placed names) more) (named_one names a (All-head (IsKnown names) a more known)) (all_named names more (All-tail (IsKnown names) a more known))
+    All-cons (HasName names) (placed_atom names a) (map (placed_atom names) more) (named_one names a (All-head (IsKnown names) a more known)) (all_named names more (All-tail (IsKnown names) a more known))
 
 plan_long : (off : List Bool) (sites : ℕ) (tries : List (List Attempt)) (o : Option (ℕ × ℕ)) → length tries ≡ length off → length (plan_by off sites tries o).lists ≡ length off
 plan_long off sites tries None long = long
 plan_long off sites tries (Some o) long = length_seeded_lists o.0 o.1 off sites
 
 -- what printing needs of a world that a draft gives
-pub named_prints : (names : List (List ℕ)) (d : DraftValue) (w : WorldValue) → IsDraft d → named names d ≡ Ok w → IsPrintable names w
+pub named_prints : (names : List (List ℕ)) (d : DraftValue) (w : WorldValue) → IsDraft d → world_with_names names d ≡ Ok w → IsPrintable names w
 named_prints names d w k e = on (name_fault names (d.plane.tx * d.plane.w) [] d.atoms) refl e
   where
     on : (o : Option (ℕ × ℕ)) → name_fault names (d.plane.tx * d.plane.w) [] d.atoms ≡ o → unless (world_of names d) o ≡ Ok w → IsPrintable names w

@@ -12,10 +12,10 @@ use Rattle.draw_stream.specs.Plans.{PlanValue, tiles_on}
 use Rattle.tile_map.specs.Plane.{MapValue, IsMap, in_plane, is_on, site, tiles_of, whole_plane}
 use Rattle.world_text.specs.Line.{atom, order, order_seed}
 use Rattle.world_text.specs.Drafts.{DraftValue, IsDraft, IsRawAtom, after_atoms, after_size, in_range, missing, nothing_said, only_plane, put, raw_atom, too_many}
-use Rattle.world_text.specs.Named.{ReadsWorld, WorldValue, name_fault, named, order_by, atom_place, placed, plan_by, type_from, type_of, unless, world_of}
+use Rattle.world_text.specs.Named.{ReadsWorld, WorldValue, name_fault, world_with_names, order_by, atom_place, placed_atom, plan_by, type_from, type_of, unless, world_of}
 use Rattle.world_text.specs.Printed.{IsNamed, atom_line, off_lines, order_lines, plan_lines, try_lines, world_lines, world_text}
 use Rattle.world_text.specs.Reading.{over}
-use Rattle.world_text.specs.Saying.{IsPrinted, said}
+use Rattle.world_text.specs.Saying.{IsPrinted, draft_after_lines}
 use Rattle.world_text.specs.declared.draft.RawAtom.{RawAtom}
 use Rattle.world_text.specs.declared.kind.Kind.{Kind}
 use Rattle.world_text.specs.declared.kind.Kind.TheVariants.{Atom, Attempts, Order, OrderSeed, Size}
@@ -112,9 +112,9 @@ record AtomsTaken (names : List (List ℕ)) (more : List RawAtom) (n : ℕ) (d :
   last : Kind
   after : after_atoms last ≡ true
   again : List RawAtom
-  same : map (placed names) again ≡ map (placed names) more
+  same : map (placed_atom names) again ≡ map (placed_atom names) more
   fine : (width : ℕ) (before : List ℕ) → name_fault names width before more ≡ None → name_fault names width before again ≡ None
-  takes : Takes n d (map (atom_line names) (map (placed names) more)) number (record d { last = last; atoms = d.atoms ++ again })
+  takes : Takes n d (map (atom_line names) (map (placed_atom names) more)) number (record d { last = last; atoms = d.atoms ++ again })
 
 fine_more : (names : List (List ℕ)) (a b : RawAtom) (more again : List RawAtom) → is_some (type_of names a.name) ≡ true → b.name ≡ a.name → b.x ≡ a.x → b.y ≡ a.y →
     ((width : ℕ) (before : List ℕ) → name_fault names width before more ≡ None → name_fault names width before again ≡ None) →
@@ -160,16 +160,16 @@ atoms_taken names (a ∷ more) n d shape kind are known =
     let e : DraftValue = record d { last = Atom; atoms = d.atoms ++ b ∷ [] } in
     let first = atom_taken names a n d shape kind (All-head (IsRawAtom d.plane) a more are) name same in
     let rest = atoms_taken names more (n + 1) e shape refl (All-tail (IsRawAtom d.plane) a more are) (All-tail (IsKnown names) a more known) in
-    let one : placed names b ≡ placed names a = ap (λ z. placed names (raw_atom 0 a.x a.y z a.state)) same in
+    let one : placed_atom names b ≡ placed_atom names a = ap (λ z. placed_atom names (raw_atom 0 a.x a.y z a.state)) same in
     record {
       number = rest.number;
       last = rest.last;
       after = rest.after;
       again = b ∷ rest.again;
-      same = ap (λ z. z ∷ map (placed names) rest.again) one ∙ ap (λ z. placed names a ∷ z) rest.same;
+      same = ap (λ z. z ∷ map (placed_atom names) rest.again) one ∙ ap (λ z. placed_atom names a ∷ z) rest.same;
       fine = fine_more names a b more rest.again here same refl refl rest.fine;
-      takes = subst (λ (z : List RawAtom). Takes n d (map (atom_line names) (map (placed names) (a ∷ more))) rest.number (record d { last = rest.last; atoms = z })) (append_assoc d.atoms (b ∷ []) rest.again)
-          (takes_then n d (atom a.x a.y name a.state ∷ []) (n + 1) e (map (atom_line names) (map (placed names) more)) rest.number (record e { last = rest.last; atoms = e.atoms ++ rest.again }) first rest.takes);
+      takes = subst (λ (z : List RawAtom). Takes n d (map (atom_line names) (map (placed_atom names) (a ∷ more))) rest.number (record d { last = rest.last; atoms = z })) (append_assoc d.atoms (b ∷ []) rest.again)
+          (takes_then n d (atom a.x a.y name a.state ∷ []) (n + 1) e (map (atom_line names) (map (placed_atom names) more)) rest.number (record e { last = rest.last; atoms = e.atoms ++ rest.again }) first rest.takes);
     }
 
 -- the lines of an order are taken, and say this order
@@ -232,7 +232,7 @@ record WorldTaken (names : List (List ℕ)) (w : WorldValue) : Type 0 where
   number : ℕ
   draft : DraftValue
   whole : missing draft.last ≡ None
-  same : named names draft ≡ Ok w
+  same : world_with_names names draft ≡ Ok w
   takes : Takes 1 nothing_said (world_lines names w) number draft
 
 world_taken : (names : List (List ℕ)) (d : DraftValue) → IsDraft d → name_fault names (d.plane.tx * d.plane.w) [] d.atoms ≡ None → WorldTaken names (world_of names d)
@@ -274,10 +274,10 @@ lines_printed names w h = (taken names w h).takes.printed
 
 -- the text of a world says this world with the same names
 pub reads_again : (names : List (List ℕ)) (w : WorldValue) → IsNamed names w → ReadsWorld (world_text names w) names w
-unfolding said
+unfolding draft_after_lines
 reads_again names w h =
     let t = taken names w h in (
       t.draft,
-      text_again (world_lines names w) t.takes.printed ∙ ap (said 1 nothing_said) (sym (append-nil (world_lines names w))) ∙ t.takes.next [] ∙ ap (over t.number t.draft) t.whole,
+      text_again (world_lines names w) t.takes.printed ∙ ap (draft_after_lines 1 nothing_said) (sym (append-nil (world_lines names w))) ∙ t.takes.next [] ∙ ap (over t.number t.draft) t.whole,
       t.same,
     )

@@ -1,7 +1,7 @@
 -- Fields behind a name, and numbers one after another.
 use Rattle.std.proofs.Common.{ℕ, ◌≡◌, List, [], ◌∷◌, ◌++◌, append_assoc, ap, refl, Option, Some, None, option_map}
 use Rattle.std.proofs.lemmas.List.{append-nil}
-use Rattle.text_lines.specs.Fields.{fields, hex_of, number_of}
+use Rattle.text_lines.specs.Fields.{fields, hex_of, field_number}
 use Rattle.text_lines.specs.Forms.{one_field, with}
 use Rattle.text_lines.proofs.Cuts.{some_field}
 use Rattle.world_text.specs.Forms.{state_of, numbers_of}
@@ -11,12 +11,12 @@ unfolding state_of
 state_some rest = let p = some_field [] rest in rw p.1.1 refl
 
 -- no number, and then whatever
-pub numbers_bad : (found f : List ℕ) (fs : List (List ℕ)) → number_of f ≡ None → option_map (λ ns. found ++ ns) (numbers_of (f ∷ fs)) ≡ None
+pub numbers_bad : (found f : List ℕ) (fs : List (List ℕ)) → field_number f ≡ None → option_map (λ ns. found ++ ns) (numbers_of (f ∷ fs)) ≡ None
 unfolding numbers_of
 numbers_bad found f fs e = rw e refl
 
 -- one more number
-pub numbers_more : (found new f : List ℕ) (n : ℕ) (fs : List (List ℕ)) → number_of f ≡ Some n → new ≡ found ++ n ∷ [] →
+pub numbers_more : (found new f : List ℕ) (n : ℕ) (fs : List (List ℕ)) → field_number f ≡ Some n → new ≡ found ++ n ∷ [] →
     option_map (λ ns. new ++ ns) (numbers_of fs) ≡ option_map (λ ns. found ++ ns) (numbers_of (f ∷ fs))
 unfolding numbers_of
 numbers_more found new f n fs e is = rw (e, is) (one (numbers_of fs))

@@ -9,6 +9,9 @@ use Rattle.world_text.specs.Line.{Line, header, tiles, size, off, seed, attempts
 use Rattle.world_text.specs.declared.kind.Kind.{Kind}
 use Rattle.world_text.specs.declared.kind.Kind.TheVariants.{Start, Header, Tiles, Size, Off, Seed, Attempts, Try, Atom, OrderSeed, Order}
 use Rattle.world_text.specs.declared.draft.RawAtom.{RawAtom}
+use Rattle.bit_field.specs.declared.TheConstants.{STATE_BITS}
+use Rattle.feast_base.specs.declared.limits.TheConstants.{MOST_ATTEMPTS}
+use Rattle.tile_map.specs.declared.limits.TheConstants.{LEAST_SIDE, MOST_ACROSS, MOST_SIDE}
 
 -- what the lines so far say of a world: the last line's kind, whether the version is the second, the plane, the seed and the
 -- number of attempts that each tile draws, how many `try` lines there were and the attempts of each tile, the atoms, and the
@@ -30,7 +33,7 @@ only_plane last second m = record { last = last; second = second; plane = m; ori
 
 -- before any line: the least plane
 abbrev pub nothing_said : DraftValue
-nothing_said = only_plane Start false (whole_plane 1 1 8 8)
+nothing_said = only_plane Start false (whole_plane 1 1 LEAST_SIDE LEAST_SIDE)
 
 abbrev pub kind_of : Line → Kind
 kind_of (header second) = Header
@@ -91,13 +94,13 @@ try_in_range m t x y s = is_live m (site x y) && (owner_of m (site x y) == t && 
 
 -- an `atom` line: a live site, and a state
 abbrev pub atom_in_range : MapValue → ℕ → ℕ → ℕ → Bool
-atom_in_range m x y s = is_live m (site x y) && nat_lt s (2 ^ 71)
+atom_in_range m x y s = is_live m (site x y) && nat_lt s (2 ^ STATE_BITS)
 
 -- whether the numbers of a line are in their ranges, on the plane that is said
 unfoldable pub in_range : MapValue → Line → Bool
 in_range m (header second) = true
-in_range m (tiles a b) = between 1 8 a && between 1 8 b
-in_range m (size a b) = between 8 64 a && between 8 64 b
+in_range m (tiles a b) = between 1 MOST_ACROSS a && between 1 MOST_ACROSS b
+in_range m (size a b) = between LEAST_SIDE MOST_SIDE a && between LEAST_SIDE MOST_SIDE b
 in_range m (off t) = off_in_range m t
 in_range m (seed n) = nat_lt n (2 ^ 64)
 in_range m (attempts k) = true
@@ -108,8 +111,8 @@ in_range m (order ts) = list_all (is_on m) ts
 
 -- whether a line asks for more than 1,000,000 attempts in total
 unfoldable pub too_many : DraftValue → Line → Bool
-too_many d (attempts k) = nat_lt 1000000 (k * tiles_on d.plane.off)
-too_many d (try t x y s) = nat_le 1000000 d.made
+too_many d (attempts k) = nat_lt MOST_ATTEMPTS (k * tiles_on d.plane.off)
+too_many d (try t x y s) = nat_le MOST_ATTEMPTS d.made
 too_many d l = false
 
 -- the attempt of a `try` line: its centre is the position of the site in the tile's rectangle
@@ -137,15 +140,15 @@ put n d (order_seed s) = record d { last = OrderSeed; order_seed = Some s }
 put n d (order ts) = record d { last = Order; order = d.order ++ ts }
 
 -- the code of a line that can't be where it is: the first one, or a later one
-abbrev pub misplaced : Kind → ℕ
-misplaced Start = 70
-misplaced k = 71
+abbrev pub misplaced_code : Kind → ℕ
+misplaced_code Start = 70
+misplaced_code k = 71
 
 -- a line, and what the lines say with it; or its fault
 unfoldable pub step : ℕ → DraftValue → Option Line → Result DraftValue ℕ
-step n d None = Err (misplaced d.last)
+step n d None = Err (misplaced_code d.last)
 step n d (Some l) =
-    if not (may_follow d.second d.last (kind_of l)) then Err (misplaced d.last)
+    if not (may_follow d.second d.last (kind_of l)) then Err (misplaced_code d.last)
     else (if not (in_range d.plane l) then Err 72
     else (if too_many d l then Err 75
     else Ok (put n d l)))
@@ -177,17 +180,17 @@ pub record IsTry (m : MapValue) (t : ℕ) (a : Attempt) : Type 0 where
 pub record IsRawAtom (m : MapValue) (a : RawAtom) : Type 0 where
   pub live : is_live m (site a.x a.y) ≡ true
   pub name : is_type_name a.name ≡ true
-  pub state : a.state < 2 ^ 71
+  pub state : a.state < 2 ^ STATE_BITS
 
 -- what holds of every draft that lines make
 pub record IsDraft (d : DraftValue) : Type 0 where
   pub map : IsMap d.plane
   pub on : 1 ≤ tiles_on d.plane.off
   pub early : is_early d.last ≡ true → d ≡ only_plane d.last d.second d.plane
-  pub drawn : IfSome d.origin (λ o. (o.0 < 2 ^ 64) × (o.1 * tiles_on d.plane.off ≤ 1000000))
+  pub drawn : IfSome d.origin (λ o. (o.0 < 2 ^ 64) × (o.1 * tiles_on d.plane.off ≤ MOST_ATTEMPTS))
   pub lists : length d.tries ≡ tiles_of d.plane
   pub made : sum_by length d.tries ≡ d.made
-  pub few : d.made ≤ 1000000
+  pub few : d.made ≤ MOST_ATTEMPTS
   pub tries : (t : ℕ) → All (IsTry d.plane t) (slice_index_or d.tries t [])
   pub atoms : All (IsRawAtom d.plane) d.atoms
   pub order_seed : IfSome d.order_seed (λ n. n < 2 ^ 64)

@@ -1,7 +1,7 @@
 -- The forms of the lines of a world.
 use Rattle.std.specs.Prelude.{ℕ, true, false, List, [], ◌∷◌, codes, bytes_eq, Option, Some, None, option_map, if◌then◌else◌}
 use Rattle.feast_base.specs.TypeNames.{is_type_name}
-use Rattle.text_lines.specs.Fields.{fields, number_of, hex_of}
+use Rattle.text_lines.specs.Fields.{fields, field_number, hex_of}
 use Rattle.text_lines.specs.Forms.{with, take_number, one_field, one_number, one_seed, two_numbers}
 use Rattle.world_text.specs.Line.{Line, header, tiles, size, off, seed, attempts, try, atom, order_seed, order}
 
@@ -18,7 +18,7 @@ name_state (f ∷ fs) = if is_type_name f then option_map (λ s. (f, s)) (state_
 -- each field is a number
 unfoldable pub numbers_of : List (List ℕ) → Option (List ℕ)
 numbers_of [] = Some []
-numbers_of (f ∷ fs) = with (number_of f) (λ n. option_map (λ ns. n ∷ ns) (numbers_of fs))
+numbers_of (f ∷ fs) = with (field_number f) (λ n. option_map (λ ns. n ∷ ns) (numbers_of fs))
 
 -- one or more numbers, or `seed` and a number
 unfoldable pub order_form : List (List ℕ) → Option Line

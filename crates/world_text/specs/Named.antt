@@ -40,8 +40,8 @@ abbrev pub AreKinds : {S : Type 0} → List (List ℕ) → HashMap (Bor (List �
 AreKinds names kinds = (name : List ℕ) → get_by (λ k. bytes_eq name k.now) kinds ≡ type_of names name
 
 -- an atom whose name is one of the names
-abbrev pub placed : List (List ℕ) → RawAtom → Placed
-placed names a = record { x = a.x; y = a.y; atom = record { kind = or_zero (type_of names a.name); state = a.state } }
+abbrev pub placed_atom : List (List ℕ) → RawAtom → Placed
+placed_atom names a = record { x = a.x; y = a.y; atom = record { kind = or_zero (type_of names a.name); state = a.state } }
 
 -- the place of an atom in row order, in a plane of this width
 abbrev pub atom_place : ℕ → RawAtom → ℕ
@@ -68,7 +68,7 @@ order_by tiles (Some n) = drawn n
 
 -- the world of a draft all of whose atoms have names
 abbrev pub world_of : List (List ℕ) → DraftValue → WorldValue
-world_of names d = record { plane = d.plane; plan = plan_by d.plane.off (d.plane.w * d.plane.h) d.tries d.origin; atoms = map (placed names) d.atoms; order = order_by d.order d.order_seed }
+world_of names d = record { plane = d.plane; plan = plan_by d.plane.off (d.plane.w * d.plane.h) d.tries d.origin; atoms = map (placed_atom names) d.atoms; order = order_by d.order d.order_seed }
 
 -- a world, or a fault
 abbrev pub unless : WorldValue → Option (ℕ × ℕ) → Result WorldValue (ℕ × ℕ)
@@ -76,12 +76,12 @@ unless w None = Ok w
 unless w (Some fault) = Err fault
 
 -- the world that a draft says with these names, or the first fault of its atoms
-abbrev pub named : List (List ℕ) → DraftValue → Result WorldValue (ℕ × ℕ)
-named names d = unless (world_of names d) (name_fault names (d.plane.tx * d.plane.w) [] d.atoms)
+abbrev pub world_with_names : List (List ℕ) → DraftValue → Result WorldValue (ℕ × ℕ)
+world_with_names names d = unless (world_of names d) (name_fault names (d.plane.tx * d.plane.w) [] d.atoms)
 
 -- a text says this world with these names
 abbrev pub ReadsWorld : List ℕ → List (List ℕ) → WorldValue → Type 0
-ReadsWorld bytes names w = (d : DraftValue) × (read_text bytes ≡ Ok d) × (named names d ≡ Ok w)
+ReadsWorld bytes names w = (d : DraftValue) × (read_text bytes ≡ Ok d) × (world_with_names names d ≡ Ok w)
 
 -- a mark for each place that is taken
 abbrev pub AreMarked : List Bool → List ℕ → Type 0
@@ -98,5 +98,5 @@ IsNameFault asked (Some fault) = asked ≡ Some fault
 
 -- at Ok the atoms with their types, otherwise the first fault
 abbrev pub NamesAtoms : List (List ℕ) → ℕ → List RawAtom → Result (Vec Placed Global) WorldFault → Type 0
-NamesAtoms names width atoms (Ok v) = (name_fault names width [] atoms ≡ None) × (v.items ≡ map (placed names) atoms)
+NamesAtoms names width atoms (Ok v) = (name_fault names width [] atoms ≡ None) × (v.items ≡ map (placed_atom names) atoms)
 NamesAtoms names width atoms (Err fault) = IsNameFault (name_fault names width [] atoms) (fault_of fault)

@@ -8,7 +8,7 @@ use Rattle.text_lines.specs.Lines.{ended_line, text_of}
 use Rattle.tile_map.specs.Plane.{MapValue, IsMap, site_in, tiles_of}
 use Rattle.world_text.specs.Drafts.{DraftValue, IsDraft}
 use Rattle.world_text.specs.Line.{Line, header, tiles, size, off, seed, attempts, try, atom, order_seed, order}
-use Rattle.world_text.specs.Named.{OrderValue, WorldValue, drawn, listed, named}
+use Rattle.world_text.specs.Named.{OrderValue, WorldValue, drawn, listed, world_with_names}
 use Rattle.world_text.specs.declared.world.Placed.{Placed}
 
 -- the fields of a line
@@ -79,7 +79,7 @@ world_text names w = lines_text (world_lines names w)
 
 -- a world that these names give
 abbrev pub IsNamed : List (List ℕ) → WorldValue → Type 0
-IsNamed names w = (d : DraftValue) × IsDraft d × (named names d ≡ Ok w)
+IsNamed names w = (d : DraftValue) × IsDraft d × (world_with_names names d ≡ Ok w)
 
 -- what printing needs of a world: one list of attempts for each tile, and a name for the type of each atom
 pub record IsPrintable (names : List (List ℕ)) (w : WorldValue) : Type 0 where

@@ -3,7 +3,7 @@ use Rattle.std.specs.Prelude.{ℕ, ◌≡◌, ◌≤◌, ◌<◌, ◌^◌, ◌+�
 use Rattle.feast_base.specs.TypeNames.{is_type_name}
 use Rattle.world_text.specs.Drafts.{DraftValue, kind_of, missing, nothing_said, step}
 use Rattle.world_text.specs.Line.{Line, header, tiles, size, off, seed, attempts, try, atom, order_seed, order}
-use Rattle.world_text.specs.Named.{ReadsWorld, WorldValue, named, world_of}
+use Rattle.world_text.specs.Named.{ReadsWorld, WorldValue, world_with_names, world_of}
 use Rattle.world_text.specs.Printed.{lines_text, world_lines}
 use Rattle.world_text.specs.Reading.{go_on, over, read_text}
 use Rattle.world_text.specs.declared.kind.Kind.{Kind}
@@ -23,13 +23,13 @@ IsPrinted (order_seed n) = n < 2 ^ 64
 IsPrinted (order ts) = (1 ≤ length ts) × All (λ n. n < 2 ^ 64) ts
 
 -- what lines say after a draft, if the first has number n
-unfoldable pub said : ℕ → DraftValue → List Line → Result DraftValue (ℕ × ℕ)
-said n d [] = over n d (missing d.last)
-said n d (l ∷ ls) = go_on n (step n d (Some l)) (λ e. said (n + 1) e ls)
+unfoldable pub draft_after_lines : ℕ → DraftValue → List Line → Result DraftValue (ℕ × ℕ)
+draft_after_lines n d [] = over n d (missing d.last)
+draft_after_lines n d (l ∷ ls) = go_on n (step n d (Some l)) (λ e. draft_after_lines (n + 1) e ls)
 
 -- the text of lines says what the lines say
 abbrev pub SaysItsLines : Type 0
-SaysItsLines = (ls : List Line) → All IsPrinted ls → read_text (lines_text ls) ≡ said 1 nothing_said ls
+SaysItsLines = (ls : List Line) → All IsPrinted ls → read_text (lines_text ls) ≡ draft_after_lines 1 nothing_said ls
 
 -- the kind of the last of some lines
 abbrev pub last_kind : Kind → List Line → Kind
@@ -38,7 +38,7 @@ last_kind k (l ∷ ls) = last_kind (kind_of l) ls
 
 -- names that name all atoms of one draft name those of another
 abbrev pub AreNamedToo : DraftValue → DraftValue → Type 0
-AreNamedToo e d = (names : List (List ℕ)) (w : WorldValue) → named names e ≡ Ok w → named names d ≡ Ok (world_of names d)
+AreNamedToo e d = (names : List (List ℕ)) (w : WorldValue) → world_with_names names e ≡ Ok w → world_with_names names d ≡ Ok (world_of names d)
 
 -- a text is read except for what is missing after its last line, of number n and this kind; names
 -- that name what draft e says name what it says

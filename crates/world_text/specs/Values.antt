@@ -3,7 +3,7 @@ use Rattle.std.specs.Prelude.{ℕ, ◌≡◌, List, Result, Ok, Err}
 use Rattle.tile_map.specs.Plane.{MapValue, plane_of}
 use Rattle.world_text.specs.Drafts.{DraftValue}
 use Rattle.world_text.specs.Line.{Line, header, tiles, size, off, seed, attempts, try, atom, order_seed, order}
-use Rattle.world_text.specs.Named.{WorldValue, OrderValue, listed, drawn, named}
+use Rattle.world_text.specs.Named.{WorldValue, OrderValue, listed, drawn, world_with_names}
 use Rattle.world_text.specs.Reading.{IsFault, fault_of}
 use Rattle.world_text.specs.declared.fault.WorldFault.{WorldFault}
 use Rattle.world_text.specs.declared.draft.Draft.{Draft}
@@ -58,5 +58,5 @@ world_value w = record { plane = world_plane w; plan = w.plan; atoms = w.atoms.i
 
 -- at Ok the world that a draft says with these names, otherwise its first fault
 abbrev pub Names : List (List ℕ) → DraftValue → Result World WorldFault → Type 0
-Names names d (Ok w) = named names d ≡ Ok (world_value w)
-Names names d (Err fault) = IsFault (named names d) (fault_of fault)
+Names names d (Ok w) = world_with_names names d ≡ Ok (world_value w)
+Names names d (Err fault) = IsFault (world_with_names names d) (fault_of fault)

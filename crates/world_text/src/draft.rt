@@ -8,6 +8,7 @@ use draw_stream::{Attempt, Script};
 use feast_base::{Name, NoMemory};
 use std::alloc::Global;
 use std::marker::Model;
+use tile_map::LEAST_SIDE;
 
 /// The attempts of a tile, in the order of their lines. Contracts see the list of them.
 #[derive(Drop)]
@@ -99,8 +100,8 @@ pub(crate) fn nothing_said(alloc: Global) -> Result<Draft, NoMemory>
         second: false,
         tx: 1,
         ty: 1,
-        w: 8,
-        h: 8,
+        w: LEAST_SIDE,
+        h: LEAST_SIDE,
         off,
         origin: None,
         made: 0,

@@ -1,6 +1,6 @@
 //! The kinds of lines, and which may come after which.
 ghost use Rattle.std.specs.Prelude.{◌≡◌, MatchOption, None, Some, option_map};
-ghost use Rattle.world_text.specs.Drafts.{after_atoms, after_size, after_tries, kind_of, may_follow, misplaced, missing};
+ghost use Rattle.world_text.specs.Drafts.{after_atoms, after_size, after_tries, kind_of, may_follow, misplaced_code, missing};
 ghost use Rattle.world_text.specs.Reading.{fault_of};
 ghost use Rattle.world_text.specs.Values.{line_value};
 
@@ -91,8 +91,8 @@ pub(crate) fn kind_of(line: &Line) -> Kind
 }
 
 /// The fault of line `n`, if it can't be where it is.
-pub(crate) fn misplaced(last: Kind, n: u64) -> WorldFault
-    ensures { fault_of result ≡ Some (misplaced last, n) }
+pub(crate) fn misplaced_fault(last: Kind, n: u64) -> WorldFault
+    ensures { fault_of result ≡ Some (misplaced_code last, n) }
 {
     match last {
         Kind::Start => WorldFault::BadHeader(n),

@@ -5,6 +5,9 @@ ghost use Rattle.world_text.specs.declared.draft.RawAtom.{RawAtom};
 ghost use Rattle.world_text.specs.Named.{AreKinds, NamesAtoms, order_by, atom_place, plan_by, type_of};
 ghost use Rattle.world_text.specs.Printed.{IsNamed, IsPrintable};
 ghost use Rattle.world_text.specs.Values.{Names, order_value, world_value};
+ghost use Rattle.bit_field.specs.declared.TheConstants.{STATE_BITS};
+ghost use Rattle.feast_base.specs.declared.limits.TheConstants.{MOST_ATTEMPTS, MOST_SITES, MOST_TILES};
+ghost use Rattle.window_sites.specs.declared.window.TheConstants.{MOST_COLUMNS};
 
 use crate::draft::{RawAtom, Tries};
 use crate::fault::WorldFault;
@@ -39,7 +42,7 @@ fn type_of(kinds: &HashMap<&[u8], u16>, name: &[u8]) -> Option<u16>
 
 /// The place of an atom in row order.
 fn atom_place(width: u32, height: u32, atom: &RawAtom) -> usize
-    requires small { (width ≤ 512) × (height ≤ 512) }
+    requires small { (width ≤ MOST_COLUMNS) × (height ≤ MOST_COLUMNS) }
     requires inside { (atom.now.x < width) × (atom.now.y < height) }
     ensures value { result ≡ atom_place width atom.now }
     ensures below { result < width * height }
@@ -67,8 +70,8 @@ fn name_atoms(
     atoms: &[RawAtom],
 ) -> Result<Vec<Placed>, WorldFault>
     requires names { length names.now ≤ 65535 }
-    requires small { (width ≤ 512) × (height ≤ 512) }
-    requires inside { All (λ (a : RawAtom). (a.x < width) × (a.y < height) × (a.state < 2 ^ 71)) atoms.now }
+    requires small { (width ≤ MOST_COLUMNS) × (height ≤ MOST_COLUMNS) }
+    requires inside { All (λ (a : RawAtom). (a.x < width) × (a.y < height) × (a.state < 2 ^ STATE_BITS)) atoms.now }
     ensures { NamesAtoms names.now width atoms.now result }
 {
     let kinds = kinds_of(alloc, names)?;
@@ -111,9 +114,9 @@ fn plan(
     sites: u64,
 ) -> Result<AttemptPlan, NoMemory>
     requires some { 1 ≤ length off.now }
-    requires most { length off.now ≤ 64 }
-    requires sites { (1 ≤ sites) × (sites ≤ 4096) }
-    requires drawn { IfSome origin (λ o. o.1 * tiles_on off.now ≤ 1000000) }
+    requires most { length off.now ≤ MOST_TILES }
+    requires sites { (1 ≤ sites) × (sites ≤ MOST_SITES) }
+    requires drawn { IfSome origin (λ o. o.1 * tiles_on off.now ≤ MOST_ATTEMPTS) }
     requires written { IsPlan (scripted tries.items) }
     ensures { IfOk result (λ p. p ≡ plan_by off.now sites tries.items origin) }
 {

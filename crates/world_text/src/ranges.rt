@@ -5,9 +5,14 @@ ghost use Rattle.draw_stream.specs.Plans.{tiles_on};
 ghost use Rattle.tile_map.specs.Plane.{IsMap, in_plane, is_live, is_on, owner_of, site};
 ghost use Rattle.world_text.specs.Drafts.{IsDraft, atom_in_range, between, in_range, off_in_range, too_many, try_in_range};
 ghost use Rattle.world_text.specs.Values.{draft_plane, draft_value, line_value};
+ghost use Rattle.tile_map.specs.declared.limits.TheConstants.{LEAST_SIDE, MOST_SIDE};
+ghost use Rattle.window_sites.specs.declared.window.TheConstants.{MOST_COLUMNS};
 
 use crate::draft::Draft;
 use crate::line::Line;
+use bit_field::STATE_BITS;
+use feast_base::MOST_ATTEMPTS;
+use tile_map::{LEAST_SIDE, MOST_ACROSS, MOST_SIDE};
 
 /// Whether a number is that of a tile that is on.
 fn is_on(draft: &Draft, tile: u128) -> bool
@@ -28,7 +33,7 @@ fn in_plane(draft: &Draft, x: u128, y: u128) -> bool
 /// The tile whose rectangle has a site.
 fn owner(draft: &Draft, x: u32, y: u32) -> u32
     requires shape { IsMap (draft_plane draft.now) }
-    requires site { (x < 512) × (y < 512) }
+    requires site { (x < MOST_COLUMNS) × (y < MOST_COLUMNS) }
     ensures { result ≡ owner_of (draft_plane draft.now) (site x y) }
 {
     y / draft.h * draft.tx + x / draft.w
@@ -96,7 +101,7 @@ fn atom_in_range(draft: &Draft, x: u128, y: u128, state: u128) -> bool
     requires { IsMap (draft_plane draft.now) }
     ensures { result ≡ atom_in_range (draft_plane draft.now) x y state }
 {
-    live_owner(draft, x, y).is_some() && state < 1u128 << 71
+    live_owner(draft, x, y).is_some() && state < 1u128 << STATE_BITS
 }
 
 /// Whether all are numbers of tiles that are on.
@@ -114,6 +119,13 @@ fn between(low: u128, high: u128, n: u128) -> bool
     low <= n && n <= high
 }
 
+/// Whether a number is one of columns, or of rows, that a tile may have.
+fn is_side(n: u128) -> bool
+    ensures { result ≡ between LEAST_SIDE MOST_SIDE n }
+{
+    between(LEAST_SIDE as u128, MOST_SIDE as u128, n)
+}
+
 /// Whether the numbers of a line are in their ranges.
 #[tactic(auto, unfolding(crate::specs::Drafts::in_range))]
 pub(crate) fn in_range(draft: &Draft, line: &Line) -> bool
@@ -122,8 +134,9 @@ pub(crate) fn in_range(draft: &Draft, line: &Line) -> bool
 {
     match line {
         Line::Header { .. } => true,
-        Line::Tiles { tx, ty } => between(1, 8, *tx) && between(1, 8, *ty),
-        Line::Size { w, h } => between(8, 64, *w) && between(8, 64, *h),
+        Line::Tiles { tx, ty } => between(1, MOST_ACROSS as u128, *tx)
+            && between(1, MOST_ACROSS as u128, *ty),
+        Line::Size { w, h } => is_side(*w) && is_side(*h),
         Line::Off { tile } => off_in_range(draft, *tile),
         Line::Seed { seed } => *seed < 1u128 << 64,
         Line::Attempts { .. } => true,
@@ -140,8 +153,9 @@ pub(crate) fn too_many(draft: &Draft, line: &Line) -> bool
     ensures { result ≡ too_many (draft_value draft.now) (line_value line.now) }
 {
     match line {
-        Line::Attempts { count } => count.saturating_mul(on_count(draft) as u128) > 1_000_000,
-        Line::Try { .. } => draft.made >= 1_000_000,
+        Line::Attempts { count } => count.saturating_mul(on_count(draft) as u128)
+            > MOST_ATTEMPTS as u128,
+        Line::Try { .. } => draft.made as usize >= MOST_ATTEMPTS,
         _ => false,
     }
 }

@@ -3,6 +3,7 @@ ghost use Rattle.std.specs.Prelude.{◌≡◌, ◌≤◌, None};
 ghost use Rattle.tile_map.specs.Plane.{tiles_of};
 ghost use Rattle.world_text.specs.Drafts.{IsDraft, missing};
 ghost use Rattle.world_text.specs.Values.{draft_value};
+ghost use Rattle.feast_base.specs.declared.limits.TheConstants.{MOST_TILES};
 
 use crate::draft::Draft;
 use std::marker::Model;
@@ -63,7 +64,7 @@ impl RawWorld {
     /// How many tiles there are, including those that are off: 1 to 64.
     pub fn tiles(&self) -> u32
         ensures value { result ≡ tiles_of self.now.plane }
-        ensures few { result ≤ 64 }
+        ensures few { result ≤ MOST_TILES }
     {
         self.draft.tx * self.draft.ty
     }

@@ -8,10 +8,13 @@ ghost use Rattle.world_text.specs.Forms.{line_of};
 ghost use Rattle.world_text.specs.Line.{atom, order, tiles, try};
 ghost use Rattle.world_text.specs.Reading.{Steps, line_step};
 ghost use Rattle.world_text.specs.Values.{draft_plane, draft_value, line_value};
+ghost use Rattle.feast_base.specs.declared.limits.TheConstants.{MOST_ATTEMPTS, MOST_TILES};
+ghost use Rattle.tile_map.specs.declared.limits.TheConstants.{MOST_ACROSS};
+ghost use Rattle.window_sites.specs.declared.window.TheConstants.{MOST_COLUMNS};
 
 use crate::draft::{Draft, RawAtom, empty_lists};
 use crate::fault::WorldFault;
-use crate::kind::{Kind, kind_of, may_follow, misplaced};
+use crate::kind::{Kind, kind_of, may_follow, misplaced_fault};
 use crate::line::Line;
 use crate::ranges::{in_range, too_many};
 use crate::take::line;
@@ -24,8 +27,8 @@ use text_lines::is_skipped;
 fn put_try(draft: &mut Draft, tile: u32, x: u32, y: u32, seed: u64) -> Result<(), NoMemory>
     requires shape { IsDraft (draft_value draft.old) }
     requires tile { tile < length draft.old.tries.items }
-    requires site { (x < 512) × (y < 512) }
-    requires few { draft.old.made < 1000000 }
+    requires site { (x < MOST_COLUMNS) × (y < MOST_COLUMNS) }
+    requires few { draft.old.made < MOST_ATTEMPTS }
     ensures { OnOk result (draft_value draft.new ≡ put 0 (draft_value draft.old) (try tile x y seed)) }
 {
     let centre = y % draft.h * draft.w + x % draft.w;
@@ -62,7 +65,7 @@ fn put_atom(
 
 /// Appends numbers of tiles.
 fn push_tiles(order: &mut Vec<u32>, tiles: &[u128]) -> Result<(), NoMemory>
-    requires { All (λ t. t < 64) tiles.now }
+    requires { All (λ t. t < MOST_TILES) tiles.now }
     ensures { OnOk result (order.new.items ≡ order.old.items ++ tiles.now) }
 {
     for t in tiles {
@@ -86,7 +89,7 @@ fn put_order(draft: &mut Draft, tiles: &[u128]) -> Result<(), NoMemory>
 /// Sets how many tiles there are.
 #[tactic(auto, unfolding(crate::specs::Drafts::put))]
 fn put_tiles(alloc: Global, draft: &mut Draft, tx: u32, ty: u32) -> Result<(), NoMemory>
-    requires { (tx ≤ 8) × (ty ≤ 8) }
+    requires { (tx ≤ MOST_ACROSS) × (ty ≤ MOST_ACROSS) }
     ensures { OnOk result (draft_value draft.new ≡ put 0 (draft_value draft.old) (tiles tx ty)) }
 {
     let count = (tx * ty) as usize;
@@ -160,7 +163,7 @@ fn step_line(alloc: Global, draft: &mut Draft, n: u64, line: &Line) -> Result<()
     ensures { Steps n (step n (draft_value draft.old) (Some (line_value line.now))) (draft_value draft.new) result }
 {
     if !may_follow(draft.second, draft.last, kind_of(line)) {
-        return Err(misplaced(draft.last, n));
+        return Err(misplaced_fault(draft.last, n));
     }
     if !in_range(draft, line) {
         return Err(WorldFault::OutOfRange(n));
@@ -182,7 +185,7 @@ fn step_text(alloc: Global, draft: &mut Draft, n: u64, text: &[u8]) -> Result<()
 {
     match line(alloc, text) {
         Ok(Some(said)) => step_line(alloc, draft, n, &said),
-        Ok(None) => Err(misplaced(draft.last, n)),
+        Ok(None) => Err(misplaced_fault(draft.last, n)),
         Err(NoMemory) => Err(WorldFault::NoMemory),
     }
 }

@@ -45,7 +45,7 @@ highlight default link ulamWordSign Keyword
 highlight default link ulamBoolean Boolean
 highlight default link ulamSelf Constant
 highlight default link ulamComment Comment
-highlight default link ulamDoc SpecialComment
+highlight default link ulamDoc Comment
 highlight default link ulamDocWord Special
 
 let b:current_syntax = 'ulam'

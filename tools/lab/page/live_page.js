@@ -7,6 +7,7 @@ class LivePage extends Page {
     this.failures = new FailuresView(source, this.plane, this.part('elements').parentElement, () => this.show());
     this.stroke = new Set();
     this.sent = new Set();
+    this.before = Promise.resolve();
     this.part('about').textContent = `A chain at work on ${this.tilesText()}, ${head.step ? 'stepped' : 'a thread for each tile'}${
       head.keep === 'reports' ? '' : ', without reports'}.`;
     this.part('reload').disabled = !head.canReload;
@@ -33,9 +34,14 @@ class LivePage extends Page {
     return true;
   }
 
-  /** Gives an order; what comes of it, or why it is refused, is said in the page. The sites that it is of are marked until then. */
-  async order(order, sites = []) {
+  /** Gives an order when those before it are answered. The sites that it is of are marked until it is answered itself. */
+  order(order, sites = []) {
     this.sent.add(sites);
+    this.before = this.before.then(() => this.give(order, sites));
+  }
+
+  /** Gives an order; what comes of it, or why it is refused, is said in the page. */
+  async give(order, sites) {
     try {
       const answer = await fetch('do', { method: 'POST', headers: { 'Content-Type': 'application/json' }, body: JSON.stringify(order) });
       const said = (await answer.text()).trimEnd();

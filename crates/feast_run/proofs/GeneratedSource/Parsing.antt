@@ -13,9 +13,9 @@ use Rattle.ulam_parse.proofs.Laws.{sentence_law}
 use Rattle.ulam_parse.proofs.Orders.{order_ends}
 use Rattle.ulam_parse.specs.Files.{whole_file, param, more_params, params, const_in, truth_in, const_value, typedef_in, constant_in, length_in, function_rest, field_rest, named_member, member, members, class_in, version_in, use_in, class_item, item, items}
 use Rattle.ulam_parse.specs.Nesting.{outside}
-use Rattle.ulam_parse.specs.Reading.{Read, same, width, enclosed, size, type_ref, dotted, path, new_atom, more_args, args, after_path, in_parens, operand, more, climb, expr_in}
+use Rattle.ulam_parse.specs.Reading.{Read, same, width, width_between, size, type_ref, names_after_dots, path, new_atom, more_args, args, after_path, in_parens, operand, more, climb, expr_in}
 use Rattle.ulam_parse.specs.Sentences.{IsSentence, deep_from}
-use Rattle.ulam_parse.specs.Statements.{cond, index_in, left, maybe, start, declare, assign, after_names, counted, simple, first_part, step_part, for_head, if_head, while_head, ended, return_rest, else_part, if_rest, while_rest, for_rest, body, block_rest, any_statement, statement_in}
+use Rattle.ulam_parse.specs.Statements.{cond, index_in, left_side, maybe, start, declare, assign, after_names, count_statement, simple, first_part, step_part, for_head, if_head, while_head, end_statement, return_rest, else_part, if_rest, while_rest, for_rest, body, block_rest, any_statement, statement_in}
 use Rattle.ulam_parse.specs.Tokens.{Tok, toks, keywords, signs}
 use Rattle.ulam_tree.specs.Raw.{Item}
 use Rattle.ulam_tree.specs.Ways.{leads}
@@ -37,7 +37,7 @@ unfolding seen tokens pieces source_text keyword_texts sign_texts role_of keywor
 shallow = refl
 
 reads : whole_file seen ≡ Ok (tree, left_in (whole_file seen))
-unfolding tree seen tokens pieces source_text keyword_texts sign_texts role_of keywords signs param more_params params const_in truth_in const_value typedef_in constant_in length_in function_rest field_rest named_member member members class_in version_in use_in class_item item items same width enclosed size type_ref dotted path new_atom more_args args after_path in_parens operand more climb expr_in cond index_in left maybe start declare assign after_names counted simple first_part step_part for_head if_head while_head ended return_rest else_part if_rest while_rest for_rest body block_rest any_statement statement_in
+unfolding tree seen tokens pieces source_text keyword_texts sign_texts role_of keywords signs param more_params params const_in truth_in const_value typedef_in constant_in length_in function_rest field_rest named_member member members class_in version_in use_in class_item item items same width width_between size type_ref names_after_dots path new_atom more_args args after_path in_parens operand more climb expr_in cond index_in left_side maybe start declare assign after_names count_statement simple first_part step_part for_head if_head while_head end_statement return_rest else_part if_rest while_rest for_rest body block_rest any_statement statement_in
 reads = refl
 
 pub is_tree : IsSentence tree seen

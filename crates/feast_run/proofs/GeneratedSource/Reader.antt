@@ -14,7 +14,7 @@ use Rattle.ulam_lex.specs.declared.scan.Start.TheVariants.{Piece}
 use Rattle.ulam_lex.specs.Bytes.{is_white, class_of, is_keyword, is_sign}
 use Rattle.ulam_lex.specs.Pieces.{radix_of, worth_after}
 use Rattle.ulam_lex.specs.Starts.{Stands, IsStart, body_of, digit_count, digits_of}
-use Rattle.ulam_lex.specs.Texts.{TextPiece, ArePieces, spelled, is_joined}
+use Rattle.ulam_lex.specs.Texts.{TextPiece, ArePieces, bytes_of_pieces, is_joined}
 use Rattle.ulam_lex.proofs.Marks.{sign_start}
 use Rattle.ulam_lex.proofs.Numbers.{number_len, number_start}
 use Rattle.ulam_lex.proofs.Words.{word_len, space_start, keyword_start, name_start, type_name_start}
@@ -119,17 +119,17 @@ pieces_in (suc k) (b ∷ bs) = and_more (pieces_in k) (b ∷ bs) (front (b ∷ b
 
 -- these pieces are all of the text
 abbrev pub AreAll : List ℕ → List TextPiece → Type 0
-AreAll text ps = (text ≡ spelled ps) × ArePieces ps []
+AreAll text ps = (text ≡ bytes_of_pieces ps) × ArePieces ps []
 
 one_more : (text : List ℕ) (x : PieceKind × ℕ) (ps : List TextPiece) → IsStart text (Piece x.0 x.1) → is_joined x.0 (drop x.1 text) ≡ false → AreAll (drop x.1 text) ps → AreAll text (piece_at text x ∷ ps)
 one_more text x ps start apart all =
     let front = take x.1 text in
     let split : front ++ drop x.1 text ≡ text = take-append-drop x.1 text in
-    let behind : drop x.1 text ≡ spelled ps ++ [] = all.0 ∙ sym (append-nil (spelled ps)) in
-    let whole : text ≡ front ++ (spelled ps ++ []) = sym split ∙ ap (λ l. front ++ l) behind in (
+    let behind : drop x.1 text ≡ bytes_of_pieces ps ++ [] = all.0 ∙ sym (append-nil (bytes_of_pieces ps)) in
+    let whole : text ≡ front ++ (bytes_of_pieces ps ++ []) = sym split ∙ ap (λ l. front ++ l) behind in (
       sym split ∙ ap (λ l. front ++ l) all.0,
       (
-        subst (λ l. Stands x.0 l front (spelled ps ++ [])) whole (subst (λ l. Stands x.0 text front l) behind start.2),
+        subst (λ l. Stands x.0 l front (bytes_of_pieces ps ++ [])) whole (subst (λ l. Stands x.0 text front l) behind start.2),
         sym (ap (is_joined x.0) behind) ∙ apart,
         all.1,
       ),

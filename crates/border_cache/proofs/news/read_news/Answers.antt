@@ -34,9 +34,9 @@ loop-word-preserved g c =
       read = (
         r.0 ++ q.0,
         adds_then a b d e r.0 q.0 c.requires.hold.held r.1 q.1,
-        news_more_words c.args.border.sites c.args.border.end c.args.masks.now j c.loop-word.news c.read_word.result r.0 q.0 (c.type_inv.masks j).fits (omega (arith, inside, i.long)) r.2 q.2,
+        news_more_words c.args.border.sites c.args.border.end c.args.masks.now j c.loop-word.words c.read_word.result r.0 q.0 (c.type_inv.masks j).fits (omega (arith, inside, i.long)) r.2 q.2,
       );
-      long = length-set c.loop-word.news j c.read_word.result ∙ i.long;
+      long = length-set c.loop-word.words j c.read_word.result ∙ i.long;
       same = same_end (g.D.Board.end c.args.board.now) (g.D.Board.end c.loop-word.board) (g.D.Board.end c.read_word.new.board) i.same c.read_word.ensures.same;
       moved = search rules;
     }
@@ -44,4 +44,4 @@ loop-word-preserved g c =
 pub returns-clause-read : goal.returns-clause-read
 returns-clause-read g c =
     let r = c.loop-word.invariant.read in
-    (r.0, r.1, news_all c.args.border.sites c.args.border.end c.args.masks.now c.loop-word.word c.loop-word.news r.0 (omega (arith, c.loop-word-test.false)) r.2)
+    (r.0, r.1, news_all c.args.border.sites c.args.border.end c.args.masks.now c.loop-word.word c.loop-word.words r.0 (omega (arith, c.loop-word-test.false)) r.2)

@@ -1,17 +1,18 @@
-use Rattle.std.proofs.Common.{rules, arith, ◌≤◌, ◌+◌, ◌⊎◌, [], ◌++◌, replicate, refl}
+use Rattle.std.proofs.Common.{rules, arith, ap, length, subst, ◌≤◌, ◌+◌, ◌⊎◌, [], ◌++◌, replicate, refl, sym}
 use Rattle.tile_map.proofs.PlaneLaws.{plane}
 use Rattle.border_cache.specs.Borders.{site_of}
 use Rattle.border_cache.specs.Shared.{IsInRow, IsInWindowOf, shared_cell}
 use Rattle.border_cache.proofs.Open.{open_adds}
 use Rattle.border_cache.proofs.Runs.{adds_none, adds_then}
 use Rattle.border_cache.proofs.Written.{puts_none, puts_both, puts_same}
-use Rattle.border_cache.specs.Windows.{place_at, place_in}
+use Rattle.border_cache.specs.Windows.{IsRowRun, SetsRow, place_at, place_in}
 use Rattle.border_cache.proofs.Bits.{masks_by}
 use Rattle.border_cache.proofs.Covered.{whole_place}
-use Rattle.border_cache.proofs.RowPlaces.{no_bits, rows_begin, rows_more, rows_all}
+use Rattle.border_cache.proofs.RowPlaces.{no_bits, row_none, rows_begin, rows_more, rows_all, run_fits, run_row}
 use Rattle.border_cache.proofs.SharedRuns.{IsAbove, above_none, above_or, or_above, above_all, all_above}
 use Rattle.edge_lock.proofs.BoardLaws.{same_end, same_end_here}
 use Rattle.border_cache.proofs.publish.put_rows.Goals as goal
+use Rattle.border_cache.proofs.publish.put_rows.Goals.{in-Some, in_default}
 
 pub loop-j-init : goal.loop-j-init
 loop-j-init g c =
@@ -29,6 +30,38 @@ put_row-requires-clause-hold g c =
     let r = c.loop-j.invariant.put in
     open_adds (g.D.Board.end c.args.board.now) (g.D.Board.end c.loop-j.board) c.args.border r.0 c.requires.hold c.loop-j.invariant.same r.1
 
+pub overflow_sub-run : goal.overflow_sub-run
+overflow_sub-run g c =
+    let run = subst (IsRowRun c.args.area (site_of c.args.centre) c.loop-j.j) c.in-Some.is c.put_row.ensures.run in
+    let some = run.some in
+    omega (arith, some)
+
+pub overflow_add-run : goal.overflow_add-run
+overflow_add-run g c =
+    let run = subst (IsRowRun c.args.area (site_of c.args.centre) c.loop-j.j) c.in-Some.is c.put_row.ensures.run in
+    let fits = run_fits c.args.area (site_of c.args.centre) c.loop-j.j c.in-Some.run' run in
+    let same = ap length c.requires.area.shared.0 in
+    omega (arith, fits, same, c.requires.area.border.sites, c.requires.hold.few)
+
+pub set_run-requires-clause-few : goal.set_run-requires-clause-few
+set_run-requires-clause-few g c =
+    let run = subst (IsRowRun c.args.area (site_of c.args.centre) c.loop-j.j) c.in-Some.is c.put_row.ensures.run in
+    let fits = run_fits c.args.area (site_of c.args.centre) c.loop-j.j c.in-Some.run' run in
+    let same = ap length c.requires.area.shared.0 in
+    omega (arith, fits, same, c.requires.area.border.sites, c.requires.hold.few)
+
+pub set_run-requires-clause-some : goal.set_run-requires-clause-some
+set_run-requires-clause-some g c =
+    let run = subst (IsRowRun c.args.area (site_of c.args.centre) c.loop-j.j) c.in-Some.is c.put_row.ensures.run in
+    let some = run.some in
+    omega (arith, some)
+
+pub set_run-requires-clause-short : goal.set_run-requires-clause-short
+set_run-requires-clause-short g c =
+    let run = subst (IsRowRun c.args.area (site_of c.args.centre) c.loop-j.j) c.in-Some.is c.put_row.ensures.run in
+    let few = run.few in
+    omega (arith, few)
+
 pub loop-j-preserved : goal.loop-j-preserved
 loop-j-preserved g c =
     let i = c.loop-j.invariant in
@@ -40,8 +73,14 @@ loop-j-preserved g c =
     let s = site_of c.args.centre in
     let j = c.loop-j.j in
     let cell = shared_cell c.args.cache.now c.args.border.edge in
+    let old = c.loop-j.masks in
+    let new = c.match-put_row.masks in
     record {
-      marks = rows_more a s j c.loop-j.masks c.put_row.new.masks i.marks c.put_row.ensures.marks;
+      marks = rows_more a s j old new i.marks
+          (elim c.match-put_row.branch [
+            | in-Some w ↦ subst (SetsRow a s j old) (sym w.masks-is) (run_row a s j w.in-Some.run' (subst (IsRowRun a s j) w.in-Some.is c.put_row.ensures.run) old w.set_run.new.masks w.set_run.ensures)
+            | in_default w ↦ subst (SetsRow a s j old) (sym w.masks-is) (row_none a s j old (subst (IsRowRun a s j) w.in_default.is c.put_row.ensures.run))
+          ]);
       put = (
         p.0 ++ q.0,
         adds_then (g.D.Board.end c.args.board.now).lists b d c.args.border.edge p.0 q.0 c.requires.hold.held p.1 q.1,

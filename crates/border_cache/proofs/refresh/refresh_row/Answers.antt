@@ -12,7 +12,7 @@ use Rattle.border_cache.proofs.refresh.refresh_row.Goals as goal
 pub refresh_run-requires-clause-run : goal.refresh_run-requires-clause-run
 refresh_run-requires-clause-run g c =
     let v = c.args.cache.now in
-    run_shared v (plane v.map c.requires.centre.plane.valid) c.args.area (site_of c.args.centre) c.args.border.edge c.requires.area.shared.0 c.requires.centre.holds c.args.j c.in-Some.run' c.in-Some.ensures
+    run_shared v (plane v.map c.requires.centre.plane.valid) c.args.area (site_of c.args.centre) c.args.news.now.border.edge c.requires.area.shared.0 c.requires.centre.holds c.args.j c.in-Some.run' c.in-Some.ensures
 
 pub returns-in-Some-clause-read : goal.returns-in-Some-clause-read
 returns-in-Some-clause-read g c =
@@ -21,17 +21,17 @@ returns-in-Some-clause-read g c =
     let s = site_of c.args.centre in
     let j = c.args.j in
     let r = c.in-Some.run' in
-    let news = c.args.news.now in (
+    let news = c.args.news.now.words in (
       p.0,
       p.1,
-      takes_same c.args.border.edge (NewsIn news (IsInRun r r.east)) (NewsIn news (IsInRow a s j)) c.args.cache.now c.refresh_run.new.cache p.0 (λ k h. (in_row a s j r c.in-Some.ensures k h.0, h.1)) (λ k h. (in_run a s j r c.in-Some.ensures k h.0, h.1)) p.2,
+      takes_same c.args.news.now.border.edge (NewsIn news (IsInRun r r.east)) (NewsIn news (IsInRow a s j)) c.args.cache.now c.refresh_run.new.cache p.0 (λ k h. (in_row a s j r c.in-Some.ensures k h.0, h.1)) (λ k h. (in_run a s j r c.in-Some.ensures k h.0, h.1)) p.2,
     )
 
 pub returns-in_default-clause-read : goal.returns-in_default-clause-read
 returns-in_default-clause-read g c =
     let a = c.args.area in
     let s = site_of c.args.centre in
-    ([], adds_none (g.D.Board.end c.args.board.now).lists c.args.border.edge, takes_none c.args.border.edge (NewsIn c.args.news.now (IsInRow a s c.args.j)) c.args.cache.now (λ k h. no_row a s c.args.j k c.in_default.ensures h.0))
+    ([], adds_none (g.D.Board.end c.args.board.now).lists c.args.news.now.border.edge, takes_none c.args.news.now.border.edge (NewsIn c.args.news.now.words (IsInRow a s c.args.j)) c.args.cache.now (λ k h. no_row a s c.args.j k c.in_default.ensures h.0))
 
 pub run_of-requires-clause-x : goal.run_of-requires-clause-x
 run_of-requires-clause-x g c =

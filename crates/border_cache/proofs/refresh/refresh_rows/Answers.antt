@@ -15,7 +15,7 @@ loop-j-init g c =
     let a = c.args.area in
     let s = site_of c.args.centre in
     record {
-      read = ([], adds_none (g.D.Board.end c.args.board.now).lists c.args.border.edge, takes_none c.args.border.edge (NewsIn c.args.news.now (IsAbove a s 0)) c.args.cache.now (λ k h. above_none a s k h.0));
+      read = ([], adds_none (g.D.Board.end c.args.board.now).lists c.args.news.now.border.edge, takes_none c.args.news.now.border.edge (NewsIn c.args.news.now.words (IsAbove a s 0)) c.args.cache.now (λ k h. above_none a s k h.0));
       same = same_end_here (g.D.Board.end c.args.board.now);
       moved = search rules;
     }
@@ -26,12 +26,12 @@ refresh_row-requires-clause-centre g c =
     centre_stays c.args.cache.now c.loop-j.cache c.args.centre t.map t.tile c.requires.centre
 
 pub refresh_row-requires-clause-area : goal.refresh_row-requires-clause-area
-refresh_row-requires-clause-area g c = subst (λ m. IsAreaOf m c.args.area c.args.border) (sym c.loop-j.invariant.read.2.map) c.requires.area
+refresh_row-requires-clause-area g c = subst (λ m. IsAreaOf m c.args.area c.args.news.now.border) (sym c.loop-j.invariant.read.2.map) c.requires.area
 
 pub refresh_row-requires-clause-hold : goal.refresh_row-requires-clause-hold
 refresh_row-requires-clause-hold g c =
     let r = c.loop-j.invariant.read in
-    open_adds (g.D.Board.end c.args.board.now) (g.D.Board.end c.loop-j.board) c.args.border r.0 c.requires.hold c.loop-j.invariant.same r.1
+    open_adds (g.D.Board.end c.args.board.now) (g.D.Board.end c.loop-j.board) c.args.news.now.border r.0 c.requires.hold c.loop-j.invariant.same r.1
 
 pub loop-j-preserved : goal.loop-j-preserved
 loop-j-preserved g c =
@@ -46,8 +46,8 @@ loop-j-preserved g c =
     record {
       read = (
         p.0 ++ q.0,
-        adds_then (g.D.Board.end c.args.board.now).lists b d c.args.border.edge p.0 q.0 c.requires.hold.held p.1 q.1,
-        takes_news c.args.border.edge c.args.news.now (IsAbove a s j) (IsInRow a s j) (IsAbove a s (j + 1)) c.args.cache.now c.loop-j.cache c.refresh_row.new.cache p.0 q.0 p.2 q.2 (above_apart a s j) (or_above a s j) (above_or a s j),
+        adds_then (g.D.Board.end c.args.board.now).lists b d c.args.news.now.border.edge p.0 q.0 c.requires.hold.held p.1 q.1,
+        takes_news c.args.news.now.border.edge c.args.news.now.words (IsAbove a s j) (IsInRow a s j) (IsAbove a s (j + 1)) c.args.cache.now c.loop-j.cache c.refresh_row.new.cache p.0 q.0 p.2 q.2 (above_apart a s j) (or_above a s j) (above_or a s j),
       );
       same = same_end (g.D.Board.end c.args.board.now) (g.D.Board.end c.loop-j.board) (g.D.Board.end c.refresh_row.new.board) i.same c.refresh_row.ensures.same;
       moved = search rules;
@@ -60,8 +60,8 @@ returns-clause-read g c =
     let a = c.args.area in
     let s = site_of c.args.centre in
     let j = c.loop-j.j in
-    let e = c.args.border.edge in
-    let news = c.args.news.now in
+    let e = c.args.news.now.border.edge in
+    let news = c.args.news.now.words in
     let all : 9 ≤ j = omega (arith, c.loop-j-test.false) in
     let laws = plane v.map c.requires.centre.plane.valid in
     (p.0, p.1, takes_same e (NewsIn news (IsAbove a s j)) (NewsIn news (IsInWindowOf v.map s e)) v c.loop-j.cache p.0 (λ k h. (all_above v laws a s e c.requires.area.shared.0 c.requires.centre.holds j k h.0, h.1)) (λ k h. (above_all v laws a s e c.requires.area.shared.0 c.requires.centre.holds j k all h.0, h.1)) p.2)

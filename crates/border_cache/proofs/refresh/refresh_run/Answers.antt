@@ -14,7 +14,7 @@ use Rattle.border_cache.proofs.refresh.refresh_run.Goals as goal
 
 pub loop-x-init : goal.loop-x-init
 loop-x-init g c = record {
-  read = ([], adds_none (g.D.Board.end c.args.board.now).lists c.args.border.edge, takes_none c.args.border.edge (NewsIn c.args.news.now (IsInRun c.args.run c.args.run.west)) c.args.cache.now (λ k h. run_begins c.args.run k h.0));
+  read = ([], adds_none (g.D.Board.end c.args.board.now).lists c.args.news.now.border.edge, takes_none c.args.news.now.border.edge (NewsIn c.args.news.now.words (IsInRun c.args.run c.args.run.west)) c.args.cache.now (λ k h. run_begins c.args.run k h.0));
   same = same_end_here (g.D.Board.end c.args.board.now);
   moved = search rules;
 }
@@ -22,13 +22,13 @@ loop-x-init g c = record {
 pub overflow_add-place : goal.overflow_add-place
 overflow_add-place g c =
     let r = c.args.run in
-    let lt = run_place c.args.cache.now c.args.border.edge r c.loop-x.x c.requires.run c.loop-x.auto.x c.loop-x-test.true in
+    let lt = run_place c.args.cache.now c.args.news.now.border.edge r c.loop-x.x c.requires.run c.loop-x.auto.x c.loop-x-test.true in
     omega (arith, lt, c.requires.border.sites, c.requires.hold.few)
 
 pub refresh_place-requires-clause-place : goal.refresh_place-requires-clause-place
 refresh_place-requires-clause-place g c =
     let r = c.args.run in
-    let lt = run_place c.args.cache.now c.args.border.edge r c.loop-x.x c.requires.run c.loop-x.auto.x c.loop-x-test.true in
+    let lt = run_place c.args.cache.now c.args.news.now.border.edge r c.loop-x.x c.requires.run c.loop-x.auto.x c.loop-x-test.true in
     omega (arith, lt, c.requires.border.sites)
 
 pub refresh_place-requires-clause-owned : goal.refresh_place-requires-clause-owned
@@ -39,7 +39,7 @@ refresh_place-requires-clause-owned g c =
 pub refresh_place-requires-clause-shared : goal.refresh_place-requires-clause-shared
 refresh_place-requires-clause-shared g c =
     let v = c.args.cache.now in
-    let e = c.args.border.edge in
+    let e = c.args.news.now.border.edge in
     let r = c.args.run in
     let x = c.loop-x.x in
     let s = site x r.row in
@@ -48,7 +48,7 @@ refresh_place-requires-clause-shared g c =
 pub refresh_place-requires-clause-hold : goal.refresh_place-requires-clause-hold
 refresh_place-requires-clause-hold g c =
     let r = c.loop-x.invariant.read in
-    open_adds (g.D.Board.end c.args.board.now) (g.D.Board.end c.loop-x.board) c.args.border r.0 c.requires.hold c.loop-x.invariant.same r.1
+    open_adds (g.D.Board.end c.args.board.now) (g.D.Board.end c.loop-x.board) c.args.news.now.border r.0 c.requires.hold c.loop-x.invariant.same r.1
 
 pub loop-x-preserved : goal.loop-x-preserved
 loop-x-preserved g c =
@@ -57,14 +57,14 @@ loop-x-preserved g c =
     let q = c.refresh_place.ensures.read in
     let b = (g.D.Board.end c.loop-x.board).lists in
     let d = (g.D.Board.end c.refresh_place.new.board).lists in
-    let e = c.args.border.edge in
+    let e = c.args.news.now.border.edge in
     let v = c.args.cache.now in
     let mid = c.loop-x.cache in
     let r = c.args.run in
     let x = c.loop-x.x in
     let k : ℕ = r.start + (x - r.west) in
     let low = c.loop-x.auto.x in
-    let news = c.args.news.now in
+    let news = c.args.news.now.words in
     record {
       read = (
         p.0 ++ q.0,
@@ -80,4 +80,4 @@ returns-clause-read g c =
     let p = c.loop-x.invariant.read in
     let some = c.requires.run.some in
     let all : c.loop-x.x ≡ c.args.run.east = omega (arith, c.loop-x-test.false, c.loop-x.auto.x-end, some) in
-    (p.0, p.1, subst (λ x. TakesAt c.args.border.edge (NewsIn c.args.news.now (IsInRun c.args.run x)) c.args.cache.now c.loop-x.cache p.0) all p.2)
+    (p.0, p.1, subst (λ x. TakesAt c.args.news.now.border.edge (NewsIn c.args.news.now.words (IsInRun c.args.run x)) c.args.cache.now c.loop-x.cache p.0) all p.2)

@@ -15,9 +15,9 @@ use Rattle.border_cache.proofs.refresh.refresh_sites.Goals as goal
 pub loop-n-init : goal.loop-n-init
 loop-n-init g c =
     let v = c.args.cache.now in
-    let p = place_in v.map (site_of c.args.centre) c.args.border.edge in
+    let p = place_in v.map (site_of c.args.centre) c.args.news.now.border.edge in
     record {
-      read = ([], adds_none (g.D.Board.end c.args.board.now).lists c.args.border.edge, takes_none c.args.border.edge (NewsIn c.args.news.now (Covers p 0)) v (λ k h. no_site p k h.0));
+      read = ([], adds_none (g.D.Board.end c.args.board.now).lists c.args.news.now.border.edge, takes_none c.args.news.now.border.edge (NewsIn c.args.news.now.words (Covers p 0)) v (λ k h. no_site p k h.0));
       same = same_end_here (g.D.Board.end c.args.board.now);
       moved = search rules;
     }
@@ -30,7 +30,7 @@ refresh_site-requires-clause-centre g c =
 pub refresh_site-requires-clause-hold : goal.refresh_site-requires-clause-hold
 refresh_site-requires-clause-hold g c =
     let r = c.loop-n.invariant.read in
-    open_adds (g.D.Board.end c.args.board.now) (g.D.Board.end c.loop-n.board) c.args.border r.0 c.requires.hold c.loop-n.invariant.same r.1
+    open_adds (g.D.Board.end c.args.board.now) (g.D.Board.end c.loop-n.board) c.args.news.now.border r.0 c.requires.hold c.loop-n.invariant.same r.1
 
 pub loop-n-preserved : goal.loop-n-preserved
 loop-n-preserved g c =
@@ -43,8 +43,8 @@ loop-n-preserved g c =
     let mid = c.loop-n.cache in
     let new = c.refresh_site.new.cache in
     let s = site_of c.args.centre in
-    let e = c.args.border.edge in
-    let news = c.args.news.now in
+    let e = c.args.news.now.border.edge in
+    let news = c.args.news.now.words in
     let places : ℕ → Option ℕ = place_in v.map s e in
     let n = c.loop-n.n in
     let lt : n < 41 = omega (arith, c.loop-n-test.true) in
@@ -65,4 +65,4 @@ returns-clause-read g c =
     let p = c.loop-n.invariant.read in
     let v = c.args.cache.now in
     let all : c.loop-n.n ≡ 41 = omega (arith, c.loop-n-test.false, c.loop-n.auto.n-end) in
-    (p.0, p.1, subst (λ n. TakesAt c.args.border.edge (NewsIn c.args.news.now (Covers (place_in v.map (site_of c.args.centre) c.args.border.edge) n)) v c.loop-n.cache p.0) all p.2)
+    (p.0, p.1, subst (λ n. TakesAt c.args.news.now.border.edge (NewsIn c.args.news.now.words (Covers (place_in v.map (site_of c.args.centre) c.args.news.now.border.edge) n)) v c.loop-n.cache p.0) all p.2)

@@ -8,7 +8,7 @@ use Rattle.border_cache.proofs.refresh.refresh_sites.Given as goal
 
 abbrev pub invariant-loop-n : goal.invariant-loop-n
 invariant-loop-n g l = record {
-  read : AddsSome l.border.edge (TakesAt l.border.edge (NewsIn l.news (Covers (place_in l.fn.cache.map (site_of l.centre) l.border.edge) l.n)) l.fn.cache l.cache) (g.D.Board.end l.fn.board) (g.D.Board.end l.board);
+  read : AddsSome l.news.border.edge (TakesAt l.news.border.edge (NewsIn l.news.words (Covers (place_in l.fn.cache.map (site_of l.centre) l.news.border.edge) l.n)) l.fn.cache l.cache) (g.D.Board.end l.fn.board) (g.D.Board.end l.board);
   same : SameEnd (g.D.Board.end l.fn.board) (g.D.Board.end l.board);
   moved : g.D.Board.moved l.fn.board l.board;
 }

@@ -8,6 +8,6 @@ refresh_rows-requires-clause-centre g c = subst (λ m. IsCentreOf m c.args.cache
 
 pub refresh_rows-requires-clause-area : goal.refresh_rows-requires-clause-area
 refresh_rows-requires-clause-area g c = record {
-  border = subst (λ m. IsBorderOf m c.args.border) c.requires.centre.map c.requires.border;
-  shared = subst (λ m. IsSharedArea m c.args.border.edge (Some c.in-Some.area)) c.requires.centre.map c.in-Some.ensures;
+  border = subst (λ m. IsBorderOf m c.args.news.now.border) c.requires.centre.map c.requires.border;
+  shared = subst (λ m. IsSharedArea m c.args.news.now.border.edge (Some c.in-Some.area)) c.requires.centre.map c.in-Some.ensures;
 }

@@ -20,11 +20,11 @@ loop-n-preserved c =
     let here = site_of c.args.centre in
     let shown = is_shown c.args.map.now here in
     record {
-      long = length-set c.loop-n.atoms n c.shown-atom.result.0 ∙ v.long;
-      wide = length-set c.loop-n.live n c.shown-atom.result.1 ∙ v.wide;
-      marks = one_more c.loop-n.live false c.shown-atom.result.1 shown n
-          (let w = v.wide in omega (arith, w, c.loop-n-test.true)) c.shown-atom.ensures.live v.marks;
-      shows = one_more c.loop-n.atoms empty_atom c.shown-atom.result.0
+      long = length-set c.loop-n.atoms n c.atom_and_mark-atom.result.0 ∙ v.long;
+      wide = length-set c.loop-n.live n c.atom_and_mark-atom.result.1 ∙ v.wide;
+      marks = one_more c.loop-n.live false c.atom_and_mark-atom.result.1 shown n
+          (let w = v.wide in omega (arith, w, c.loop-n-test.true)) c.atom_and_mark-atom.ensures.live v.marks;
+      shows = one_more c.loop-n.atoms empty_atom c.atom_and_mark-atom.result.0
           (λ j. cond (shown j) (window_cells c.args.cache.now here j).atom empty_atom) n
-          (let l = v.long in omega (arith, l, c.loop-n-test.true)) c.shown-atom.ensures.atom v.shows;
+          (let l = v.long in omega (arith, l, c.loop-n-test.true)) c.atom_and_mark-atom.ensures.atom v.shows;
     }

@@ -3,7 +3,7 @@ use Rattle.std.proofs.lemmas.Result.{on_ok_weaker}
 use Rattle.std.specs.Box.{box_value}
 use Rattle.stack_code.specs.declared.instr.Instr.TheVariants.{Turn, Jump}
 use Rattle.code_gen.specs.Pieces.{pick, loop, ever, size, lay}
-use Rattle.code_gen.specs.Laying.{laid, laid_if}
+use Rattle.code_gen.specs.Laying.{code_and_piece, laid_if}
 use Rattle.code_gen.specs.Views.{piece_of, pieces_of, key_of}
 use Rattle.code_gen.proofs.Blocks.{block_at}
 use Rattle.code_gen.proofs.Emitted.{pick_laid, loop_laid, ever_laid}
@@ -36,11 +36,11 @@ emit-returns-in_ok-put-in-Pick-clause-ok t c =
     let first : c.size_of.result ≡ min (size a) 65537 = c.size_of.ensures ∙ ap (λ p. min (size (piece_of p)) 65537) at-1 in
     let second : c.size_of-in-Pick.result ≡ min (size b) 65537 = c.size_of-in-Pick.ensures ∙ ap (λ p. min (size (piece_of p)) 65537) at-3 in
     let same = ap (λ p. size (piece_of p)) at-2 in
-    rw whole (on_ok_weaker c.emit-in-Pick.result (λ (r : c.emit-in-Pick.new.code.items ≡ laid two keys c.args.out c.args.next (piece_of c.deref-in-Pick-4.result.now)).
+    rw whole (on_ok_weaker c.emit-in-Pick.result (λ (r : c.emit-in-Pick.new.code.items ≡ code_and_piece two keys c.args.out c.args.next (piece_of c.deref-in-Pick-4.result.now)).
     pick_laid old c.emit_if.new.code.items two c.emit-in-Pick.new.code.items keys c.args.out c.args.next other (other + c.size_of-in-Pick.result) a b
     (omega (arith, fits, first)) (omega (arith, fits, second)) (omega (arith, fits, first, same, c.in_ok-emit_if-in-Pick.ensures.long, c.in_ok-put-in-Pick.ensures.long))
     (c.in_ok-emit_if-in-Pick.ensures.ok ∙ ap (λ p. laid_if old keys c.args.out c.args.next other (piece_of p)) at-2) c.in_ok-put-in-Pick.ensures.ok
-    (r ∙ ap (λ p. laid two keys c.args.out c.args.next (piece_of p)) at-4)) c.emit-in-Pick.ensures.ok)
+    (r ∙ ap (λ p. code_and_piece two keys c.args.out c.args.next (piece_of p)) at-4)) c.emit-in-Pick.ensures.ok)
 
 pub emit-returns-in_ok-emit-in-Loop-2-clause-long :
     goal.emit-returns-in_ok-emit-in-Loop-2-clause-long
@@ -82,9 +82,9 @@ emit-returns-in_ok-emit-in-Loop-2-clause-ok t c =
     let long-2 : length two ≡ step = omega (arith, is_step, long-1, same-2, c.in_ok-emit_if-in-Loop.ensures.long) in
     rw whole (on_ok_weaker c.turn_back.result (λ (r : c.turn_back.new.code.items ≡ three ++ Turn ∷ (Jump start ∷ [])).
     loop_laid old one two three c.turn_back.new.code.items keys c.args.out c.args.next start step past q a b is_start is_step is_past long-1 long-2
-    (c.in_ok-emit-in-Loop.ensures.ok ∙ ap (λ p. laid old keys c.args.out c.args.next (piece_of p)) at-1)
+    (c.in_ok-emit-in-Loop.ensures.ok ∙ ap (λ p. code_and_piece old keys c.args.out c.args.next (piece_of p)) at-1)
     (c.in_ok-emit_if-in-Loop.ensures.ok ∙ ap (λ p. laid_if one keys past step past (piece_of p)) at-2)
-    (c.in_ok-emit-in-Loop-2.ensures.ok ∙ ap (λ p. laid two keys c.args.out c.args.next (piece_of p)) at-3) r) c.turn_back.ensures.ok)
+    (c.in_ok-emit-in-Loop-2.ensures.ok ∙ ap (λ p. code_and_piece two keys c.args.out c.args.next (piece_of p)) at-3) r) c.turn_back.ensures.ok)
 
 pub emit-returns-in_ok-emit-in-Ever-2-clause-long :
     goal.emit-returns-in_ok-emit-in-Ever-2-clause-long
@@ -119,5 +119,5 @@ emit-returns-in_ok-emit-in-Ever-2-clause-ok t c =
     let long : length one ≡ step = omega (arith, is_step, same, c.in_ok-emit-in-Ever.ensures.long) in
     rw whole (on_ok_weaker c.turn_back-in-Ever.result (λ (r : c.turn_back-in-Ever.new.code.items ≡ two ++ Turn ∷ (Jump start ∷ [])).
     ever_laid old one two c.turn_back-in-Ever.new.code.items keys c.args.out c.args.next start step past a b is_start is_step is_past long
-    (c.in_ok-emit-in-Ever.ensures.ok ∙ ap (λ p. laid old keys past step (piece_of p)) at-1)
-    (c.in_ok-emit-in-Ever-2.ensures.ok ∙ ap (λ p. laid one keys c.args.out c.args.next (piece_of p)) at-2) r) c.turn_back-in-Ever.ensures.ok)
+    (c.in_ok-emit-in-Ever.ensures.ok ∙ ap (λ p. code_and_piece old keys past step (piece_of p)) at-1)
+    (c.in_ok-emit-in-Ever-2.ensures.ok ∙ ap (λ p. code_and_piece one keys c.args.out c.args.next (piece_of p)) at-2) r) c.turn_back-in-Ever.ensures.ok)

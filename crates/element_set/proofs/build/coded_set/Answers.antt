@@ -10,7 +10,7 @@ pub returns-in_err-codes : goal.returns-in_err-codes
 returns-in_err-codes c =
     let s = set_view c.args.typed c.args.layout in
     let fault = c.in_err-codes.field-0.0 in
-    tells_exit set_value (stage.coded s) (gen_fault fault) c.from_residual.result c.from_residual.ensures.1 (gen_told ElementSet set_value s fault c.in_err-codes.ensures.codes)
+    tells_exit set_value (stage.limit_stage s) (gen_fault fault) c.from_residual.result c.from_residual.ensures.1 (gen_told ElementSet set_value s fault c.in_err-codes.ensures.codes)
 
 pub of-requires-clause-coded : goal.of-requires-clause-coded
 of-requires-clause-coded c = c.in_ok-codes.ensures.codes.0

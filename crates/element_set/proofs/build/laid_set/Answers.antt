@@ -8,4 +8,4 @@ pub returns : goal.returns
 returns c =
     let cs = resolved_program c.args.program in
     let found = c.in_ok-layout.ensures in
-    tells_then set_value (stage.laid cs) (stage.typed_set cs) c.in_ok-layout.layout c.typed_set.result (found.narrow, found.layout) c.typed_set.ensures
+    tells_then set_value (stage.layout_stage cs) (stage.typed_set cs) c.in_ok-layout.layout c.typed_set.result (found.narrow, found.layout) c.typed_set.ensures

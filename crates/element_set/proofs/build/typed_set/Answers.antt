@@ -49,4 +49,4 @@ coded_set-requires-clause-compilable c =
 pub returns : goal.returns
 returns c =
     let cs = resolved_program c.args.program in
-    tells_then set_value (stage.typed cs) (λ (us : List t.Class). stage.coded (record { classes = us; layout = c.args.layout })) (typed_program c.in_ok-typed.typed) c.coded_set.result c.in_ok-typed.ensures.is c.coded_set.ensures
+    tells_then set_value (stage.type_stage cs) (λ (us : List t.Class). stage.limit_stage (record { classes = us; layout = c.args.layout })) (typed_program c.in_ok-typed.typed) c.coded_set.result c.in_ok-typed.ensures.is c.coded_set.ensures

@@ -10,9 +10,9 @@ returns-in_err-tokens c =
     let file = c.args.file in
     let bytes = c.args.bytes.now in
     let fault = c.in_err-tokens.field-0.0 in
-    tells_exit tree_value (stage.tree_of file bytes) (lex_fault fault) c.from_residual.result c.from_residual.ensures.1 (lex_told Tree tree_value file bytes (stage.parsed bytes) fault c.in_err-tokens.ensures.fault)
+    tells_exit tree_value (stage.tree_of file bytes) (lex_fault fault) c.from_residual.result c.from_residual.ensures.1 (lex_told Tree tree_value file bytes (stage.parse_stage bytes) fault c.in_err-tokens.ensures.fault)
 
 pub returns : goal.returns
 returns c =
     let bytes = c.args.bytes.now in
-    tells_then tree_value (stage.lexed c.args.file bytes) (stage.parsed bytes) c.in_ok-tokens.tokens.items c.parsed.result c.in_ok-tokens.ensures.tokens c.parsed.ensures
+    tells_then tree_value (stage.lex_stage c.args.file bytes) (stage.parse_stage bytes) c.in_ok-tokens.tokens.items c.parse_tokens.result c.in_ok-tokens.ensures.tokens c.parse_tokens.ensures

@@ -9,7 +9,7 @@ loop-kind-preserved c =
     let push = c.push_reserved.ensures in
     record {
       rest = fill_more c.loop-kind.kind-index c.args.kinds.now c.loop-kind.slots.items
-          c.push_reserved.new.self.items _ c.filled.result _ c.loop-kind-test.true c.filled.ensures
+          c.push_reserved.new.self.items _ c.first_value.result _ c.loop-kind-test.true c.first_value.ensures
           push.items i.rest;
       room = omega (arith, room, push.len, push.capacity, c.loop-kind-test.true);
       same = push.capacity ∙ i.same;

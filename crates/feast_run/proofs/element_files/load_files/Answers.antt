@@ -5,9 +5,10 @@ use Rattle.std.proofs.lemmas.List.Elements.{All-append, All-cons}
 use Rattle.feast_base.specs.Outside.{File}
 use Rattle.feast_run.proofs.Telling.{keeps_then, moves_exit}
 use Rattle.feast_run.proofs.Loads.{load_step, load_exit}
-use Rattle.feast_run.specs.Stages.{element_limit, load}
+use Rattle.feast_run.specs.Stages.{load}
 use Rattle.feast_run.specs.Tellings.{Tells}
 use Rattle.feast_run.proofs.element_files.load_files.Goals as goal
+use Rattle.feast_run.specs.declared.loading.TheConstants.{ELEMENT_LIMIT}
 
 pub loop-word-preserved : goal.loop-word-preserved
 loop-word-preserved g c =
@@ -25,7 +26,7 @@ loop-word-preserved g c =
     let grown : c.push.new.self.items ≡ done ++ (name, source.1) ∷ [] =
     c.in_ok-push.ensures.items ∙ ap (λ (n : List ℕ). done ++ (n, source.1) ∷ []) c.in_ok-source.ensures.named in
     let loaded = rw c.loop-word.invariant.files at c.in_ok-source.ensures.tells in
-    let fits = λ (f : File). length f.1 ≤ element_limit in
+    let fits = λ (f : File). length f.1 ≤ ELEMENT_LIMIT in
     let all = All-append fits done ((name, source.1) ∷ []) c.loop-word.invariant.short (All-cons fits (name, source.1) [] loaded.1 (λ k d lt. absurd (omega arith))) in
     record {
       many = omega (arith, ap length grown, length-append done ((name, source.1) ∷ []), c.loop-word.invariant.many);
@@ -58,7 +59,7 @@ returns-in_err-source-clause-tells g c =
     ∙ ap (λ w. w ∷ map string_bytes (drop (i + 1) words)) named in
     let halt = c.in_err-source.field-0.0 in
     let one = λ (s : File). s.1 in
-    let halted = subst (λ (fs : Option (List File)). Tells {X = File} one (load fs element_limit name) (Err halt))
+    let halted = subst (λ (fs : Option (List File)). Tells {X = File} one (load fs ELEMENT_LIMIT name) (Err halt))
     c.loop-word.invariant.files c.in_err-source.ensures.tells in
     load_exit one (λ (v : Vec File Global). v.items) _ c.loop-word.sources.items name _ _ _
     halt exit.result left exit.ensures.1 halted c.loop-word.invariant.rest

@@ -6,8 +6,8 @@ use Rattle.window_sites.specs.Window.{WindowValue}
 use Rattle.cell_grid.specs.Known.{BringsNone}
 use Rattle.feast_run.proofs.grids.grid_after.Goals as goal
 
-pub replayed-requires-clause-world : goal.replayed-requires-clause-world
-replayed-requires-clause-world c = ready_valid c.args.ready.now c.requires.ready
+pub replay_world-requires-clause-world : goal.replay_world-requires-clause-world
+replay_world-requires-clause-world c = ready_valid c.args.ready.now c.requires.ready
 
 pub returns-clause-named : goal.returns-clause-named
 returns-clause-named c =
@@ -15,4 +15,4 @@ returns-clause-named c =
     let names = (elements_value r.elements).names in
     let means = acts c.in_ok-actor.actor in
     let brings = subst (λ (m : WindowValue → ℕ → WindowValue). BringsNone (length names) m) (sym c.in_ok-actor.ensures) c.requires.ready.brings in
-    known_grid names r.world.atoms.items means c.replayed.result (ready_known r c.requires.ready) brings c.replayed.ensures.known
+    known_grid names r.world.atoms.items means c.replay_world.result (ready_known r c.requires.ready) brings c.replay_world.ensures.known

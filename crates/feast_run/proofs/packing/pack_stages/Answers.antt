@@ -6,7 +6,7 @@ use Rattle.feast_run.specs.Packed.{pack_text}
 use Rattle.feast_run.proofs.packing.pack_stages.Goals as goal
 
 pub returns-clause-tells : goal.returns-clause-tells
-returns-clause-tells g c = tells_then output_text _ _ (set_value c.in_ok-set.set) c.packed.result c.in_ok-set.ensures.tells c.packed.ensures.tells
+returns-clause-tells g c = tells_then output_text _ _ (set_value c.in_ok-set.set) c.pack_output.result c.in_ok-set.ensures.tells c.pack_output.ensures.tells
 
 pub returns-in_err-set-clause-tells : goal.returns-in_err-set-clause-tells
 returns-in_err-set-clause-tells g c =
@@ -16,5 +16,5 @@ returns-in_err-set-clause-tells g c =
 
 pub returns-clause-moves : goal.returns-clause-moves
 returns-clause-moves g c =
-    moves_last output_text (shows pack_text (set_value c.in_ok-set.set)) _ _ c.packed.result (λ w h. absurd h)
-    c.in_ok-set.ensures.moves c.packed.ensures.tells
+    moves_last output_text (shows pack_text (set_value c.in_ok-set.set)) _ _ c.pack_output.result (λ w h. absurd h)
+    c.in_ok-set.ensures.moves c.pack_output.ensures.tells

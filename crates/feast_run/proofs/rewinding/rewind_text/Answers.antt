@@ -15,8 +15,8 @@ use Rattle.feast_run.proofs.rewinding.rewind_text.Goals as goal
 pub start-requires : goal.start-requires
 start-requires c = ready_valid c.args.ready.now c.requires.ready
 
-pub rewound-requires-clause-live : goal.rewound-requires-clause-live
-rewound-requires-clause-live c = λ k d lt. live_in (world_value c.args.ready.now.world).plane c.in_ok-first.first _ _ c.in_ok-first.ensures.fits (c.requires.live k d lt)
+pub rewind-requires-clause-live : goal.rewind-requires-clause-live
+rewind-requires-clause-live c = λ k d lt. live_in (world_value c.args.ready.now.world).plane c.in_ok-first.first _ _ c.in_ok-first.ensures.fits (c.requires.live k d lt)
 
 pub grid_text-requires : goal.grid_text-requires
 grid_text-requires c =

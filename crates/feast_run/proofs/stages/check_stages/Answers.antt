@@ -5,7 +5,7 @@ use Rattle.feast_run.specs.Outputs.{output_text}
 use Rattle.feast_run.proofs.stages.check_stages.Goals as goal
 
 pub returns-clause-tells : goal.returns-clause-tells
-returns-clause-tells g c = tells_then output_text _ _ (set_value c.in_ok-set.set) c.checked.result c.in_ok-set.ensures.tells c.checked.ensures.tells
+returns-clause-tells g c = tells_then output_text _ _ (set_value c.in_ok-set.set) c.check_output.result c.in_ok-set.ensures.tells c.check_output.ensures.tells
 
 pub returns-in_err-set-clause-tells : goal.returns-in_err-set-clause-tells
 returns-in_err-set-clause-tells g c =
@@ -15,5 +15,5 @@ returns-in_err-set-clause-tells g c =
 
 pub returns-clause-moves : goal.returns-clause-moves
 returns-clause-moves g c =
-    moves_last output_text (shows check_text (set_value c.in_ok-set.set)) _ _ c.checked.result (λ w h. absurd h)
-    c.in_ok-set.ensures.moves c.checked.ensures.tells
+    moves_last output_text (shows check_text (set_value c.in_ok-set.set)) _ _ c.check_output.result (λ w h. absurd h)
+    c.in_ok-set.ensures.moves c.check_output.ensures.tells

@@ -4,13 +4,13 @@ use Rattle.feast_run.specs.Halting.{decides}
 use Rattle.feast_run.specs.Stages.{world_refused}
 use Rattle.feast_run.specs.Tellings.{Tells}
 use Rattle.feast_run.specs.Values.{elements_value, ready_value}
-use Rattle.world_text.specs.Named.{named}
+use Rattle.world_text.specs.Named.{world_with_names}
 use Rattle.world_text.specs.Printed.{IsNamed}
 use Rattle.world_text.specs.Values.{world_value}
 use Rattle.feast_run.proofs.worlds.with_elements.Goals as goal
 
-pub named-requires : goal.named-requires
-named-requires c = omega (arith, ap length c.names.ensures, c.requires.few)
+pub world_with_names-requires : goal.world_with_names-requires
+world_with_names-requires c = omega (arith, ap length c.names.ensures, c.requires.few)
 
 pub returns-clause-tells : goal.returns-clause-tells
 returns-clause-tells c =
@@ -29,7 +29,7 @@ returns-clause-ready c =
 pub returns-in_err-world-clause-tells : goal.returns-in_err-world-clause-tells
 returns-in_err-world-clause-tells c =
     let halt = c.in_err-world.field-0.0 in
-    let S = λ (names : List (List ℕ)). decides (world_refused c.args.word.now) (named names c.args.draft) in
+    let S = λ (names : List (List ℕ)). decides (world_refused c.args.word.now) (world_with_names names c.args.draft) in
     let halted = subst (λ (names : List (List ℕ)). Tells world_value (S names) (Err halt))
     c.names.ensures c.in_err-world.ensures.tells in
     tells_exit world_value ready_value (S (elements_value c.args.elements).names) _ halt

@@ -16,20 +16,20 @@ use Rattle.journal_check.proofs.auditing.audit.Goals as goal
 moved : (P : List Record → List Abandoned → Type 0) (rs rs' : List Record) (gs gs' : List Abandoned) → rs ≡ rs' → gs ≡ gs' → P rs gs → P rs' gs'
 moved P rs rs' gs gs' e f p = subst (λ q. P q gs') e (subst (P rs) f p)
 
-pub misstamped-requires : goal.misstamped-requires
-misstamped-requires g c =
+pub first_misstamped-requires : goal.first_misstamped-requires
+first_misstamped-requires g c =
     events_inside c.args.map.now c.laws.ensures.valid c.args.plan.now c.requires.plan c.records-records.result.now c.abandoned-abandoned.result.now (c.in_ok-is_accounted.ensures.0 c.if-not-branch.false)
 
-pub unexcused-requires-clause-events : goal.unexcused-requires-clause-events
-unexcused-requires-clause-events g c =
+pub first_unexcused-requires-clause-events : goal.first_unexcused-requires-clause-events
+first_unexcused-requires-clause-events g c =
     events_inside c.args.map.now c.laws.ensures.valid c.args.plan.now c.requires.plan c.records-records.result.now c.abandoned-abandoned.result.now (c.in_ok-is_accounted.ensures.0 c.if-not-branch.false)
 
-pub unexcused-requires-clause-inside : goal.unexcused-requires-clause-inside
-unexcused-requires-clause-inside g c =
+pub first_unexcused-requires-clause-inside : goal.first_unexcused-requires-clause-inside
+first_unexcused-requires-clause-inside g c =
     all_gone_inside c.args.map.now c.laws.ensures.valid c.args.plan.now c.requires.plan c.records-records.result.now c.abandoned-abandoned.result.now (c.in_ok-is_accounted.ensures.0 c.if-not-branch.false)
 
-pub unexcused-requires-clause-rising : goal.unexcused-requires-clause-rising
-unexcused-requires-clause-rising g c =
+pub first_unexcused-requires-clause-rising : goal.first_unexcused-requires-clause-rising
+first_unexcused-requires-clause-rising g c =
     marks_rise c.args.map.now c.args.plan.now c.records-records.result.now c.abandoned-abandoned.result.now c.requires.plan.lists (c.in_ok-is_accounted.ensures.0 c.if-not-branch.false)
 
 pub returns-in-Some-2-clause-verdict : goal.returns-in-Some-2-clause-verdict

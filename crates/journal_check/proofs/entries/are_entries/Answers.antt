@@ -7,14 +7,14 @@ use Rattle.journal_check.specs.Passing.{passes}
 use Rattle.journal_check.proofs.Passing.{over, taken, entries_none, entries_taken}
 use Rattle.journal_check.proofs.entries.are_entries.Goals as goal
 
-pub passed-requires-clause-centre : goal.passed-requires-clause-centre
-passed-requires-clause-centre c =
+pub take_entry-requires-clause-centre : goal.take_entry-requires-clause-centre
+take_entry-requires-clause-centre c =
     let m = c.args.map.now in
     let list = taken c.loop-attempt.attempts c.next.new.self c.in-Some.attempt (c.next.result) c.in-Some.is c.next.ensures in
     All-head (λ (a : Attempt). a.centre < m.w * m.h) c.in-Some.attempt c.next.new.self (subst (All (λ (a : Attempt). a.centre < m.w * m.h)) list c.loop-attempt.invariant.centres)
 
-pub returns-in_default-passed : goal.returns-in_default-passed
-returns-in_default-passed c =
+pub returns-in_default-take_entry : goal.returns-in_default-take_entry
+returns-in_default-take_entry c =
     let m = c.args.map.now in
     let t = c.args.tile in
     let n = c.loop-attempt.number in
@@ -22,7 +22,7 @@ returns-in_default-passed c =
     let more = are_entries m t (n + 1) c.next.new.self in
     sym (sym c.loop-attempt.invariant.rest
     ∙ entries_taken m t n c.loop-attempt.attempts c.in-Some.attempt c.next.new.self (of_tile t c.loop-attempt.events.now) (abandoned_by t c.loop-attempt.gone.now) list
-    ∙ c.passed.ensures more ∙ ap (passes t more) c.in_default-passed.is)
+    ∙ c.take_entry.ensures more ∙ ap (passes t more) c.in_default-take_entry.is)
 
 pub loop-attempt-preserved : goal.loop-attempt-preserved
 loop-attempt-preserved c =
@@ -38,7 +38,7 @@ loop-attempt-preserved c =
           let more = are_entries m t (n + 1) c.next.new.self in
           sym (sym c.loop-attempt.invariant.rest
           ∙ entries_taken m t n c.loop-attempt.attempts c.in-Some.attempt c.next.new.self (of_tile t c.loop-attempt.events.now) (abandoned_by t c.loop-attempt.gone.now) list
-          ∙ c.passed.ensures more ∙ ap (passes t more) c.in-Some-passed.is);
+          ∙ c.take_entry.ensures more ∙ ap (passes t more) c.in-Some-take_entry.is);
     }
 
 pub returns : goal.returns

@@ -1,11 +1,11 @@
 use Rattle.std.proofs.Common.{◌≡◌, ◌+◌, ◌^◌, ◌<◌, drop, length, map}
 use Rattle.text_lines.specs.Lines.{text_of}
-use Rattle.report_text.specs.Lengths.{capped}
+use Rattle.report_text.specs.Lengths.{capped_length}
 use Rattle.report_text.specs.JournalText.{abandoned_fields}
 use Rattle.report_text.proofs.journal_lengths.abandoned_lines_len.Given as goal
 
 abbrev pub invariant-loop-entry : goal.invariant-loop-entry
 invariant-loop-entry l = record {
-  left : capped (l.len + length (text_of (map abandoned_fields (drop l.entry-index l.abandoned)))) ≡ capped (length (text_of (map abandoned_fields l.abandoned)));
+  left : capped_length (l.len + length (text_of (map abandoned_fields (drop l.entry-index l.abandoned)))) ≡ capped_length (length (text_of (map abandoned_fields l.abandoned)));
   fits : l.len < 2 ^ 64;
 }

@@ -10,9 +10,9 @@ returns-then-not-is_at_home-clause-fault c = λ list is.
 pub returns-then-is_attempt-clause-fault : goal.returns-then-is_attempt-clause-fault
 returns-then-is_attempt-clause-fault c = λ list is.
     sym (placed_well c.args.map.now list c.args.r.now (sym c.is_at_home.ensures ∙ c.if-not-is_at_home.false)
-    (ap (λ a. is_attempt c.args.map.now a c.args.r.now) (sym (c.drawn-found.ensures.value list is)) ∙ sym c.is_attempt.ensures ∙ c.if-is_attempt.true))
+    (ap (λ a. is_attempt c.args.map.now a c.args.r.now) (sym (c.seek_attempt-found.ensures.value list is)) ∙ sym c.is_attempt.ensures ∙ c.if-is_attempt.true))
 
 pub returns-else-is_attempt-clause-fault : goal.returns-else-is_attempt-clause-fault
 returns-else-is_attempt-clause-fault c = λ list is.
     sym (placed_other c.args.map.now list c.args.r.now (sym c.is_at_home.ensures ∙ c.if-not-is_at_home.false)
-    (ap (λ a. is_attempt c.args.map.now a c.args.r.now) (sym (c.drawn-found.ensures.value list is)) ∙ sym c.is_attempt.ensures ∙ c.if-is_attempt.false))
+    (ap (λ a. is_attempt c.args.map.now a c.args.r.now) (sym (c.seek_attempt-found.ensures.value list is)) ∙ sym c.is_attempt.ensures ∙ c.if-is_attempt.false))

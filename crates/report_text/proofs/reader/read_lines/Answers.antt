@@ -49,4 +49,4 @@ returns-in_err-take_fields c = λ lists all.
     (walk_fault m lists n old c.in-Some.text.now (ended_lines c.in-Some.rest.now) (fault_of fault) (c.in_err-take_fields.ensures.steps lists (c.loop-text.invariant.serve lists all))))
 
 pub returns : goal.returns
-returns c = λ lists all. read_on c.args.map.now lists c.args.bytes.now _ c.finished.result (c.loop-text.invariant.rest lists all) (c.finished.ensures c.args.map.now lists)
+returns c = λ lists all. read_on c.args.map.now lists c.args.bytes.now _ c.finish.result (c.loop-text.invariant.rest lists all) (c.finish.ensures c.args.map.now lists)

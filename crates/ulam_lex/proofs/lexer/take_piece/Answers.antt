@@ -15,8 +15,8 @@ returns-in_err-add c =
     let p = err_from_is_err_and c.from_residual.result c.from_residual.ensures.1 in
     rw (p.1, p.2) (added_fault s piece c.args.len c.args.tokens.now.items c.add.new.tokens.items c.in_err-add.field-0.0 c.requires.placed c.requires.stands c.in_err-add.ensures)
 
-pub passed-next-requires-clause-column : goal.passed-next-requires-clause-column
-passed-next-requires-clause-column c =
+pub place_after-next-requires-clause-column : goal.place_after-next-requires-clause-column
+place_after-next-requires-clause-column c =
     let before = take c.args.at c.args.bytes.now in
     let column = place_column c.args.place c.args.place.file before c.requires.placed in
     let counted = length-take-le c.args.at c.args.bytes.now (omega arith) in
@@ -40,11 +40,11 @@ returns-then-is_joined c =
     let piece = piece_at c.args.bytes.now c.split_at.result.1.now c.split_at-2.result.0.now c.args.at c.args.len c.split_at.ensures.back c.split_at-2.ensures.front in
     let back = back_at c.args.bytes.now c.split_at.result.1.now c.split_at-2.result.1.now c.args.at c.args.len c.split_at.ensures.back c.split_at-2.ensures.back in
     let joined : is_joined c.args.kind (drop c.args.len rest) ≡ true = ap (is_joined c.args.kind) (sym back) ∙ sym c.is_joined.ensures ∙ c.if-is_joined.true in
-    let passed = c.passed-next.ensures ∙ ap (fold next_place c.args.place) piece in (
+    let passed = c.place_after-next.ensures ∙ ap (fold next_place c.args.place) piece in (
       take c.args.len rest,
       drop c.args.len rest,
       joined_fault rest (standing c.args.kind c.args.at (c.args.at + c.args.len) c.args.place) c.args.len c.args.tokens.now.items c.add.new.tokens.items c.requires.stands c.in_ok-add.ensures joined,
-      passed_is c.args.place c.passed-next.result c.args.place.file before (take c.args.len rest) c.requires.placed passed,
+      passed_is c.args.place c.place_after-next.result c.args.place.file before (take c.args.len rest) c.requires.placed passed,
     )
 
 pub returns : goal.returns
@@ -54,11 +54,11 @@ returns c =
     let piece = piece_at c.args.bytes.now c.split_at.result.1.now c.split_at-2.result.0.now c.args.at c.args.len c.split_at.ensures.back c.split_at-2.ensures.front in
     let back = back_at c.args.bytes.now c.split_at.result.1.now c.split_at-2.result.1.now c.args.at c.args.len c.split_at.ensures.back c.split_at-2.ensures.back in
     let apart : is_joined c.args.kind (drop c.args.len rest) ≡ false = ap (is_joined c.args.kind) (sym back) ∙ sym c.is_joined.ensures ∙ c.if-is_joined.false in
-    let passed = c.passed-next.ensures ∙ ap (fold next_place c.args.place) piece in
+    let passed = c.place_after-next.ensures ∙ ap (fold next_place c.args.place) piece in
     let counted : length before ≡ c.args.at = length-take-le c.args.at c.args.bytes.now (omega arith) in
     let left = length-drop c.args.at c.args.bytes.now in
     let within : c.args.len ≤ length rest = omega arith in
-    piece_taken (cut_at c.args.place.file c.args.bytes.now c.args.at) c.args.kind c.args.len c.args.at c.args.place c.passed-next.result c.args.tokens.now.items c.add.new.tokens.items
+    piece_taken (cut_at c.args.place.file c.args.bytes.now c.args.at) c.args.kind c.args.len c.args.at c.args.place c.place_after-next.result c.args.tokens.now.items c.add.new.tokens.items
     c.requires.some
     within
     (sym counted)
@@ -66,4 +66,4 @@ returns c =
     c.requires.stands
     c.in_ok-add.ensures
     apart
-    (passed_is c.args.place c.passed-next.result c.args.place.file before (take c.args.len rest) c.requires.placed passed)
+    (passed_is c.args.place c.place_after-next.result c.args.place.file before (take c.args.len rest) c.requires.placed passed)

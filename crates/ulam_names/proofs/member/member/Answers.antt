@@ -12,8 +12,8 @@ returns-in_err-field-in-Field c = passed_on _ _ _ _ _ c.from_residual.ensures c.
 pub returns-in_err-push-in-Field : goal.returns-in_err-push-in-Field
 returns-in_err-push-in-Field c = no_room _ _ _ c.from_residual-in_err-push-in-Field.ensures
 
-pub returns-in_err-half-in-Function : goal.returns-in_err-half-in-Function
-returns-in_err-half-in-Function c = passed_on _ _ _ _ _ c.from_residual-in_err-half-in-Function.ensures c.in_err-half-in-Function.ensures (λ f h. first_of (search rules, grind (arith, common_steps)))
+pub returns-in_err-function-in-Function : goal.returns-in_err-function-in-Function
+returns-in_err-function-in-Function c = passed_on _ _ _ _ _ c.from_residual-in_err-function-in-Function.ensures c.in_err-function-in-Function.ensures (λ f h. first_of (search rules, grind (arith, common_steps)))
 
 pub returns-in_err-push-in-Function : goal.returns-in_err-push-in-Function
 returns-in_err-push-in-Function c = no_room _ _ _ c.from_residual-in_err-push-in-Function.ensures

@@ -27,8 +27,8 @@ returns-in_err-of c =
     ∙ ap (λ (x : Param). with_front front (walk.params_of c.args.known.now d done (raw_view.param_of x ∷ rest))) (sym c.param-item.is) in
     rw e (first_of (search rules, grind (arith, common_steps)))
 
-pub returns-then-len-ge8 : goal.returns-then-len-ge8
-returns-then-len-ge8 c =
+pub returns-then-len-ge-MOST_PARAMS : goal.returns-then-len-ge-MOST_PARAMS
+returns-then-len-ge-MOST_PARAMS c =
     let d : Names = names_view c.args.names.now in
     let rest : List t.Param = map raw_view.param_of (drop (c.loop-param.param-index + 1) c.args.raw.now) in
     let front : List r.Param = map param_of c.loop-param.found in
@@ -37,7 +37,7 @@ returns-then-len-ge8 c =
     c.loop-param.invariant
     ∙ at_drop_more (λ (zs : List Param). with_front front (walk.params_of c.args.known.now d done (map raw_view.param_of zs))) c.args.raw.now c.loop-param.param-index c.param-item.result c.loop-param-test.true
     ∙ ap (λ (x : Param). with_front front (walk.params_of c.args.known.now d done (raw_view.param_of x ∷ rest))) (sym c.param-item.is)
-    ∙ param_many c.args.known.now d done front (raw_view.param_of c.param-item.result) rest c.in_ok-of.of c.in_ok-of.ensures (le-ltb (length done) 8 (omega (arith, size, c.len.ensures.count, c.if-len-ge8.true)))
+    ∙ param_many c.args.known.now d done front (raw_view.param_of c.param-item.result) rest c.in_ok-of.of c.in_ok-of.ensures (le-ltb (length done) 8 (omega (arith, size, c.len.ensures.count, c.if-len-ge-MOST_PARAMS.true)))
 
 pub returns-then-has_param : goal.returns-then-has_param
 returns-then-has_param c =
@@ -50,7 +50,7 @@ returns-then-has_param c =
     c.loop-param.invariant
     ∙ at_drop_more (λ (zs : List Param). with_front front (walk.params_of c.args.known.now d done (map raw_view.param_of zs))) c.args.raw.now c.loop-param.param-index c.param-item.result c.loop-param-test.true
     ∙ ap (λ (x : Param). with_front front (walk.params_of c.args.known.now d done (raw_view.param_of x ∷ rest))) (sym c.param-item.is)
-    ∙ param_twice c.args.known.now d done front (raw_view.param_of c.param-item.result) rest c.in_ok-of.of c.in_ok-of.ensures (lt-ltb (length done) 8 (omega (arith, size, c.len.ensures.count, c.if-len-ge8.false))) among
+    ∙ param_twice c.args.known.now d done front (raw_view.param_of c.param-item.result) rest c.in_ok-of.of c.in_ok-of.ensures (lt-ltb (length done) 8 (omega (arith, size, c.len.ensures.count, c.if-len-ge-MOST_PARAMS.false))) among
 
 pub loop-param-preserved : goal.loop-param-preserved
 loop-param-preserved c =
@@ -65,6 +65,6 @@ loop-param-preserved c =
     ∙ ap (λ (x : Param). with_front front (walk.params_of c.args.known.now d done (raw_view.param_of x ∷ rest))) (sym c.param-item.is)
     ∙ params_on c.args.known.now d done front (raw_view.param_of c.param-item.result) rest c.in_ok-of.of c.in_ok-of.ensures
     (map param_of c.push.new.self) (param_names c.push.new.self)
-    (lt-ltb (length done) 8 (omega (arith, size, c.len.ensures.count, c.if-len-ge8.false))) among
+    (lt-ltb (length done) 8 (omega (arith, size, c.len.ensures.count, c.if-len-ge-MOST_PARAMS.false))) among
     (ap (map param_of) c.in_ok-push.ensures.ok ∙ map-append param_of c.loop-param.found _)
     (ap param_names c.in_ok-push.ensures.ok ∙ map-append (λ (p : HalfParam). p.word.now.name) c.loop-param.found _)

@@ -16,14 +16,14 @@ returns-in_err-of c = record {
   kept = none_ok _ _ _ c.from_residual.ensures;
 }
 
-pub returns-in_err-declared : goal.returns-in_err-declared
-returns-in_err-declared c = record {
+pub returns-in_err-may_declare : goal.returns-in_err-may_declare
+returns-in_err-may_declare c = record {
   gives =
-      passed_on _ _ _ _ _ c.from_residual-in_err-declared.ensures c.in_err-declared.ensures.gives
+      passed_on _ _ _ _ _ c.from_residual-in_err-may_declare.ensures c.in_err-may_declare.ensures.gives
       (λ f h. first_of (search rules, grind (arith, common_steps)));
-  few = none_ok _ _ _ c.from_residual-in_err-declared.ensures;
-  scope = none_ok _ _ _ c.from_residual-in_err-declared.ensures;
-  kept = none_ok _ _ _ c.from_residual-in_err-declared.ensures;
+  few = none_ok _ _ _ c.from_residual-in_err-may_declare.ensures;
+  scope = none_ok _ _ _ c.from_residual-in_err-may_declare.ensures;
+  kept = none_ok _ _ _ c.from_residual-in_err-may_declare.ensures;
 }
 
 pub returns-in_err-value : goal.returns-in_err-value

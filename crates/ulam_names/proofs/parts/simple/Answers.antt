@@ -17,8 +17,8 @@ pub returns-in_err-value-in-Assign : goal.returns-in_err-value-in-Assign
 returns-in_err-value-in-Assign c = λ from n. passed_on _ _ _ _ _ c.from_residual-in_err-value-in-Assign.ensures c.in_err-value-in-Assign.ensures
     (λ f h. ap (λ z. here.statement_in c.args.context.now (scope_of c.args.entries.now from) n z) c.in-Assign.is ∙ rw (c.in_ok-to-in-Assign.ensures, h) refl)
 
-pub returns-in_err-left-in-Count : goal.returns-in_err-left-in-Count
-returns-in_err-left-in-Count c = λ from n. passed_on _ _ _ _ _ c.from_residual-in_err-left-in-Count.ensures c.in_err-left-in-Count.ensures
+pub returns-in_err-left_side-in-Count : goal.returns-in_err-left_side-in-Count
+returns-in_err-left_side-in-Count c = λ from n. passed_on _ _ _ _ _ c.from_residual-in_err-left_side-in-Count.ensures c.in_err-left_side-in-Count.ensures
     (λ f h. ap (λ z. here.statement_in c.args.context.now (scope_of c.args.entries.now from) n z) c.in-Count.is ∙ rw h refl)
 
 pub returns-in_err-words-in-Call : goal.returns-in_err-words-in-Call

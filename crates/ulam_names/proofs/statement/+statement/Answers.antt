@@ -6,7 +6,7 @@ use Rattle.ulam_names.specs.Walk as walk
 use Rattle.ulam_names.specs.BodyWalk as here
 use Rattle.ulam_names.specs.Outcomes.{Outcome}
 use Rattle.ulam_names.specs.Shown.{context_of, scope_of, entries_of, with_body}
-use Rattle.ulam_names.specs.Scopes.{Context, Scope, opened}
+use Rattle.ulam_names.specs.Scopes.{Context, Scope, inner_scope}
 use Rattle.ulam_names.specs.declared.scope.Entry.{Entry}
 use Rattle.ulam_tree.specs.Raw as raw_tree
 use Rattle.ulam_tree.specs.ResolvedViews.{resolved_expr, resolved_part, resolved_cond, resolved_statement}
@@ -91,14 +91,14 @@ body-returns t c =
       c.loop-one.invariant.kept,
     )
 
-pub boxed-returns-in_err-found : goal.boxed-returns-in_err-found
-boxed-returns-in_err-found t c = outcome_passed _ _ _ _ _ _ c.from_residual.ensures c.in_err-found.ensures (λ f h. h)
+pub box_statement-returns-in_err-found : goal.box_statement-returns-in_err-found
+box_statement-returns-in_err-found t c = outcome_passed _ _ _ _ _ _ c.from_residual.ensures c.in_err-found.ensures (λ f h. h)
 
-pub boxed-returns-in_err-in_box : goal.boxed-returns-in_err-in_box
-boxed-returns-in_err-in_box t c = outcome_full_by _ _ _ _ _ c.from_residual-in_err-in_box.ensures c.in_err-in_box.ensures.memory
+pub box_statement-returns-in_err-in_box : goal.box_statement-returns-in_err-in_box
+box_statement-returns-in_err-in_box t c = outcome_full_by _ _ _ _ _ c.from_residual-in_err-in_box.ensures c.in_err-in_box.ensures.memory
 
-pub boxed-returns : goal.boxed-returns
-boxed-returns t c = (
+pub box_statement-returns : goal.box_statement-returns
+box_statement-returns t c = (
   record {
     gives = c.in_ok-found.ensures.0.gives ∙ ap (λ x. Ok (resolved_statement x)) (sym c.in_ok-in_box.ensures.boxed);
     next = c.in_ok-found.ensures.0.next;
@@ -117,18 +117,18 @@ branch-returns-in_err-show t c = outcome_full_by _ _ _ _ _ c.from_residual.ensur
 
 pub branch-returns-in_err-found : goal.branch-returns-in_err-found
 branch-returns-in_err-found t c =
-    let shown : Scope = here.narrowed c.args.context.now c.args.entries.now 0 c.args.test.now c.args.found.now in
+    let shown : Scope = here.branch_scope c.args.context.now c.args.entries.now 0 c.args.test.now c.args.found.now in
     let es : List Entry = c.show.new.entries.items in
-    let own : opened shown ≡ scope_of es (length es) = opened_shown es shown (c.in_ok-show.ensures.shown 0) in
+    let own : inner_scope shown ≡ scope_of es (length es) = opened_shown es shown (c.in_ok-show.ensures.shown 0) in
     outcome_passed _ _ _ _ _ _ c.from_residual-in_err-found.ensures c.in_err-found.ensures
     (λ f h. ap (λ (z : Scope). here.statement_in c.args.context.now z c.args.slot c.args.raw.now) own ∙ h)
 
 pub branch-returns : goal.branch-returns
 branch-returns t c =
     let same : c.len-len.result ≡ length c.args.entries.now.items = first_of (search rules, grind (arith, common_steps)) in
-    let shown : Scope = here.narrowed c.args.context.now c.args.entries.now 0 c.args.test.now c.args.found.now in
+    let shown : Scope = here.branch_scope c.args.context.now c.args.entries.now 0 c.args.test.now c.args.found.now in
     let es : List Entry = c.show.new.entries.items in
-    let own : opened shown ≡ scope_of es (length es) = opened_shown es shown (c.in_ok-show.ensures.shown 0) in (
+    let own : inner_scope shown ≡ scope_of es (length es) = opened_shown es shown (c.in_ok-show.ensures.shown 0) in (
       record {
         gives = ap (λ (z : Scope). here.statement_in c.args.context.now z c.args.slot c.args.raw.now) own ∙ c.in_ok-found.ensures.0.gives;
         next = c.in_ok-found.ensures.0.next;
@@ -192,7 +192,7 @@ inner-returns t c =
         next = c.in_ok-found.ensures.0.next;
         few = c.in_ok-found.ensures.0.few;
       },
-      c.truncate.ensures.items ∙ ap (λ k. take k c.boxed.new.entries.items) same ∙ c.in_ok-found.ensures.1.kept,
+      c.truncate.ensures.items ∙ ap (λ k. take k c.box_statement.new.entries.items) same ∙ c.in_ok-found.ensures.1.kept,
     )
 
 pub part-returns-in_err-found : goal.part-returns-in_err-found
@@ -229,8 +229,8 @@ while_so-returns t c =
       c.in_ok-body.ensures.1,
     )
 
-pub looped-returns-in-While : goal.looped-returns-in-While
-looped-returns-in-While t c =
+pub plain_statement-returns-in-While : goal.plain_statement-returns-in-While
+plain_statement-returns-in-While t c =
     let ctx : Context = context_of c.args.context.now in
     let s : Scope = scope_of c.args.entries.now.items c.args.from in
     let what : raw_tree.while_so (raw_view.expr_of c.in-While.test) (raw_view.statement_of c.deref.result.now) ≡ raw_view.statement_of c.args.raw.now =
@@ -238,11 +238,11 @@ looped-returns-in-While t c =
     let go : raw_tree.Statement → Outcome r.Statement = λ x. record { found = walk.statement ctx s c.args.slot x; next = c.args.slot + walk.locals_of x; most = c.args.context.now.params + 64 } in
     outcome_same _ _ _ _ _ _ (ap go what) (λ x same. after_same c.args.entries.now c.while_so.new.entries _ same (ap (λ z. (walk.after ctx.heads s c.args.slot z (resolved_statement x)).entries) (sym what))) c.while_so.ensures
 
-pub looped-returns-in_default : goal.looped-returns-in_default
-looped-returns-in_default t c = c.leaf.ensures
+pub plain_statement-returns-in_default : goal.plain_statement-returns-in_default
+plain_statement-returns-in_default t c = c.leaf.ensures
 
-pub looped-returns-in_err-first-in-For : goal.looped-returns-in_err-first-in-For
-looped-returns-in_err-first-in-For t c =
+pub plain_statement-returns-in_err-first-in-For : goal.plain_statement-returns-in_err-first-in-For
+plain_statement-returns-in_err-first-in-For t c =
     let ctx : Context = context_of c.args.context.now in
     let es : List Entry = c.args.entries.now.items in
     let same : c.len-len.result ≡ length es = first_of (search rules, grind (arith, common_steps)) in
@@ -251,8 +251,8 @@ looped-returns-in_err-first-in-For t c =
     ∙ for_first ctx es c.args.from c.args.slot c.len-len.result c.in-For.first c.in-For.test c.in-For.step c.in-For.body same
     ∙ rw h refl)
 
-pub looped-returns-in_err-test-in-For : goal.looped-returns-in_err-test-in-For
-looped-returns-in_err-test-in-For t c =
+pub plain_statement-returns-in_err-test-in-For : goal.plain_statement-returns-in_err-test-in-For
+plain_statement-returns-in_err-test-in-For t c =
     let ctx : Context = context_of c.args.context.now in
     let es : List Entry = c.args.entries.now.items in
     let same : c.len-len.result ≡ length es = first_of (search rules, grind (arith, common_steps)) in
@@ -271,8 +271,8 @@ looped-returns-in_err-test-in-For t c =
     (λ f h. let at : walk.maybe_expr ctx (entries_of one) k ≡ Err f = ap (λ (zs : List Entry). walk.maybe_expr ctx (entries_of zs) k) (sym c.as_slice.ensures.value) ∙ h in
     begin ∙ rw at refl)
 
-pub looped-returns-in_err-step-in-For : goal.looped-returns-in_err-step-in-For
-looped-returns-in_err-step-in-For t c =
+pub plain_statement-returns-in_err-step-in-For : goal.plain_statement-returns-in_err-step-in-For
+plain_statement-returns-in_err-step-in-For t c =
     let ctx : Context = context_of c.args.context.now in
     let es : List Entry = c.args.entries.now.items in
     let same : c.len-len.result ≡ length es = first_of (search rules, grind (arith, common_steps)) in
@@ -291,8 +291,8 @@ looped-returns-in_err-step-in-For t c =
     let hd : walk.maybe_expr ctx (entries_of one) k ≡ Ok d = ap (λ (zs : List Entry). walk.maybe_expr ctx (entries_of zs) k) (sym c.as_slice.ensures.value) ∙ c.in_ok-test-in-For.ensures in
     outcome_passed _ _ _ _ _ _ c.from_residual-in_err-step-in-For.ensures c.in_err-step-in-For.ensures (λ f h. begin ∙ turns_step ctx one len next a k g x d hd ∙ rw h refl)
 
-pub looped-returns-in_err-body-in-For : goal.looped-returns-in_err-body-in-For
-looped-returns-in_err-body-in-For t c =
+pub plain_statement-returns-in_err-body-in-For : goal.plain_statement-returns-in_err-body-in-For
+plain_statement-returns-in_err-body-in-For t c =
     let ctx : Context = context_of c.args.context.now in
     let es : List Entry = c.args.entries.now.items in
     let same : c.len-len.result ≡ length es = first_of (search rules, grind (arith, common_steps)) in
@@ -317,8 +317,8 @@ looped-returns-in_err-body-in-For t c =
     c.in_ok-step-in-For.ensures.0.gives c.in_ok-step-in-For.ensures.0.next c.in_ok-step-in-For.ensures.1 (ap raw_view.statement_of c.deref-in-For.ensures) in
     outcome_passed _ _ _ _ _ _ c.from_residual-in_err-body-in-For.ensures c.in_err-body-in-For.ensures (λ f h. last ∙ rw h refl)
 
-pub looped-returns-in_ok-body-in-For : goal.looped-returns-in_ok-body-in-For
-looped-returns-in_ok-body-in-For t c =
+pub plain_statement-returns-in_ok-body-in-For : goal.plain_statement-returns-in_ok-body-in-For
+plain_statement-returns-in_ok-body-in-For t c =
     let ctx : Context = context_of c.args.context.now in
     let es : List Entry = c.args.entries.now.items in
     let same : c.len-len.result ≡ length es = first_of (search rules, grind (arith, common_steps)) in
@@ -407,7 +407,7 @@ statement-returns-in_err-no-in-If t c =
     let begin : walk.statement ctx (scope_of es c.args.from) c.args.slot (raw_view.statement_of c.args.raw.now) ≡ branches ctx es c.args.slot k x g =
     ap (walk.statement ctx (scope_of es c.args.from) c.args.slot) what ∙ walk_if ctx es c.args.from c.args.slot k x g in
     let hc : walk.cond ctx (entries_of es) k ≡ Ok (resolved_cond c.in_ok-found-in-If.found) = ap (λ (zs : List Entry). walk.cond ctx (entries_of zs) k) (sym c.as_slice-in-If.ensures.value) ∙ c.in_ok-found-in-If.ensures in
-    let hy : walk.statement ctx (opened (here.narrowed c.args.context.now c.args.entries.now 0 c.in-If.cond c.in_ok-found-in-If.found)) c.args.slot x ≡ Ok (resolved_statement (box_value c.in_ok-yes-in-If.yes)) = c.in_ok-yes-in-If.ensures.0.gives in
+    let hy : walk.statement ctx (inner_scope (here.branch_scope c.args.context.now c.args.entries.now 0 c.in-If.cond c.in_ok-found-in-If.found)) c.args.slot x ≡ Ok (resolved_statement (box_value c.in_ok-yes-in-If.yes)) = c.in_ok-yes-in-If.ensures.0.gives in
     let two : List Entry = c.branch-alloc.new.entries.items in
     let long : c.len-len.result ≡ length two = first_of (search rules, grind (arith, common_steps)) in
     let other : walk.part ctx (scope_of es (length es)) (c.args.slot + walk.locals_of x) g ≡ walk.part ctx (scope_of two c.len-len.result) c.in_ok-yes-in-If.next g =
@@ -426,7 +426,7 @@ statement-returns-in_ok-no-in-If t c =
     let begin : walk.statement ctx (scope_of es c.args.from) c.args.slot (raw_view.statement_of c.args.raw.now) ≡ branches ctx es c.args.slot k x g =
     ap (walk.statement ctx (scope_of es c.args.from) c.args.slot) what ∙ walk_if ctx es c.args.from c.args.slot k x g in
     let hc : walk.cond ctx (entries_of es) k ≡ Ok (resolved_cond c.in_ok-found-in-If.found) = ap (λ (zs : List Entry). walk.cond ctx (entries_of zs) k) (sym c.as_slice-in-If.ensures.value) ∙ c.in_ok-found-in-If.ensures in
-    let hy : walk.statement ctx (opened (here.narrowed c.args.context.now c.args.entries.now 0 c.in-If.cond c.in_ok-found-in-If.found)) c.args.slot x ≡ Ok (resolved_statement (box_value c.in_ok-yes-in-If.yes)) = c.in_ok-yes-in-If.ensures.0.gives in
+    let hy : walk.statement ctx (inner_scope (here.branch_scope c.args.context.now c.args.entries.now 0 c.in-If.cond c.in_ok-found-in-If.found)) c.args.slot x ≡ Ok (resolved_statement (box_value c.in_ok-yes-in-If.yes)) = c.in_ok-yes-in-If.ensures.0.gives in
     let two : List Entry = c.branch-alloc.new.entries.items in
     let long : c.len-len.result ≡ length two = first_of (search rules, grind (arith, common_steps)) in
     let other : walk.part ctx (scope_of es (length es)) (c.args.slot + walk.locals_of x) g ≡ walk.part ctx (scope_of two c.len-len.result) c.in_ok-yes-in-If.next g =
@@ -445,4 +445,4 @@ statement-returns-in_ok-no-in-If t c =
 
 pub statement-returns-in_default : goal.statement-returns-in_default
 statement-returns-in_default t c =
-    c.looped.ensures
+    c.plain_statement.ensures

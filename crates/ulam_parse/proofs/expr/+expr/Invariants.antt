@@ -28,8 +28,8 @@ decreases-more l = 8 * l.steps + 2
 abbrev pub decreases-more_args : goal.decreases-more_args
 decreases-more_args l = 8 * l.steps + 2
 
-abbrev pub decreases-named : goal.decreases-named
-decreases-named l = 8 * l.steps + 5
+abbrev pub decreases-path_or_call : goal.decreases-path_or_call
+decreases-path_or_call l = 8 * l.steps + 5
 
 abbrev pub decreases-operand : goal.decreases-operand
 decreases-operand l = 8 * l.steps + 6

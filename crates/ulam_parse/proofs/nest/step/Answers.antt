@@ -8,4 +8,4 @@ pub returns-in-Closes-clause-small : goal.returns-in-Closes-clause-small
 returns-in-Closes-clause-small c =
     let small = closed_small (nest_of c.args.nest).outer c.count_at-count.result c.args.symbol (omega (arith, c.requires, c.count_at-count.ensures.small)) in
     let F : Nest → Type 0 = λ m. depth m ≤ 66 in
-    subst F (sym c.closed.ensures) small
+    subst F (sym c.close_bracket.ensures) small

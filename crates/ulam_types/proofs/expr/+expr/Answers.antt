@@ -73,11 +73,11 @@ compound-returns-in-Is t c =
     let e = c.is.ensures c.args.want in
     rw c.in-Is.is (first_of (search (rules, e), grind (arith, common_steps)))
 
-pub boxed-returns-in_err-found : goal.boxed-returns-in_err-found
-boxed-returns-in_err-found t c = passed_on _ _ _ _ _ c.from_residual.ensures c.in_err-found.ensures (λ f h. first_of (search rules, grind (arith, common_steps)))
+pub box_expr-returns-in_err-found : goal.box_expr-returns-in_err-found
+box_expr-returns-in_err-found t c = passed_on _ _ _ _ _ c.from_residual.ensures c.in_err-found.ensures (λ f h. first_of (search rules, grind (arith, common_steps)))
 
-pub boxed-returns-in_err-new : goal.boxed-returns-in_err-new
-boxed-returns-in_err-new t c = no_room _ _ _ c.from_residual-in_err-new.ensures
+pub box_expr-returns-in_err-new : goal.box_expr-returns-in_err-new
+box_expr-returns-in_err-new t c = no_room _ _ _ c.from_residual-in_err-new.ensures
 
 pub built_call-returns-in_err-args : goal.built_call-returns-in_err-args
 built_call-returns-in_err-args t c = passed_on _ _ _ _ _ c.from_residual.ensures c.in_err-args.ensures (λ f h. rw h refl)

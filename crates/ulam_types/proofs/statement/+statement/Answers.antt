@@ -78,14 +78,14 @@ pub part-returns-in_err-one-in-Some : goal.part-returns-in_err-one-in-Some
 unfolding walk.statement
 part-returns-in_err-one-in-Some t c = passed_on _ _ _ _ _ c.from_residual.ensures c.in_err-one-in-Some.ensures (λ f h. first_of (search rules, grind (arith, common_steps)))
 
-pub seen-returns-in_err-slots : goal.seen-returns-in_err-slots
-seen-returns-in_err-slots t c = no_room _ _ _ c.from_residual.ensures
+pub if_as-returns-in_err-slots : goal.if_as-returns-in_err-slots
+if_as-returns-in_err-slots t c = no_room _ _ _ c.from_residual.ensures
 
-pub seen-returns-in_err-yes : goal.seen-returns-in_err-yes
-seen-returns-in_err-yes t c = passed_on _ _ _ _ _ c.from_residual-in_err-yes.ensures c.in_err-yes.ensures (λ f h. first_of (search rules, grind (arith, common_steps)))
+pub if_as-returns-in_err-yes : goal.if_as-returns-in_err-yes
+if_as-returns-in_err-yes t c = passed_on _ _ _ _ _ c.from_residual-in_err-yes.ensures c.in_err-yes.ensures (λ f h. first_of (search rules, grind (arith, common_steps)))
 
-pub seen-returns-in_err-path : goal.seen-returns-in_err-path
-seen-returns-in_err-path t c = no_room _ _ _ c.from_residual-in_err-path.ensures
+pub if_as-returns-in_err-path : goal.if_as-returns-in_err-path
+if_as-returns-in_err-path t c = no_room _ _ _ c.from_residual-in_err-path.ensures
 
 pub statement-returns-in_err-first-in-For : goal.statement-returns-in_err-first-in-For
 unfolding walk.statement
@@ -161,4 +161,4 @@ pub branch-returns-in_ok-yes-in-Test : goal.branch-returns-in_ok-yes-in-Test
 branch-returns-in_ok-yes-in-Test t c = rw (c.in-Test.is, c.in_ok-value-in-Test.ensures, c.in_ok-yes-in-Test.ensures) refl
 
 pub branch-returns-in-Seen : goal.branch-returns-in-Seen
-branch-returns-in-Seen t c = rw c.in-Seen.is c.seen.ensures
+branch-returns-in-Seen t c = rw c.in-Seen.is c.if_as.ensures

@@ -3,7 +3,7 @@ use Rattle.std.specs.List.{list_any}
 use Rattle.std.proofs.lemmas.List.{length-replicate, length-set, take_all}
 use Rattle.world_text.specs.declared.draft.RawAtom.{RawAtom}
 use Rattle.world_text.proofs.Marks.{unmarked, one_unknown, one_taken, one_fine, places_more, next_atom, no_atoms, marked_more, found_more}
-use Rattle.world_text.specs.Named.{name_fault, atom_place, placed, type_of, AreMarked}
+use Rattle.world_text.specs.Named.{name_fault, atom_place, placed_atom, type_of, AreMarked}
 use Rattle.world_text.proofs.named.name_atoms.Goals as goal
 
 taken_is : (marked free : Bool) → free ≡ not marked → free ≡ false → marked ≡ true
@@ -88,5 +88,5 @@ returns c =
     let atoms = c.args.atoms.now in
     let i = c.loop-raw.raw-index in (
       sym c.loop-raw.invariant.rest ∙ no_atoms names c.args.width (map (atom_place c.args.width) (take i atoms)) atoms i (omega arith),
-      c.loop-raw.invariant.found ∙ ap (map (placed names)) (take_all i atoms (omega arith)),
+      c.loop-raw.invariant.found ∙ ap (map (placed_atom names)) (take_all i atoms (omega arith)),
     )

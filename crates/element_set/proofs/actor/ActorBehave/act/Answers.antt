@@ -6,7 +6,7 @@ use Rattle.std.proofs.Props.{props}
 use Rattle.bit_field.specs.Atom.{AtomValue}
 use Rattle.window_sites.specs.Window.{atom_at}
 use Rattle.stack_code.specs.Machine.{CodeValue}
-use Rattle.event_machine.specs.Endings.{number_of}
+use Rattle.event_machine.specs.Endings.{ending_number}
 use Rattle.code_gen.specs.Compiling.{element_codes}
 use Rattle.element_set.specs.Acting.{acting_set}
 use Rattle.element_set.specs.Sets.{program_of}
@@ -30,7 +30,7 @@ returns-in-Some-get-clause-window c =
     let at : (atom_at w 0).kind ≡ suc index = omega (arith, kind, c.in-Some.ensures) in
     let found = c.in-Some-get.ensures.lookup in
     let stands : slice_get (element_codes g) index ≡ Some code = ap (λ (xs : List CodeValue). slice_get xs index) (sym c.codes.ensures.codes) ∙ slice_get-get_or c.codes.result.now index code found.3.0 ∙ ap Some (sym found.1) in
-    ∥∥₁_elim c.args.self.now.set.now.compiled (Prim.hlevel props) (λ h. code_acts g h.compilable h.short index code stands w c.args.seed at c.act.new.window (number_of c.act.result) c.act.ensures.over)
+    ∥∥₁_elim c.args.self.now.set.now.compiled (Prim.hlevel props) (λ h. code_acts g h.compilable h.short index code stands w c.args.seed at c.act.new.window (ending_number c.act.result) c.act.ensures.over)
 
 pub returns-in_default-get-clause-window : goal.returns-in_default-get-clause-window
 returns-in_default-get-clause-window c =

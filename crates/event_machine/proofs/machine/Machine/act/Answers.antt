@@ -1,7 +1,7 @@
 use Rattle.std.proofs.Common.{sym, ap, ◌∙◌, subst, Some}
 use Rattle.window_sites.specs.Window.{WindowValue}
 use Rattle.stack_code.proofs.Kept.{Kept}
-use Rattle.event_machine.specs.Endings.{number_of}
+use Rattle.event_machine.specs.Endings.{ending_number}
 use Rattle.event_machine.proofs.Runs.{over_is, ticks_are, count_is, most_is, functions_fit, kept_is, ending_is}
 use Rattle.event_machine.proofs.machine.Machine.act.Goals as goal
 
@@ -13,7 +13,7 @@ run-ended-requires g c = record { valid = c.laws.ensures.valid; window = c.args.
 
 pub returns-clause-over : goal.returns-clause-over
 returns-clause-over g c =
-    over_is g.L.Ledger.noted c.args.code.now c.args.window.now c.args.seed c.begin.new.self c.run-ended.new.self c.args.steps.now c.run-ended.new.steps c.run-ended.result c.begin.ensures c.run-ended.ensures ∙ ap (λ (x : WindowValue). Some (x, number_of c.run-ended.result)) (sym c.leave.ensures)
+    over_is g.L.Ledger.noted c.args.code.now c.args.window.now c.args.seed c.begin.new.self c.run-ended.new.self c.args.steps.now c.run-ended.new.steps c.run-ended.result c.begin.ensures c.run-ended.ensures ∙ ap (λ (x : WindowValue). Some (x, ending_number c.run-ended.result)) (sym c.leave.ensures)
 
 pub returns-clause-ending : goal.returns-clause-ending
 returns-clause-ending g c = ending_is g.L.Ledger.noted c.args.code.now c.args.window.now c.args.seed c.begin.new.self c.run-ended.new.self c.args.steps.now c.run-ended.new.steps c.run-ended.result c.begin.ensures c.run-ended.ensures

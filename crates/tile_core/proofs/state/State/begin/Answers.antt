@@ -2,7 +2,7 @@ use Rattle.std.proofs.Common.{◌≡◌, sym, ◌∙◌, arith}
 use Rattle.tile_map.specs.Plane.{site}
 use Rattle.tile_map.specs.Edges.{needs_of}
 use Rattle.tile_map.proofs.Spans.{plane_test}
-use Rattle.tile_core.specs.Steps.{begun}
+use Rattle.tile_core.specs.Steps.{first_phase}
 use Rattle.tile_core.proofs.Kept.{begun_value, begun_none, begun_some}
 use Rattle.tile_core.proofs.state.State.begin.Goals as goal
 use Rattle.tile_core.proofs.state.State.begin.Goals.{then-len-eq0, else-len-eq0}
@@ -14,7 +14,7 @@ returns-clause-begins c =
     let x = c.site_of-x.result.0 in
     let y = c.site_of-x.result.1 in
     let needs = c.needs-self.result in
-    let phase : c.if-len-eq0.self ≡ begun needs = elim c.if-len-eq0.branch [
+    let phase : c.if-len-eq0.self ≡ first_phase needs = elim c.if-len-eq0.branch [
       | then-len-eq0 w ↦ w.self-is ∙ sym (begun_none needs (omega (arith, c.len.ensures.count, w.if-len-eq0.true)))
       | else-len-eq0 w ↦ w.self-is ∙ sym (begun_some needs (omega (arith, c.len.ensures.count, w.if-len-eq0.false)))
     ] in

@@ -37,8 +37,8 @@ try_take-requires-clause-is_new g c =
     let a = (g.D.Board.end c.args.board.now).lists in
     subst (λ e. IsNew (t.taken - 1) (a e)) (sym c.edge-edge.ensures) (lock_new c.args.map.now q.0 q.1 q.2 t a q.4 q.3)
 
-pub refused-requires-clause-edge : goal.refused-requires-clause-edge
-refused-requires-clause-edge g c =
+pub note_refusal-requires-clause-edge : goal.note_refusal-requires-clause-edge
+note_refusal-requires-clause-edge g c =
     let q = c.requires.phase in
     let t = value_of c.args.self.now in
     let m = c.args.map.now in

@@ -3,7 +3,7 @@ use Rattle.border_cache.specs.Copies.{IsEndOf}
 use Rattle.border_cache.proofs.Stored.{end_stays}
 use Rattle.tile_core.specs.Kept.{left_window, until_written, value_of}
 use Rattle.tile_core.specs.declared.phase.Phase.TheVariants.{Worn}
-use Rattle.tile_core.specs.Steps.{refreshed}
+use Rattle.tile_core.specs.Steps.{tile_after_refresh}
 use Rattle.std.proofs.Common.{◌++◌}
 use Rattle.tile_core.specs.Clocks.{ReadsClocks}
 use Rattle.tile_core.specs.Underway.{no_access}
@@ -40,7 +40,7 @@ returns-clause-refreshes g c =
       top = c.read_clocks-greatest.result;
       between = b;
       clocks = subst (λ n. ReadsClocks t.needs n c.read_clocks-greatest.result a b) c.from.ensures c.read_clocks-greatest.ensures.read;
-      step = inr (record { low = c.if-greatest-ge-LAST_STAMP.false; cells = c.refresh.ensures.refreshed; is = λ i. record (refreshed t c.read_clocks-greatest.result c.refresh.new.self) { window = sym window i } });
+      step = inr (record { low = c.if-greatest-ge-LAST_STAMP.false; cells = c.refresh.ensures.refreshed; is = λ i. record (tile_after_refresh t c.read_clocks-greatest.result c.refresh.new.self) { window = sym window i } });
     }
 
 pub refresh-requires-clause-board : goal.refresh-requires-clause-board

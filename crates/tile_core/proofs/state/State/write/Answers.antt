@@ -7,7 +7,7 @@ use Rattle.border_cache.specs.Copies.{IsEndOf, Marked, window_cells}
 use Rattle.border_cache.specs.Windows.{has, centre_of, AddsAll, PublishesAll}
 use Rattle.tile_core.specs.declared.state.State.{State}
 use Rattle.tile_core.specs.Kept.{at, left_window, until_written, value_of}
-use Rattle.tile_core.specs.Steps.{Writes, noted}
+use Rattle.tile_core.specs.Steps.{Writes, tile_after_event}
 use Rattle.tile_core.specs.Underway.{tile_at}
 use Rattle.std.proofs.Common.{◌++◌}
 use Rattle.std.specs.Prelude.{All}
@@ -60,7 +60,7 @@ returns-clause-writes g c =
     let row = ap (λ (t : State). t.y) rest in
     let needs = ap (λ (t : State). t.needs) rest in
     let stamp = ap (λ (t : State). t.event_stamp) rest in
-    subst (λ t. Writes m (at s (g.D.Board.end c.args.board.now)) (tile_at t d)) (sym (c.noted.ensures.noted ∙ ap (λ (t : State). noted (value_of t)) rest)) (record {
+    subst (λ t. Writes m (at s (g.D.Board.end c.args.board.now)) (tile_at t d)) (sym (c.note_event.ensures.noted ∙ ap (λ (t : State). tile_after_event (value_of t)) rest)) (record {
       between = b;
       marks = subst (λ p. Marked (site s.x s.y) (until_written p (left_window s)) s.event_stamp s.cache k.cache) (sym q.3) marked;
       publishes = subst (λ (z : MapValue × ℕ × ℕ × ℕ × List ℕ). PublishesAll (centre_of z.0 z.1 (site z.2 z.3)) z.4 (window_cells k.cache (site z.2 z.3)) a b) (λ i. (plane i, owner i, column i, row i, needs i)) c.publish.ensures.published;

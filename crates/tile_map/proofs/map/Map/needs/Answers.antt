@@ -29,4 +29,4 @@ returns-else-owns c =
     let m = c.args.self.now in
     let t = c.args.tile in
     let q : ℕ → Bool = λ e. reaches m (site c.args.x c.args.y) (other_end m t e) in
-    c.needed.ensures ∙ ap (filter q) c.edges_of-edges.ensures.edges ∙ filter_twice (has_end m t) q (range_with_len 0 (length (pairs_of m)))
+    c.needs_among.ensures ∙ ap (filter q) c.edges_of-edges.ensures.edges ∙ filter_twice (has_end m t) q (range_with_len 0 (length (pairs_of m)))

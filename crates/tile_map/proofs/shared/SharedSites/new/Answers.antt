@@ -3,7 +3,7 @@ use Rattle.std.specs.Prelude.{if◌then◌else◌}
 use Rattle.std.specs.Int.{from_bool}
 use Rattle.std.proofs.lemmas.List.{length-map}
 use Rattle.tile_map.specs.Plane.{site}
-use Rattle.tile_map.specs.Tables.{sites_in, live_in, number_of}
+use Rattle.tile_map.specs.Tables.{sites_in, live_in, site_number}
 use Rattle.tile_map.proofs.Numbers.{area_places, area_site, counted_more, counted_low, counted_all}
 use Rattle.tile_map.proofs.shared.SharedSites.new.Goals as goal
 use Rattle.tile_map.proofs.shared.SharedSites.new.Goals.{then-live, else-live}
@@ -42,7 +42,7 @@ invariant_of-result c =
     let a = c.args.area in
     let whole : length (sites_in a) ≡ c.loop-place.place = omega (arith, c.loop-place-test.false, c.loop-place.auto.place-end, c.sites-place-end.ensures.value, area_places a) in
     let p = counted_all c.args.plane.now a c.loop-place.numbers.items c.loop-place.count c.loop-place.place c.loop-place.invariant whole in
-    (c.requires.columns, c.requires.rows, ap length p.0 ∙ length-map (sites_in a) (number_of (live_in c.args.plane.now a)))
+    (c.requires.columns, c.requires.rows, ap length p.0 ∙ length-map (sites_in a) (site_number (live_in c.args.plane.now a)))
 
 pub returns : goal.returns
 returns c =
