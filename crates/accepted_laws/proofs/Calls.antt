@@ -17,7 +17,7 @@ use Rattle.ulam_names.specs.Walk.{one_word}
 use Rattle.ulam_names.specs.Classes.{head_of}
 use Rattle.ulam_names.specs.Relation.{IsPath}
 use Rattle.ulam_names.specs.ClassRelation.{own_class}
-use Rattle.ulam_types.specs.Programs.{class_sig}
+use Rattle.type_rules.specs.Programs.{class_sig}
 use Rattle.accepted_laws.specs.Accepted.{AcceptedTrees, heirs}
 use Rattle.accepted_laws.specs.Calls.{IsVirtualIn, CallsNearest, function_words, context_at}
 use Rattle.accepted_laws.proofs.Lists.{changed_place, first_none}

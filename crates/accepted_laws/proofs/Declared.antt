@@ -15,8 +15,8 @@ use Rattle.ulam_names.specs.Classes.{Known, Half, half_field, half_function, bas
 use Rattle.ulam_names.specs.Relation.{IsWidth}
 use Rattle.ulam_names.specs.ClassRelation.{IsMemberType, IsValue, IsLength, IsMember, AreMembers, OwnClass, AreWhole}
 use Rattle.ulam_names.proofs.BodyFits.{answer_or, type_fits, width_fits}
-use Rattle.ulam_types.specs.Scopes.{ClassSig}
-use Rattle.ulam_types.specs.ProgramTyping.{AreTypedMembers}
+use Rattle.type_rules.specs.Scopes.{ClassSig}
+use Rattle.type_rules.specs.ProgramTyping.{AreTypedMembers}
 use Rattle.accepted_laws.specs.Data.{DataMember, data_member, data_members}
 
 -- what a class has declared so far, and the data members since

@@ -12,10 +12,10 @@ use Rattle.ulam_names.specs.Scopes.{built_in, of_window, of_random}
 use Rattle.ulam_names.specs.Classes.{program}
 use Rattle.ulam_names.specs.ClassRelation.{IsResolved}
 use Rattle.ulam_names.proofs.ClassMeans.{program_means}
-use Rattle.ulam_types.specs.Programs as typing
-use Rattle.ulam_types.specs.Walk.{expr}
-use Rattle.ulam_types.specs.Bodies.{statement}
-use Rattle.ulam_types.specs.ProgramTyping.{IsTypedProgram}
+use Rattle.type_rules.specs.Programs as typing
+use Rattle.type_rules.specs.Walk.{expr}
+use Rattle.type_rules.specs.Bodies.{statement}
+use Rattle.type_rules.specs.ProgramTyping.{IsTypedProgram}
 use Rattle.ulam_types.proofs.Classes.{program_means as typing_means}
 use Rattle.accepted_laws.specs.Accepted.{AcceptedTrees}
 use Rattle.element_set.specs.Told.{flat_row}

@@ -11,8 +11,8 @@ use Rattle.ulam_heirs.specs.Flat.{member_word, is_function, is_named}
 use Rattle.ulam_names.specs.Scopes.{Text, Names, names_of}
 use Rattle.ulam_names.specs.Classes.{Known, Half, half_field, half_function}
 use Rattle.ulam_names.specs.ClassRelation.{IsMember, AreMembers, OwnClass, AreWhole}
-use Rattle.ulam_types.specs.Scopes.{ClassSig}
-use Rattle.ulam_types.specs.ProgramTyping.{AreTypedMembers}
+use Rattle.type_rules.specs.Scopes.{ClassSig}
+use Rattle.type_rules.specs.ProgramTyping.{AreTypedMembers}
 use Rattle.accepted_laws.specs.Calls.{function_words}
 use Rattle.accepted_laws.proofs.Lists.{first_here, first_later}
 use Rattle.accepted_laws.proofs.Once.{names_more}

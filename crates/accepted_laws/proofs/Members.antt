@@ -14,7 +14,7 @@ use Rattle.ulam_heirs.specs.Flat.{flat_members}
 use Rattle.ulam_names.specs.Scopes.{no_names}
 use Rattle.ulam_names.specs.ClassRelation.{own_class}
 use Rattle.ulam_names.specs.Classes.{head_of}
-use Rattle.ulam_types.specs.Programs.{class_sig}
+use Rattle.type_rules.specs.Programs.{class_sig}
 use Rattle.atom_layout.specs.Layouts.{member_bits, widths, class_bits, layout_of, class_at}
 use Rattle.accepted_laws.specs.Accepted.{AcceptedTrees, heirs}
 use Rattle.accepted_laws.specs.Data.{DataMember, data_members, data_of, HasMembersOf}

@@ -13,9 +13,9 @@ use Rattle.ulam_heirs.specs.Files.{heirs_in, all_heirs, class_count, flat_class,
 use Rattle.ulam_names.specs.Scopes.{Head, no_names}
 use Rattle.ulam_names.specs.Classes.{Known, HalfClass, head_of}
 use Rattle.ulam_names.specs.ClassRelation.{AreMembers, AreItems, own_class, AreWhole, AreClasses}
-use Rattle.ulam_types.specs.Scopes.{ClassSig}
-use Rattle.ulam_types.specs.Programs.{class_sig}
-use Rattle.ulam_types.specs.ProgramTyping.{AreTypedMembers, AreTypedClasses}
+use Rattle.type_rules.specs.Scopes.{ClassSig}
+use Rattle.type_rules.specs.Programs.{class_sig}
+use Rattle.type_rules.specs.ProgramTyping.{AreTypedMembers, AreTypedClasses}
 use Rattle.element_set.proofs.EnoughFiles.{in_row}
 use Rattle.accepted_laws.specs.Accepted.{AcceptedTrees, heirs}
 use Rattle.accepted_laws.proofs.Lists.{changed_place}

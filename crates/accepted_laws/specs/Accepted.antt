@@ -10,7 +10,7 @@ use Rattle.ulam_heirs.specs.Faults.{files_fault}
 use Rattle.ulam_heirs.specs.Files.{all_heirs}
 use Rattle.ulam_names.specs.ClassRelation.{IsResolved}
 use Rattle.atom_layout.specs.Layouts.{layout_of}
-use Rattle.ulam_types.specs.ProgramTyping.{IsTypedProgram}
+use Rattle.type_rules.specs.ProgramTyping.{IsTypedProgram}
 use Rattle.element_set.specs.Sets.{SetValue}
 use Rattle.element_set.specs.Told.{flat_row}
 use Rattle.element_set.specs.Stages.{more_trees, no_trees}

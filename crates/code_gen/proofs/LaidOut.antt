@@ -10,9 +10,9 @@ use Rattle.atom_layout.specs.declared.fault.LayoutFault.{LayoutFault}
 use Rattle.atom_layout.specs.Layouts.{member_bits, widths, bits_within, class_bits, total, layout_of, fault_in, first_of, first_wide}
 use Rattle.atom_layout.proofs.Depth.{width_is}
 use Rattle.atom_layout.proofs.Told.{narrow_by}
-use Rattle.ulam_types.specs.declared.scope.FieldSig.{FieldSig}
-use Rattle.ulam_types.specs.Scopes.{ClassSig}
-use Rattle.ulam_types.specs.Programs.{fields_of, class_sig}
+use Rattle.type_rules.specs.declared.scope.FieldSig.{FieldSig}
+use Rattle.type_rules.specs.Scopes.{ClassSig}
+use Rattle.type_rules.specs.Programs.{fields_of, class_sig}
 use Rattle.ulam_meaning.specs.Programs.{Program, Field, fields}
 use Rattle.ulam_meaning.specs.Laws.{bits_of, IsLaidOut}
 

@@ -12,10 +12,10 @@ use Rattle.ulam_tree.specs.declared.op.PrefixOp.{PrefixOp}
 use Rattle.ulam_tree.specs.declared.op.PrefixOp.TheVariants as pre
 use Rattle.ulam_tree.specs.declared.op.PairOp.{PairOp}
 use Rattle.ulam_tree.specs.declared.op.PairOp.TheVariants as op
-use Rattle.ulam_types.specs.declared.scope.NumClass.{NumClass}
-use Rattle.ulam_types.specs.declared.scope.NumClass.TheVariants.{Int, Unsigned, Bits, Bool as Truth, Other}
-use Rattle.ulam_types.specs.Scopes.{Scope, is_element}
-use Rattle.ulam_types.specs.Rows.{int, unsigned_type, bits, bool, class_by, class_of, plain_type, wide, arith_type, order_type, equal_type, bits_type, shift_type, truth_type, pair_type, prefix_by, prefix_type, cast_type, is_atom, is_index_class, is_index, is_truth_class, is_truth, is_unsigned_class, is_unsigned, fits_number, same_class, assignable}
+use Rattle.type_rules.specs.declared.scope.NumClass.{NumClass}
+use Rattle.type_rules.specs.declared.scope.NumClass.TheVariants.{Int, Unsigned, Bits, Bool as Truth, Other}
+use Rattle.type_rules.specs.Scopes.{Scope, is_element}
+use Rattle.type_rules.specs.Rows.{int, unsigned_type, bits, bool, class_by, class_of, plain_type, wide, arith_type, order_type, equal_type, bits_type, shift_type, truth_type, pair_type, prefix_by, prefix_type, cast_type, is_atom, is_index_class, is_index, is_truth_class, is_truth, is_unsigned_class, is_unsigned, fits_number, same_class, assignable}
 use Rattle.ulam_meaning.specs.Values.{width_of}
 use Rattle.stack_code.specs.Sorts.{num_type}
 use Rattle.stack_code.specs.Valid.{type_fits, args_fit}

@@ -8,11 +8,11 @@ use Rattle.ulam_tree.specs.declared.resolved.Step.{Step}
 use Rattle.ulam_tree.specs.declared.resolved.Step.TheVariants.{Local}
 use Rattle.ulam_tree.specs.Typed as t
 use Rattle.ulam_tree.specs.Locals.{all_locals}
-use Rattle.ulam_types.specs.Scopes as s
-use Rattle.ulam_types.specs.Rows.{is_void}
-use Rattle.ulam_types.specs.Bodies.{atom_slot, atom_slot_by, is_element_type}
-use Rattle.ulam_types.specs.Programs.{class_sig, param_type}
-use Rattle.ulam_types.specs.Well.{IsWellCond, IsWellStatement, IsWellPart, IsWellBody, AreWellMembers, AreWellClasses, IsWellProgram}
+use Rattle.type_rules.specs.Scopes as s
+use Rattle.type_rules.specs.Rows.{is_void}
+use Rattle.type_rules.specs.Bodies.{atom_slot, atom_slot_by, is_element_type}
+use Rattle.type_rules.specs.Programs.{class_sig, param_type}
+use Rattle.type_rules.specs.Well.{IsWellCond, IsWellStatement, IsWellPart, IsWellBody, AreWellMembers, AreWellClasses, IsWellProgram}
 use Rattle.ulam_meaning.specs.Programs.{Program, Function, no_function, param_types, functions, field_at, function_at, slot_types}
 use Rattle.ulam_meaning.specs.Paths.{spot, Key, function_of, callee, Scene, scene_of}
 use Rattle.ulam_meaning.specs.Laws.{IsLaidOut}

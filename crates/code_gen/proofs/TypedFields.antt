@@ -6,9 +6,9 @@ use Rattle.ulam_tree.specs.Resolved as r
 use Rattle.ulam_tree.specs.Typed as t
 use Rattle.ulam_tree.specs.Ways.{NoneContainsItself}
 use Rattle.atom_layout.specs.Layouts.{first_wide, layout_of}
-use Rattle.ulam_types.specs.Scopes.{ClassSig}
-use Rattle.ulam_types.specs.Programs.{class_sig}
-use Rattle.ulam_types.specs.ProgramTyping.{IsTypedMember, AreTypedMembers, AreTypedClasses, IsTypedProgram}
+use Rattle.type_rules.specs.Scopes.{ClassSig}
+use Rattle.type_rules.specs.Programs.{class_sig}
+use Rattle.type_rules.specs.ProgramTyping.{IsTypedMember, AreTypedMembers, AreTypedClasses, IsTypedProgram}
 use Rattle.ulam_meaning.specs.Programs.{fields}
 use Rattle.ulam_meaning.specs.Laws.{IsLaidOut, SameFields}
 use Rattle.ulam_meaning.proofs.Layouts.{laid_out}

@@ -9,11 +9,11 @@ use Rattle.ulam_tree.specs.declared.resolved.Built.TheVariants as b
 use Rattle.ulam_tree.specs.declared.op.PairOp.{PairOp}
 use Rattle.ulam_tree.specs.declared.op.PairOp.TheVariants as op
 use Rattle.ulam_tree.specs.Typed as t
-use Rattle.ulam_types.specs.declared.scope.Want.{Want}
-use Rattle.ulam_types.specs.declared.scope.Want.TheVariants.{Value, Site, Bound}
-use Rattle.ulam_types.specs.Scopes as s
-use Rattle.ulam_types.specs.Rows.{unsigned_type, bool, plain_type, kind_from, pair_type, is_unsigned, is_species, instance_type, is_void, suits, all_suit, built_result, result_of}
-use Rattle.ulam_types.specs.Well.{count, IsNumberType, IsWell, IsWellForm, AreWell, IsWellIndex, IsWellAssigned, IsWellTest, IfSome, IsWellValue, IsWellResult}
+use Rattle.type_rules.specs.declared.scope.Want.{Want}
+use Rattle.type_rules.specs.declared.scope.Want.TheVariants.{Value, Site, Bound}
+use Rattle.type_rules.specs.Scopes as s
+use Rattle.type_rules.specs.Rows.{unsigned_type, bool, plain_type, kind_from, pair_type, is_unsigned, is_species, instance_type, is_void, suits, all_suit, built_result, result_of}
+use Rattle.type_rules.specs.Well.{count, IsNumberType, IsWell, IsWellForm, AreWell, IsWellIndex, IsWellAssigned, IsWellTest, IfSome, IsWellValue, IsWellResult}
 use Rattle.ulam_meaning.specs.Programs.{Program, field_at}
 use Rattle.ulam_meaning.specs.Paths.{Spot, spot, Key, function_of, Callee, called, built_in, no_callee, callee, Scene, spot_type}
 use Rattle.ulam_meaning.specs.Values.{number_type, width_of, arith_of, arith_with}

@@ -8,10 +8,10 @@ use Rattle.ulam_tree.specs.declared.resolved.Ty.TheVariants as y
 use Rattle.ulam_tree.specs.declared.resolved.Step.{Step}
 use Rattle.ulam_tree.specs.declared.resolved.Step.TheVariants.{Own, Local, Member, Function as AFunction, Constant, Built as ABuilt}
 use Rattle.ulam_tree.specs.Typed as t
-use Rattle.ulam_types.specs.declared.scope.Want.TheVariants.{Value}
-use Rattle.ulam_types.specs.declared.scope.FieldSig.{FieldSig}
-use Rattle.ulam_types.specs.Scopes as s
-use Rattle.ulam_types.specs.Programs.{fields_of, functions_of, want_of, class_sig}
+use Rattle.type_rules.specs.declared.scope.Want.TheVariants.{Value}
+use Rattle.type_rules.specs.declared.scope.FieldSig.{FieldSig}
+use Rattle.type_rules.specs.Scopes as s
+use Rattle.type_rules.specs.Programs.{fields_of, functions_of, want_of, class_sig}
 use Rattle.ulam_meaning.specs.Programs.{Field, Function, no_field, no_function, param_types, fields, functions, members_of, field_at, function_at}
 use Rattle.ulam_meaning.specs.Paths.{Span, Spot, local, member, part, window, field_spot, bit_of, through, spot, function_of, Callee, called, built_in, callee, Scene, spot_type}
 use Rattle.stack_code.specs.Valid.{type_fits}

@@ -5,7 +5,7 @@ use Rattle.std.specs.declared.alloc.Global.{Global}
 use Rattle.feast_base.specs.Places.{no_place}
 use Rattle.feast_base.specs.declared.place.Place.{Place}
 use Rattle.ulam_tree.specs.Typed as t
-use Rattle.ulam_types.specs.Well.{IsWellProgram}
+use Rattle.type_rules.specs.Well.{IsWellProgram}
 use Rattle.stack_code.specs.Machine.{CodeValue}
 use Rattle.stack_code.specs.Valid.{valid}
 use Rattle.ulam_meaning.specs.Programs.{Program, element_classes, number_of, element_of}

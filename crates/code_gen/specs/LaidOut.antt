@@ -4,7 +4,7 @@ use Rattle.ulam_tree.specs.Resolved as r
 use Rattle.ulam_tree.specs.Typed as t
 use Rattle.ulam_tree.specs.Ways.{NoneContainsItself}
 use Rattle.atom_layout.specs.Layouts.{layout_of, first_wide}
-use Rattle.ulam_types.specs.Programs.{class_sig}
+use Rattle.type_rules.specs.Programs.{class_sig}
 use Rattle.ulam_meaning.specs.Programs.{Program}
 
 -- the program of typed classes with the layout of others

@@ -3,7 +3,7 @@ ghost use Rattle.std.specs.Prelude.{◌≡◌, ◌⊎◌, ℕ, suc, List, Some, 
 ghost use Rattle.stack_code.specs.Valid.{Kinds};
 ghost use Rattle.ulam_tree.specs.Resolved as resolved;
 ghost use Rattle.ulam_tree.specs.Typed as typed;
-ghost use Rattle.ulam_types.specs.Well.{IsWellProgram};
+ghost use Rattle.type_rules.specs.Well.{IsWellProgram};
 ghost use Rattle.ulam_meaning.specs.Programs.{Program, element_of};
 ghost use Rattle.ulam_meaning.specs.Laws.{IsLaidOut};
 ghost use Rattle.ulam_meaning.specs.Events.{behave_key};

@@ -3,9 +3,9 @@ use Rattle.std.proofs.Common.{ℕ, suc, ◌≡◌, ◌+◌, List, [], ◌∷◌,
 use Rattle.ulam_tree.specs.Resolved as r
 use Rattle.ulam_tree.specs.Typed as t
 use Rattle.atom_layout.specs.Layouts.{widths, class_bits, layout_of}
-use Rattle.ulam_types.specs.Scopes.{ClassSig}
-use Rattle.ulam_types.specs.Programs.{class_sig}
-use Rattle.ulam_types.specs.ProgramTyping.{AreTypedMembers, AreTypedClasses, IsTypedProgram}
+use Rattle.type_rules.specs.Scopes.{ClassSig}
+use Rattle.type_rules.specs.Programs.{class_sig}
+use Rattle.type_rules.specs.ProgramTyping.{AreTypedMembers, AreTypedClasses, IsTypedProgram}
 use Rattle.element_set.specs.Kept.{Fits}
 use Rattle.element_set.specs.Names.{field_count, counts, AreSlim}
 

@@ -9,9 +9,9 @@ use Rattle.ulam_names.specs.Scopes.{Head, Names, no_names, is_among, names_of}
 use Rattle.ulam_names.specs.declared.limits.TheConstants.{MOST_CLASSES, MOST_MEMBERS}
 use Rattle.ulam_names.specs.Classes.{Known, Half, half_field, half_function, HalfClass}
 use Rattle.ulam_names.specs.ClassRelation.{IsMember, AreMembers, AreKnown, AreItems, own_class, AreWhole, AreClasses, IsResolved}
-use Rattle.ulam_types.specs.Scopes.{ClassSig}
-use Rattle.ulam_types.specs.Programs.{class_sig}
-use Rattle.ulam_types.specs.ProgramTyping.{AreTypedMembers, AreTypedClasses, IsTypedProgram}
+use Rattle.type_rules.specs.Scopes.{ClassSig}
+use Rattle.type_rules.specs.Programs.{class_sig}
+use Rattle.type_rules.specs.ProgramTyping.{AreTypedMembers, AreTypedClasses, IsTypedProgram}
 use Rattle.element_set.specs.Names.{class_names, AreNew, field_count, counts, AreSlim, AreNamed}
 
 abbrev pub half_names : List HalfClass → List (List ℕ)

@@ -42,8 +42,8 @@ use Rattle.ulam_names.proofs.ClassMeans.{some_resolution}
 use Rattle.atom_layout.specs.declared.fault.LayoutFault.{LayoutFault}
 use Rattle.atom_layout.specs.declared.fault.LayoutFault.TheVariants as l
 use Rattle.atom_layout.specs.Layouts.{fault_in, first_of, first_wide, layout_of, capped_bits, total}
-use Rattle.ulam_types.specs.Programs.{first_fault as first_type_fault}
-use Rattle.ulam_types.specs.Faults.{Fault as TypeFault}
+use Rattle.type_rules.specs.Programs.{first_fault as first_type_fault}
+use Rattle.type_rules.specs.Faults.{Fault as TypeFault}
 use Rattle.code_gen.proofs.ElementCodes.{all_or_first}
 use Rattle.ulam_types.proofs.Classes.{some_typed}
 use Rattle.code_gen.specs.Compiling.{AreShort, IsFirstLong, long_place}

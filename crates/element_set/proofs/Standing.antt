@@ -23,8 +23,8 @@ use Rattle.ulam_names.specs.Faults.{declared_twice, unknown_name, cyclic_quark, 
 use Rattle.ulam_names.specs.Faults as n
 use Rattle.atom_layout.specs.declared.fault.LayoutFault.{LayoutFault}
 use Rattle.atom_layout.specs.declared.fault.LayoutFault.TheVariants as l
-use Rattle.ulam_types.specs.Faults.{wrong_type, mixed_signs, not_assignable, wrong_count, bad_as, break_outside, missing_return}
-use Rattle.ulam_types.specs.Faults as y
+use Rattle.type_rules.specs.Faults.{wrong_type, mixed_signs, not_assignable, wrong_count, bad_as, break_outside, missing_return}
+use Rattle.type_rules.specs.Faults as y
 use Rattle.fault_places.specs.Common.{OfPlace, IfAny, Each}
 use Rattle.fault_places.specs.Faults.{LexPlace, ParsePlace, HeirsPlace, NamesPlace, LayoutPlace, TypesPlace}
 use Rattle.fault_places.specs.Heads.{TokenPlaces, HeadsPlaces}

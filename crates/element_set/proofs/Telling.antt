@@ -20,7 +20,7 @@ use Rattle.ulam_tree.proofs.Means.{means_at}
 use Rattle.ulam_names.specs.Shown.{Fails as NameFails}
 use Rattle.ulam_names.specs.declared.fault.NameFault.{NameFault}
 use Rattle.ulam_names.specs.declared.fault.NameFault.TheVariants as n
-use Rattle.ulam_types.specs.Programs as types
+use Rattle.type_rules.specs.Programs as types
 use Rattle.ulam_types.specs.Shown.{Fails as TypeFails}
 use Rattle.ulam_types.specs.declared.fault.TypeFault.{TypeFault}
 use Rattle.ulam_types.specs.declared.fault.TypeFault.TheVariants as t

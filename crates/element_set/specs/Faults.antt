@@ -15,8 +15,8 @@ use Rattle.ulam_names.specs.declared.fault.NameFault.{NameFault}
 use Rattle.ulam_names.specs.declared.fault.NameFault.TheVariants as m
 use Rattle.atom_layout.specs.declared.fault.LayoutFault.{LayoutFault}
 use Rattle.atom_layout.specs.declared.fault.LayoutFault.TheVariants as l
-use Rattle.ulam_types.specs.Faults.{wrong_type, mixed_signs, not_assignable, wrong_count, bad_as, break_outside, missing_return}
-use Rattle.ulam_types.specs.Faults as t
+use Rattle.type_rules.specs.Faults.{wrong_type, mixed_signs, not_assignable, wrong_count, bad_as, break_outside, missing_return}
+use Rattle.type_rules.specs.Faults as t
 use Rattle.ulam_types.specs.declared.fault.TypeFault.{TypeFault}
 use Rattle.ulam_types.specs.declared.fault.TypeFault.TheVariants as u
 use Rattle.code_gen.specs.declared.fault.GenFault.{GenFault}

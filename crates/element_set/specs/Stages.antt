@@ -21,9 +21,9 @@ use Rattle.ulam_names.specs.Faults.{Fault as NameFault}
 use Rattle.ulam_names.specs.Classes.{first_fault as first_name_fault}
 use Rattle.atom_layout.specs.declared.fault.LayoutFault.{LayoutFault}
 use Rattle.atom_layout.specs.Layouts.{layout_of, first_wide}
-use Rattle.ulam_types.specs.ProgramTyping.{IsTypedProgram}
-use Rattle.ulam_types.specs.Faults.{Fault as TypeFault}
-use Rattle.ulam_types.specs.Programs.{first_fault as first_type_fault}
+use Rattle.type_rules.specs.ProgramTyping.{IsTypedProgram}
+use Rattle.type_rules.specs.Faults.{Fault as TypeFault}
+use Rattle.type_rules.specs.Programs.{first_fault as first_type_fault}
 use Rattle.code_gen.specs.Compiling.{AreShort, IsFirstLong, long_place}
 use Rattle.ulam_tree.specs.Raw.{Item}
 use Rattle.ulam_tree.specs.Resolved as r

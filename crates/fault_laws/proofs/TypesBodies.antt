@@ -13,13 +13,13 @@ use Rattle.ulam_tree.specs.Typed as t
 use Rattle.ulam_tree.specs.Found.{◌>>=◌, value_or_fault, must}
 use Rattle.ulam_tree.specs.Completes.{completes, all_complete}
 use Rattle.ulam_tree.proofs.Means.{Means, means_at, means_then, means_found, means_must}
-use Rattle.ulam_types.specs.Faults.{Fault, Found, wrong_type, mixed_signs, not_assignable, bad_as, break_outside}
-use Rattle.ulam_types.specs.Scopes.{Scope, in_loop, scope_as, is_value, target_type}
-use Rattle.ulam_types.specs.Rows.{class_of, kind_from, plain_type, pair_type, pair_fault, pair_found, are_mixed, is_truth, is_void, assignable}
-use Rattle.ulam_types.specs.Walk.{plain, place_of, count, index_by, expr, args, call}
-use Rattle.ulam_types.specs.Bodies as b
-use Rattle.ulam_types.specs.Bodies.{atom_slot, is_element_type}
-use Rattle.ulam_types.specs.Typing.{IsTyped, IsLeftBy, IsLeftSide}
+use Rattle.type_rules.specs.Faults.{Fault, Found, wrong_type, mixed_signs, not_assignable, bad_as, break_outside}
+use Rattle.type_rules.specs.Scopes.{Scope, in_loop, scope_as, is_value, target_type}
+use Rattle.type_rules.specs.Rows.{class_of, kind_from, plain_type, pair_type, pair_fault, pair_found, are_mixed, is_truth, is_void, assignable}
+use Rattle.type_rules.specs.Walk.{plain, place_of, count, index_by, expr, args, call}
+use Rattle.type_rules.specs.Bodies as b
+use Rattle.type_rules.specs.Bodies.{atom_slot, is_element_type}
+use Rattle.type_rules.specs.Typing.{IsTyped, IsLeftBy, IsLeftSide}
 use Rattle.ulam_types.proofs.Exprs.{expr_means, index_means}
 use Rattle.fault_laws.specs.TypesRows.{IsBool, Takes, AreMixed, Compares, IsRefused}
 use Rattle.fault_laws.specs.TypesParts.{Part, a_statement, a_condition, a_left, a_value, an_expr, IsIn, Stops, returning, breaking, continuing, inside, in_both, Sees, TypedLeft, Stands, in_block, in_first, in_else, in_while, in_for, for_first, for_step, if_asks, while_asks, for_asks, assigned, counted, assigned_value, declared_value, returned_value, left_item, done_call, of_condition, of_item, of_value, of_return, of_update, of_call}

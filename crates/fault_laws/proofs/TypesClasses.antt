@@ -5,10 +5,10 @@ use Rattle.sat_math.specs.declared.Kind.{Kind}
 use Rattle.sat_math.specs.declared.Kind.TheVariants as k
 use Rattle.ulam_tree.specs.declared.resolved.Ty.{Ty}
 use Rattle.ulam_tree.specs.declared.resolved.Ty.TheVariants.{Num, Atom, Empty, Nothing, Window, Random, Class}
-use Rattle.ulam_types.specs.declared.scope.NumClass.TheVariants.{Int, Unsigned, Bits, Bool as Truth}
-use Rattle.ulam_types.specs.Scopes.{Scope, ClassSig, is_element_class, is_element, is_value}
-use Rattle.ulam_types.specs.Rows.{class_by, class_of, is_atom, is_species, is_index, is_index_class, is_truth, is_truth_class, is_void}
-use Rattle.ulam_types.specs.Bodies.{is_element_type}
+use Rattle.type_rules.specs.declared.scope.NumClass.TheVariants.{Int, Unsigned, Bits, Bool as Truth}
+use Rattle.type_rules.specs.Scopes.{Scope, ClassSig, is_element_class, is_element, is_value}
+use Rattle.type_rules.specs.Rows.{class_by, class_of, is_atom, is_species, is_index, is_index_class, is_truth, is_truth_class, is_void}
+use Rattle.type_rules.specs.Bodies.{is_element_type}
 use Rattle.fault_laws.specs.TypesRows.{IsNumber, IsOf, IsInt, IsUnsigned, IsBits, IsBool, IsElement, IsAtom, IsSpecies, IsValue, IsIndex}
 
 -- a rule that a test of the table refuses

@@ -1,8 +1,8 @@
 -- The examples have their faults.
 use Rattle.std.proofs.Common.{refl}
 use Rattle.ulam_tree.specs.Locals.{locals}
-use Rattle.ulam_types.specs.Walk.{expr}
-use Rattle.ulam_types.specs.Bodies.{statement}
+use Rattle.type_rules.specs.Walk.{expr}
+use Rattle.type_rules.specs.Bodies.{statement}
 use Rattle.fault_laws.specs.TypesExample.{HasTypeExamples}
 
 pub type_examples : HasTypeExamples

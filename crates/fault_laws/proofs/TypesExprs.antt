@@ -10,12 +10,12 @@ use Rattle.ulam_tree.specs.Resolved as r
 use Rattle.ulam_tree.specs.Typed as t
 use Rattle.ulam_tree.specs.Found.{◌>>=◌, value_or_fault, must}
 use Rattle.ulam_tree.proofs.Means.{means_at}
-use Rattle.ulam_types.specs.declared.scope.Want.{Want}
-use Rattle.ulam_types.specs.Faults.{Fault, Found, wrong_type, mixed_signs, not_assignable, wrong_count, bad_as}
-use Rattle.ulam_types.specs.Scopes.{Scope, FunctionSig, Callee, function, built, is_value, value_type, item_type, callee, wants_of}
-use Rattle.ulam_types.specs.Rows.{class_of, kind_from, beside, plain_fits, pair_type, are_mixed, takes_signs, pair_fault, prefix_type, cast_type, is_atom, is_species, is_index, taken_want, all_suit, is_built, misfit}
-use Rattle.ulam_types.specs.Walk.{plain, count, number, arguments_by, call_found, called_by, index_by, right_first, left_first, operands, pair_by, expr, args}
-use Rattle.ulam_types.specs.Typing.{IsTyped, AreTyped, IsCall}
+use Rattle.type_rules.specs.declared.scope.Want.{Want}
+use Rattle.type_rules.specs.Faults.{Fault, Found, wrong_type, mixed_signs, not_assignable, wrong_count, bad_as}
+use Rattle.type_rules.specs.Scopes.{Scope, FunctionSig, Callee, function, built, is_value, value_type, item_type, callee, wants_of}
+use Rattle.type_rules.specs.Rows.{class_of, kind_from, beside, plain_fits, pair_type, are_mixed, takes_signs, pair_fault, prefix_type, cast_type, is_atom, is_species, is_index, taken_want, all_suit, is_built, misfit}
+use Rattle.type_rules.specs.Walk.{plain, count, number, arguments_by, call_found, called_by, index_by, right_first, left_first, operands, pair_by, expr, args}
+use Rattle.type_rules.specs.Typing.{IsTyped, AreTyped, IsCall}
 use Rattle.ulam_types.proofs.Exprs.{expr_any, expr_means, args_mean, called_means}
 use Rattle.ulam_types.proofs.Operands.{operands_mean}
 use Rattle.fault_laws.specs.TypesRows.{AreMixed, IsForNumbers, IsRefused, Calls}

@@ -8,13 +8,13 @@ use Rattle.ulam_tree.specs.declared.resolved.Step.{Step}
 use Rattle.ulam_tree.specs.declared.resolved.Step.TheVariants.{Own, Local, Member, Function, Constant, Built as Builtin}
 use Rattle.ulam_tree.specs.Resolved as r
 use Rattle.ulam_tree.specs.Typed as t
-use Rattle.ulam_types.specs.declared.scope.Want.{Want}
-use Rattle.ulam_types.specs.declared.scope.Want.TheVariants.{Value, Site, Bound}
-use Rattle.ulam_types.specs.declared.scope.FieldSig.{FieldSig}
-use Rattle.ulam_types.specs.Scopes.{Scope, FunctionSig, ClassSig, Callee, function, built, field_in, function_in, number_by, number_field, item_of, item_field, last_step, begins_local, callee_function, is_value, if_value, slot_type, field_at, value_by, value_type, target_by, target_type, item_by, item_type, function_at, callee_by, callee}
-use Rattle.ulam_types.specs.Rows.{taken_want, is_unsigned, is_unsigned_class, suits, all_suit}
-use Rattle.ulam_types.specs.Bodies.{atom_slot_by, atom_slot}
-use Rattle.ulam_types.specs.Typing.{IsTyped, AreTyped}
+use Rattle.type_rules.specs.declared.scope.Want.{Want}
+use Rattle.type_rules.specs.declared.scope.Want.TheVariants.{Value, Site, Bound}
+use Rattle.type_rules.specs.declared.scope.FieldSig.{FieldSig}
+use Rattle.type_rules.specs.Scopes.{Scope, FunctionSig, ClassSig, Callee, function, built, field_in, function_in, number_by, number_field, item_of, item_field, last_step, begins_local, callee_function, is_value, if_value, slot_type, field_at, value_by, value_type, target_by, target_type, item_by, item_type, function_at, callee_by, callee}
+use Rattle.type_rules.specs.Rows.{taken_want, is_unsigned, is_unsigned_class, suits, all_suit}
+use Rattle.type_rules.specs.Bodies.{atom_slot_by, atom_slot}
+use Rattle.type_rules.specs.Typing.{IsTyped, AreTyped}
 use Rattle.fault_laws.specs.TypesRows.{IsNumber, IsUnsigned, IsElement, IsValue, IsLocal, IsField, IsFunction, IsNumberField, MayBeLeft, HasValue, HasItems, CallsBy, Calls, Suits}
 use Rattle.fault_laws.specs.TypesParts.{IsArg, IsAtomLocal}
 use Rattle.fault_laws.specs.Types.{Misfit}

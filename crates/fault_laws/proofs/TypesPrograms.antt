@@ -10,12 +10,12 @@ use Rattle.ulam_tree.specs.Resolved as r
 use Rattle.ulam_tree.specs.Typed as t
 use Rattle.ulam_tree.specs.Found.{◌>>=◌, must}
 use Rattle.ulam_tree.specs.Completes.{all_complete}
-use Rattle.ulam_types.specs.Faults.{Fault, Found, wrong_type, missing_return}
-use Rattle.ulam_types.specs.Scopes.{Scope, is_value}
-use Rattle.ulam_types.specs.Rows.{is_void}
-use Rattle.ulam_types.specs.Bodies as b
-use Rattle.ulam_types.specs.Programs as p
-use Rattle.ulam_types.specs.Programs.{class_sig, scope_of, first_fault}
+use Rattle.type_rules.specs.Faults.{Fault, Found, wrong_type, missing_return}
+use Rattle.type_rules.specs.Scopes.{Scope, is_value}
+use Rattle.type_rules.specs.Rows.{is_void}
+use Rattle.type_rules.specs.Bodies as b
+use Rattle.type_rules.specs.Programs as p
+use Rattle.type_rules.specs.Programs.{class_sig, scope_of, first_fault}
 use Rattle.fault_laws.specs.TypesRows.{IsValue}
 use Rattle.fault_laws.specs.TypesParts.{a_function, Stands, in_class, in_body}
 use Rattle.fault_laws.specs.Types.{Breaks, IsWrongType, LacksReturn, FaultHolds}

@@ -9,12 +9,12 @@ use Rattle.ulam_tree.specs.declared.op.PrefixOp.{PrefixOp}
 use Rattle.ulam_tree.specs.declared.op.PrefixOp.TheVariants as pre
 use Rattle.ulam_tree.specs.declared.op.PairOp.{PairOp}
 use Rattle.ulam_tree.specs.declared.op.PairOp.TheVariants as op
-use Rattle.ulam_types.specs.declared.scope.Want.{Want}
-use Rattle.ulam_types.specs.declared.scope.Want.TheVariants.{Value, Site, Bound}
-use Rattle.ulam_types.specs.declared.scope.NumClass.{NumClass}
-use Rattle.ulam_types.specs.declared.scope.NumClass.TheVariants.{Int, Unsigned, Bits, Bool as Truth, Other}
-use Rattle.ulam_types.specs.Scopes.{Scope}
-use Rattle.ulam_types.specs.Rows.{class_of, taken_by, kind_from, taken_want, plain_fits, arith_type, order_type, equal_type, bits_type, shift_type, truth_type, pair_type, are_mixed, takes_signs, prefix_by, prefix_type, cast_type, fits_number, same_class, assignable}
+use Rattle.type_rules.specs.declared.scope.Want.{Want}
+use Rattle.type_rules.specs.declared.scope.Want.TheVariants.{Value, Site, Bound}
+use Rattle.type_rules.specs.declared.scope.NumClass.{NumClass}
+use Rattle.type_rules.specs.declared.scope.NumClass.TheVariants.{Int, Unsigned, Bits, Bool as Truth, Other}
+use Rattle.type_rules.specs.Scopes.{Scope}
+use Rattle.type_rules.specs.Rows.{class_of, taken_by, kind_from, taken_want, plain_fits, arith_type, order_type, equal_type, bits_type, shift_type, truth_type, pair_type, are_mixed, takes_signs, prefix_by, prefix_type, cast_type, fits_number, same_class, assignable}
 use Rattle.fault_laws.specs.TypesRows.{IsNumber, IsUnsigned, IsBits, IsBool, AreNumbers, AreMixed, AreAlike, Takes, IsForNumbers, IsRefused, TakesOne, IsTooLarge, IsTakenFrom, TakesNumber, IsAssignable}
 use Rattle.fault_laws.specs.TypesParts.{IsWanted}
 use Rattle.fault_laws.proofs.TypesClasses.{refuted_none, element_true, atom_true, int_class, unsigned_class, bits_class, bool_class, int_is, unsigned_is, bits_is}

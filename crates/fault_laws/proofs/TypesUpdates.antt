@@ -8,10 +8,10 @@ use Rattle.ulam_tree.specs.declared.resolved.Ty.{Ty}
 use Rattle.ulam_tree.specs.declared.resolved.Ty.TheVariants.{Num, Atom, Empty, Nothing, Window, Random, Class}
 use Rattle.ulam_tree.specs.declared.op.PairOp.{PairOp}
 use Rattle.ulam_tree.specs.declared.op.PairOp.TheVariants as op
-use Rattle.ulam_types.specs.declared.scope.NumClass.{NumClass}
-use Rattle.ulam_types.specs.declared.scope.NumClass.TheVariants.{Int, Unsigned, Bits, Bool as Truth, Other}
-use Rattle.ulam_types.specs.Scopes.{Scope}
-use Rattle.ulam_types.specs.Rows.{bool, class_by, class_of, taken_by, kind_from, plain_type, arith_type, order_type, equal_type, bits_type, shift_type, truth_type, pair_type, are_mixed, fits_number, assignable}
+use Rattle.type_rules.specs.declared.scope.NumClass.{NumClass}
+use Rattle.type_rules.specs.declared.scope.NumClass.TheVariants.{Int, Unsigned, Bits, Bool as Truth, Other}
+use Rattle.type_rules.specs.Scopes.{Scope}
+use Rattle.type_rules.specs.Rows.{bool, class_by, class_of, taken_by, kind_from, plain_type, arith_type, order_type, equal_type, bits_type, shift_type, truth_type, pair_type, are_mixed, fits_number, assignable}
 use Rattle.fault_laws.specs.TypesRows.{IsInt, IsUnsigned, IsBool, AreNumbers, AreAlike, Takes, Compares}
 use Rattle.fault_laws.proofs.TypesClasses.{int_class, unsigned_class, int_is, unsigned_is, bits_is, bool_is}
 

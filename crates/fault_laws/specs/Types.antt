@@ -9,12 +9,12 @@ use Rattle.ulam_tree.specs.declared.resolved.Built.{Built}
 use Rattle.ulam_tree.specs.declared.op.PairOp.{PairOp}
 use Rattle.ulam_tree.specs.Resolved as r
 use Rattle.ulam_tree.specs.Typed as t
-use Rattle.ulam_types.specs.declared.scope.Want.{Want}
-use Rattle.ulam_types.specs.Faults.{Fault, wrong_type, mixed_signs, not_assignable, wrong_count, bad_as, break_outside, missing_return}
-use Rattle.ulam_types.specs.Scopes.{Scope, FunctionSig, Callee, function, built, last_step, built_wants, wants_of}
-use Rattle.ulam_types.specs.Walk.{plain, place_of, count}
-use Rattle.ulam_types.specs.Programs.{first_fault}
-use Rattle.ulam_types.specs.Typing.{IsTyped, IsCall}
+use Rattle.type_rules.specs.declared.scope.Want.{Want}
+use Rattle.type_rules.specs.Faults.{Fault, wrong_type, mixed_signs, not_assignable, wrong_count, bad_as, break_outside, missing_return}
+use Rattle.type_rules.specs.Scopes.{Scope, FunctionSig, Callee, function, built, last_step, built_wants, wants_of}
+use Rattle.type_rules.specs.Walk.{plain, place_of, count}
+use Rattle.type_rules.specs.Programs.{first_fault}
+use Rattle.type_rules.specs.Typing.{IsTyped, IsCall}
 use Rattle.fault_laws.specs.TypesRows.{IsNumber, IsInt, IsUnsigned, IsBool, IsElement, IsAtom, IsSpecies, IsValue, IsIndex, Takes, Compares, AreMixed, IsForNumbers, IsRefused, TakesOne, IsTooLarge, IsTakenFrom, IsAssignable, MayBeLeft, HasValue, HasItems, Calls, Suits}
 use Rattle.fault_laws.specs.TypesParts.{Part, a_function, a_statement, a_condition, a_left, a_value, an_item, a_call, an_expr, IsIn, Stops, IsArg, IsAtomLocal, TypedLeft, IsBeside, IsWanted, Stands}
 

@@ -7,9 +7,9 @@ use Rattle.ulam_tree.specs.declared.resolved.Named.{Named}
 use Rattle.ulam_tree.specs.declared.resolved.Step.TheVariants.{Function}
 use Rattle.ulam_tree.specs.declared.op.PairOp.TheVariants as op
 use Rattle.ulam_tree.specs.Resolved as r
-use Rattle.ulam_types.specs.Faults as f
-use Rattle.ulam_types.specs.Rows.{int}
-use Rattle.ulam_types.specs.Programs.{first_fault}
+use Rattle.type_rules.specs.Faults as f
+use Rattle.type_rules.specs.Rows.{int}
+use Rattle.type_rules.specs.Programs.{first_fault}
 use Rattle.fault_laws.specs.BasesExample.{at, word}
 
 abbrev pub named_type : Ty → ℕ → Named

@@ -12,12 +12,12 @@ use Rattle.ulam_tree.specs.declared.op.PairOp.{PairOp}
 use Rattle.ulam_tree.specs.Raw.{Word}
 use Rattle.ulam_tree.specs.Resolved as r
 use Rattle.ulam_tree.specs.Typed as t
-use Rattle.ulam_types.specs.declared.scope.Want.{Want}
-use Rattle.ulam_types.specs.declared.scope.Want.TheVariants.{Value}
-use Rattle.ulam_types.specs.Scopes.{Scope, Callee, wants_of}
-use Rattle.ulam_types.specs.Walk.{plain, count}
-use Rattle.ulam_types.specs.Programs.{class_sig, scope_of}
-use Rattle.ulam_types.specs.Typing.{IsTyped, IsLeftSide}
+use Rattle.type_rules.specs.declared.scope.Want.{Want}
+use Rattle.type_rules.specs.declared.scope.Want.TheVariants.{Value}
+use Rattle.type_rules.specs.Scopes.{Scope, Callee, wants_of}
+use Rattle.type_rules.specs.Walk.{plain, count}
+use Rattle.type_rules.specs.Programs.{class_sig, scope_of}
+use Rattle.type_rules.specs.Typing.{IsTyped, IsLeftSide}
 use Rattle.fault_laws.specs.TypesRows.{IsElement, IsTakenFrom, IsLocal, Calls}
 
 -- What a rule is about: a function with its result, its name, its parameters and its body; a statement; a condition; a left

@@ -11,10 +11,10 @@ use Rattle.ulam_tree.specs.declared.op.PrefixOp.TheVariants as pre
 use Rattle.ulam_tree.specs.declared.op.PairOp.{PairOp}
 use Rattle.ulam_tree.specs.declared.op.PairOp.TheVariants as op
 use Rattle.ulam_tree.specs.Typed as t
-use Rattle.ulam_types.specs.declared.scope.Want.{Want}
-use Rattle.ulam_types.specs.declared.scope.Want.TheVariants.{Value, Site, Bound}
-use Rattle.ulam_types.specs.declared.scope.FieldSig.{FieldSig}
-use Rattle.ulam_types.specs.Scopes.{Scope, FunctionSig, ClassSig, Callee, function, built, begins_local, last_step}
+use Rattle.type_rules.specs.declared.scope.Want.{Want}
+use Rattle.type_rules.specs.declared.scope.Want.TheVariants.{Value, Site, Bound}
+use Rattle.type_rules.specs.declared.scope.FieldSig.{FieldSig}
+use Rattle.type_rules.specs.Scopes.{Scope, FunctionSig, ClassSig, Callee, function, built, begins_local, last_step}
 
 -- Types
 

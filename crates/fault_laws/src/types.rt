@@ -1,5 +1,5 @@
 //! The faults of types.
-ghost use Rattle.ulam_types.specs.Faults as fault;
+ghost use Rattle.type_rules.specs.Faults as fault;
 ghost use Rattle.fault_laws.specs.Types.{BreaksWhere, IsWrongType, IsMixed, IsUnassignable, IsMiscounted, IsNoElement, IsOutside, LacksReturn};
 ghost use Rattle.fault_laws.specs.TypesExample.{HasTypeExamples};
 

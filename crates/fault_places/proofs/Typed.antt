@@ -9,15 +9,15 @@ use Rattle.ulam_tree.specs.declared.op.PairOp.TheVariants as op
 use Rattle.ulam_tree.specs.Completes.{all_complete}
 use Rattle.ulam_tree.specs.Resolved as r
 use Rattle.ulam_tree.specs.Typed as t
-use Rattle.ulam_types.specs.Faults.{Fault, Found}
-use Rattle.ulam_types.specs.Scopes.{Scope, ClassSig, in_loop, is_value, target_type}
-use Rattle.ulam_types.specs.Rows.{kind_from, plain_type, pair_found, is_truth, is_void, assignable}
-use Rattle.ulam_types.specs.Walk.{plain, expr, call, item}
-use Rattle.ulam_types.specs.Bodies as b
-use Rattle.ulam_types.specs.Bodies.{atom_slot, is_element_type}
-use Rattle.ulam_types.specs.Programs as p
-use Rattle.ulam_types.specs.Programs.{class_sig, scope_of}
-use Rattle.ulam_types.specs.ProgramTyping.{AreTypedClasses, IsTypedProgram}
+use Rattle.type_rules.specs.Faults.{Fault, Found}
+use Rattle.type_rules.specs.Scopes.{Scope, ClassSig, in_loop, is_value, target_type}
+use Rattle.type_rules.specs.Rows.{kind_from, plain_type, pair_found, is_truth, is_void, assignable}
+use Rattle.type_rules.specs.Walk.{plain, expr, call, item}
+use Rattle.type_rules.specs.Bodies as b
+use Rattle.type_rules.specs.Bodies.{atom_slot, is_element_type}
+use Rattle.type_rules.specs.Programs as p
+use Rattle.type_rules.specs.Programs.{class_sig, scope_of}
+use Rattle.type_rules.specs.ProgramTyping.{AreTypedClasses, IsTypedProgram}
 use Rattle.fault_places.specs.Common.{OfPlace, IfAny, Each}
 use Rattle.fault_places.specs.Faults.{TypesPlace}
 use Rattle.fault_places.specs.Resolved.{ExprPlaces, CondPlaces, StatementPlaces, PartPlaces, BodyPlaces, ParamPlaces, MemberPlaces, ClassPlaces, NamePlace, ProgramPlaces}

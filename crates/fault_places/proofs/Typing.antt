@@ -8,11 +8,11 @@ use Rattle.ulam_tree.specs.declared.op.PairOp.{PairOp}
 use Rattle.ulam_tree.specs.Resolved as r
 use Rattle.ulam_tree.specs.Typed as t
 use Rattle.ulam_tree.specs.Found.{◌>>=◌}
-use Rattle.ulam_types.specs.declared.scope.Want.{Want}
-use Rattle.ulam_types.specs.Faults.{wrong_type, mixed_signs, Found}
-use Rattle.ulam_types.specs.Scopes.{Scope, is_value, value_type, item_type, callee, wants_of}
-use Rattle.ulam_types.specs.Rows.{kind_from, plain_fits, pair_type, pair_fault, pair_found, takes_signs, are_mixed, class_of, prefix_type, cast_type, is_atom, is_species, is_index, taken_want, all_suit, is_built, misfit}
-use Rattle.ulam_types.specs.Walk.{plain, place_of, count, operands, arguments_by, called_by, index_by, expr, args, call, item}
+use Rattle.type_rules.specs.declared.scope.Want.{Want}
+use Rattle.type_rules.specs.Faults.{wrong_type, mixed_signs, Found}
+use Rattle.type_rules.specs.Scopes.{Scope, is_value, value_type, item_type, callee, wants_of}
+use Rattle.type_rules.specs.Rows.{kind_from, plain_fits, pair_type, pair_fault, pair_found, takes_signs, are_mixed, class_of, prefix_type, cast_type, is_atom, is_species, is_index, taken_want, all_suit, is_built, misfit}
+use Rattle.type_rules.specs.Walk.{plain, place_of, count, operands, arguments_by, called_by, index_by, expr, args, call, item}
 use Rattle.fault_places.specs.Common.{OfPlace}
 use Rattle.fault_places.specs.Faults.{TypesPlace}
 use Rattle.fault_places.specs.Resolved.{ExprPlaces, ArgsPlaces}

@@ -15,8 +15,8 @@ use Rattle.ulam_tree.specs.Raw.{Item}
 use Rattle.ulam_tree.specs.Resolved as r
 use Rattle.atom_layout.specs.declared.fault.LayoutFault.{LayoutFault}
 use Rattle.atom_layout.specs.declared.fault.LayoutFault.TheVariants as l
-use Rattle.ulam_types.specs.Faults.{wrong_type, mixed_signs, not_assignable, wrong_count, bad_as, break_outside, missing_return}
-use Rattle.ulam_types.specs.Faults as y
+use Rattle.type_rules.specs.Faults.{wrong_type, mixed_signs, not_assignable, wrong_count, bad_as, break_outside, missing_return}
+use Rattle.type_rules.specs.Faults as y
 use Rattle.fault_places.proofs.Ends.{Any, StageEnds, stage_then, gives_ends}
 use Rattle.fault_places.proofs.Standing.{stands_numbered}
 use Rattle.element_set.proofs.Standing.{refused_stands}

@@ -6,9 +6,9 @@ use Rattle.ulam_meaning.proofs.EventLaws.{count_first}
 use Rattle.ulam_tree.specs.declared.resolved.Ty.{Ty}
 use Rattle.ulam_tree.specs.declared.resolved.Ty.TheVariants as y
 use Rattle.ulam_tree.specs.Typed as t
-use Rattle.ulam_types.specs.Scopes as s
-use Rattle.ulam_types.specs.Programs.{class_sig, scope_of}
-use Rattle.ulam_types.specs.Well.{AreWellClasses, AreWellMembers, IsWellBody, IsWellProgram, IsWellStatement}
+use Rattle.type_rules.specs.Scopes as s
+use Rattle.type_rules.specs.Programs.{class_sig, scope_of}
+use Rattle.type_rules.specs.Well.{AreWellClasses, AreWellMembers, IsWellBody, IsWellProgram, IsWellStatement}
 use Rattle.ulam_meaning.specs.Programs.{Function, Program, count_elements, function_at, functions, no_function, number_of, type_number}
 use Rattle.ulam_meaning.specs.Paths.{Key, function_of, scene_of}
 use Rattle.code_gen.specs.Drafts.{key_piece}

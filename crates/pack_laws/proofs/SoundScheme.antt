@@ -16,9 +16,9 @@ use Rattle.ulam_tree.specs.declared.op.PrefixOp.TheVariants as pre
 use Rattle.ulam_tree.specs.declared.op.PairOp.{PairOp}
 use Rattle.ulam_tree.specs.declared.op.PairOp.TheVariants as op
 use Rattle.ulam_tree.specs.Typed as t
-use Rattle.ulam_types.specs.Scopes as s
-use Rattle.ulam_types.specs.Programs.{class_sig, functions_of}
-use Rattle.ulam_types.specs.Well.{AreWell, IfSome, IsWell, IsWellBody, IsWellCond, IsWellForm, IsWellIndex, IsWellPart, IsWellResult, IsWellStatement, IsWellTest, IsWellValue}
+use Rattle.type_rules.specs.Scopes as s
+use Rattle.type_rules.specs.Programs.{class_sig, functions_of}
+use Rattle.type_rules.specs.Well.{AreWell, IfSome, IsWell, IsWellBody, IsWellCond, IsWellForm, IsWellIndex, IsWellPart, IsWellResult, IsWellStatement, IsWellTest, IsWellValue}
 use Rattle.ulam_meaning.specs.Programs.{Function, functions, type_number}
 use Rattle.ulam_meaning.specs.Paths.{Callee, Scene, Spot, bit_of, built_in, called, callee, constant, itself, local, member, no_callee, nothing, part, spot, spot_type, window}
 use Rattle.ulam_meaning.specs.Values.{arith_of, arith_with, number_type, width_of}

@@ -11,9 +11,9 @@ use Rattle.ulam_names.specs.Scopes.{Head, Names, Text, no_names}
 use Rattle.feast_base.specs.declared.limits.TheConstants.{MOST_PARAMS}
 use Rattle.ulam_names.specs.Classes.{HalfClass, Half, half_field, half_function, Known, is_behave, is_nothing, no_params}
 use Rattle.ulam_names.specs.ClassRelation.{AllBehave, AreClasses, AreItems, AreMembers, AreParams, own_class, AreWhole, IsMember, IsResolved}
-use Rattle.ulam_types.specs.Programs.{class_sig}
-use Rattle.ulam_types.specs.ProgramTyping.{AreTypedClasses, AreTypedMembers, IsTypedMember, IsTypedProgram}
-use Rattle.ulam_types.specs.Scopes.{ClassSig}
+use Rattle.type_rules.specs.Programs.{class_sig}
+use Rattle.type_rules.specs.ProgramTyping.{AreTypedClasses, AreTypedMembers, IsTypedMember, IsTypedProgram}
+use Rattle.type_rules.specs.Scopes.{ClassSig}
 use Rattle.ulam_meaning.specs.Programs.{Function, Program, behave_of, function_at, functions, members_of, no_function, number_named, param_types}
 use Rattle.ulam_meaning.specs.Paths.{Key, function_of}
 use Rattle.ulam_meaning.specs.Events.{behave_key}

@@ -16,11 +16,11 @@ use Rattle.ulam_tree.specs.Locals.{locals, part_locals, all_locals}
 use Rattle.ulam_names.specs.Scopes.{Context, Entry, Scope, is_element, inside_local, inner_scope, with_entry, slot_named}
 use Rattle.ulam_names.specs.Walk.{shown_element, branch_scope, locals_of, locals_part, after, after_part}
 use Rattle.ulam_names.specs.Relation as names
-use Rattle.ulam_types.specs.Scopes as scopes
-use Rattle.ulam_types.specs.Rows.{kind_from}
-use Rattle.ulam_types.specs.Bodies.{atom_slot, atom_slot_by, is_element_type}
-use Rattle.ulam_types.specs.Typing as types
-use Rattle.ulam_types.specs.Typing.{IsTyped, IsTypedStatement, IsTypedPart, IsTypedBody}
+use Rattle.type_rules.specs.Scopes as scopes
+use Rattle.type_rules.specs.Rows.{kind_from}
+use Rattle.type_rules.specs.Bodies.{atom_slot, atom_slot_by, is_element_type}
+use Rattle.type_rules.specs.Typing as types
+use Rattle.type_rules.specs.Typing.{IsTyped, IsTypedStatement, IsTypedPart, IsTypedBody}
 use Rattle.ulam_meaning.specs.Paths.{Scene}
 use Rattle.stack_code.specs.declared.instr.Operand.TheVariants.{Atom}
 use Rattle.code_gen.specs.Kinded.{HasSlot}

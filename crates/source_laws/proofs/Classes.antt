@@ -16,10 +16,10 @@ use Rattle.ulam_names.specs.Classes.{Known, Half, half_field, half_function, Hal
 use Rattle.ulam_names.specs.Classes as half
 use Rattle.ulam_names.specs.Relation.{IsBody}
 use Rattle.ulam_names.specs.ClassRelation.{own_class, IsWhole, AreWhole, AreClasses}
-use Rattle.ulam_types.specs.Scopes.{ClassSig}
-use Rattle.ulam_types.specs.Programs.{scope_of}
-use Rattle.ulam_types.specs.ProgramTyping.{IsTypedMember, AreTypedMembers, AreTypedClasses}
-use Rattle.ulam_types.specs.Typing.{IsTypedBody}
+use Rattle.type_rules.specs.Scopes.{ClassSig}
+use Rattle.type_rules.specs.Programs.{scope_of}
+use Rattle.type_rules.specs.ProgramTyping.{IsTypedMember, AreTypedMembers, AreTypedClasses}
+use Rattle.type_rules.specs.Typing.{IsTypedBody}
 use Rattle.ulam_types.proofs.WellBodies.{all_locals_same}
 use Rattle.ulam_meaning.specs.Programs.{Program, Field, Function, no_field, no_function, fields, functions, field_at, function_at, members_of, number_named, slot_types}
 use Rattle.ulam_meaning.specs.Programs as meaning

@@ -16,11 +16,11 @@ use Rattle.ulam_names.specs.ClassRelation.{IsResolved}
 use Rattle.ulam_tree.proofs.Means.{Means}
 use Rattle.ulam_names.proofs.ClassMeans.{program_means}
 use Rattle.atom_layout.specs.Layouts.{layout_of, first_wide, bits_within}
-use Rattle.ulam_types.specs.Faults as types
-use Rattle.ulam_types.specs.Programs as typing
-use Rattle.ulam_types.specs.Walk.{expr}
-use Rattle.ulam_types.specs.Bodies.{statement}
-use Rattle.ulam_types.specs.ProgramTyping.{IsTypedProgram}
+use Rattle.type_rules.specs.Faults as types
+use Rattle.type_rules.specs.Programs as typing
+use Rattle.type_rules.specs.Walk.{expr}
+use Rattle.type_rules.specs.Bodies.{statement}
+use Rattle.type_rules.specs.ProgramTyping.{IsTypedProgram}
 use Rattle.ulam_types.proofs.Classes.{program_means as typing_means}
 use Rattle.code_gen.specs.Compiling.{IsCompilable}
 use Rattle.source_laws.proofs.Programs.{compilable}

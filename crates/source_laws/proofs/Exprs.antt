@@ -9,12 +9,12 @@ use Rattle.ulam_tree.specs.Typed as t
 use Rattle.ulam_names.specs.Scopes.{Context, Entry}
 use Rattle.ulam_names.specs.Walk.{constant_in}
 use Rattle.ulam_names.specs.Relation as names
-use Rattle.ulam_types.specs.declared.scope.Want.{Want}
-use Rattle.ulam_types.specs.Scopes as scopes
-use Rattle.ulam_types.specs.Rows.{taken_want, beside}
-use Rattle.ulam_types.specs.Walk.{plain}
-use Rattle.ulam_types.specs.Typing as types
-use Rattle.ulam_types.specs.Typing.{IsTyped, AreTyped}
+use Rattle.type_rules.specs.declared.scope.Want.{Want}
+use Rattle.type_rules.specs.Scopes as scopes
+use Rattle.type_rules.specs.Rows.{taken_want, beside}
+use Rattle.type_rules.specs.Walk.{plain}
+use Rattle.type_rules.specs.Typing as types
+use Rattle.type_rules.specs.Typing.{IsTyped, AreTyped}
 use Rattle.ulam_meaning.specs.Paths.{Scene}
 use Rattle.code_gen.specs.Named.{IsNamedPath, IsNamed, AreNamed, IfNamed}
 use Rattle.source_laws.proofs.Widths.{plain_number, type_wide}

@@ -10,8 +10,8 @@ use Rattle.ulam_names.specs.Classes.{head_of}
 use Rattle.ulam_names.specs.ClassRelation.{IsResolved}
 use Rattle.ulam_names.proofs.Apart.{none_contains}
 use Rattle.atom_layout.specs.Layouts.{layout_of, first_wide}
-use Rattle.ulam_types.specs.Programs.{class_sig}
-use Rattle.ulam_types.specs.ProgramTyping.{IsTypedProgram}
+use Rattle.type_rules.specs.Programs.{class_sig}
+use Rattle.type_rules.specs.ProgramTyping.{IsTypedProgram}
 use Rattle.ulam_types.proofs.WellPrograms.{program_well}
 use Rattle.ulam_meaning.specs.Programs.{Program, members_of, field_at, function_at, behave_of}
 use Rattle.code_gen.specs.Named.{IsNamedProgram, HasBehave}

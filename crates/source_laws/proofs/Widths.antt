@@ -21,7 +21,7 @@ use Rattle.ulam_names.specs.declared.basic.Basic.{Basic}
 use Rattle.ulam_names.specs.declared.basic.Basic.TheVariants.{Sized as sized, Whole as whole}
 use Rattle.ulam_names.specs.Scopes.{Text, allows, widest_of, beside, number_of, built_in, basic_named, number_type, as_number, in_range}
 use Rattle.ulam_names.specs.Relation.{IsSized, IsType}
-use Rattle.ulam_types.specs.Rows.{plain_fits}
+use Rattle.type_rules.specs.Rows.{plain_fits}
 use Rattle.stack_code.specs.Valid.{type_fits, number_fits}
 use Rattle.code_gen.specs.Named.{IsWide, AllWide}
 

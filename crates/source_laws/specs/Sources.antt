@@ -5,7 +5,7 @@ use Rattle.ulam_tree.specs.Resolved as r
 use Rattle.ulam_tree.specs.Typed as t
 use Rattle.ulam_names.specs.ClassRelation.{IsResolved}
 use Rattle.atom_layout.specs.Layouts.{first_wide}
-use Rattle.ulam_types.specs.ProgramTyping.{IsTypedProgram}
+use Rattle.type_rules.specs.ProgramTyping.{IsTypedProgram}
 use Rattle.ulam_meaning.specs.Programs.{Program}
 use Rattle.code_gen.specs.LaidOut.{laid_program}
 

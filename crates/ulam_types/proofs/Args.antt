@@ -12,12 +12,12 @@ use Rattle.ulam_tree.specs.ResolvedViews.{resolved_path, resolved_expr, resolved
 use Rattle.ulam_tree.specs.TypedViews.{typed_call, typed_expr, typed_args}
 use Rattle.ulam_tree.proofs.ResolvedRows.{resolved_call_is}
 use Rattle.ulam_types.specs.declared.fault.TypeFault.{TypeFault}
-use Rattle.ulam_types.specs.declared.scope.Want.{Want}
+use Rattle.type_rules.specs.declared.scope.Want.{Want}
 use Rattle.ulam_tree.specs.Found.{◌>>=◌}
-use Rattle.ulam_types.specs.Faults.{Found}
-use Rattle.ulam_types.specs.Scopes.{Scope}
-use Rattle.ulam_types.specs.Rows.{taken_want}
-use Rattle.ulam_types.specs.Walk.{count, call_value, expr, args, call}
+use Rattle.type_rules.specs.Faults.{Found}
+use Rattle.type_rules.specs.Scopes.{Scope}
+use Rattle.type_rules.specs.Rows.{taken_want}
+use Rattle.type_rules.specs.Walk.{count, call_value, expr, args, call}
 use Rattle.ulam_types.specs.Shown.{Fails, join_args, with_args}
 use Rattle.ulam_types.proofs.Fails.{fails_more}
 

@@ -16,9 +16,9 @@ use Rattle.ulam_tree.specs.TypedViews.{typed_statement, typed_body}
 use Rattle.ulam_tree.proofs.ResolvedRows.{resolved_block_is, resolved_if_is, resolved_for_is}
 use Rattle.ulam_types.specs.declared.fault.TypeFault.{TypeFault}
 use Rattle.ulam_tree.specs.Found.{◌>>=◌}
-use Rattle.ulam_types.specs.Faults.{Found}
-use Rattle.ulam_types.specs.Scopes.{Scope, in_loop}
-use Rattle.ulam_types.specs.Bodies.{branch, test, maybe, statement, part, body}
+use Rattle.type_rules.specs.Faults.{Found}
+use Rattle.type_rules.specs.Scopes.{Scope, in_loop}
+use Rattle.type_rules.specs.Bodies.{branch, test, maybe, statement, part, body}
 use Rattle.ulam_types.specs.Shown.{Fails, join_body, with_body}
 use Rattle.ulam_types.proofs.Fails.{fails_more, fails_then}
 

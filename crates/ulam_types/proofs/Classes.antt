@@ -4,14 +4,14 @@ use Rattle.ulam_tree.specs.Resolved as r
 use Rattle.ulam_tree.specs.Typed as t
 use Rattle.ulam_tree.specs.Completes.{all_complete}
 use Rattle.ulam_tree.specs.Found.{fault_of}
-use Rattle.ulam_types.specs.Faults.{Found}
-use Rattle.ulam_types.specs.Scopes.{Scope, ClassSig, is_value}
-use Rattle.ulam_types.specs.Rows.{is_void}
-use Rattle.ulam_types.specs.Bodies.{body}
-use Rattle.ulam_types.specs.Programs as p
-use Rattle.ulam_types.specs.Programs.{class_sig, scope_of, first_fault}
-use Rattle.ulam_types.specs.Typing.{IsTypedBody}
-use Rattle.ulam_types.specs.ProgramTyping.{HaveValues, IsTypedMember, AreTypedMembers, AreTypedClasses, IsTypedProgram}
+use Rattle.type_rules.specs.Faults.{Found}
+use Rattle.type_rules.specs.Scopes.{Scope, ClassSig, is_value}
+use Rattle.type_rules.specs.Rows.{is_void}
+use Rattle.type_rules.specs.Bodies.{body}
+use Rattle.type_rules.specs.Programs as p
+use Rattle.type_rules.specs.Programs.{class_sig, scope_of, first_fault}
+use Rattle.type_rules.specs.Typing.{IsTypedBody}
+use Rattle.type_rules.specs.ProgramTyping.{HaveValues, IsTypedMember, AreTypedMembers, AreTypedClasses, IsTypedProgram}
 use Rattle.ulam_tree.proofs.Means.{Means, means_then, means_must, ok_same, means_more}
 use Rattle.ulam_types.proofs.Statements.{body_fits, body_means}
 

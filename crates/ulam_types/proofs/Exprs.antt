@@ -6,12 +6,12 @@ use Rattle.sat_math.specs.declared.Kind.TheVariants as k
 use Rattle.ulam_tree.specs.declared.resolved.Ty.{Ty}
 use Rattle.ulam_tree.specs.Resolved as r
 use Rattle.ulam_tree.specs.Typed as t
-use Rattle.ulam_types.specs.declared.scope.Want.{Want}
-use Rattle.ulam_types.specs.Faults.{Found}
-use Rattle.ulam_types.specs.Scopes.{Scope, is_value, value_type, item_type, callee, wants_of}
-use Rattle.ulam_types.specs.Rows.{beside, plain_fits, pair_type, prefix_type, cast_type, is_atom, is_species, is_index, taken_want, all_suit, is_built}
-use Rattle.ulam_types.specs.Walk.{plain, count, operands, arguments_by, called_by, index_by, expr, args}
-use Rattle.ulam_types.specs.Typing.{IsCalled, IsTyped, AreTyped}
+use Rattle.type_rules.specs.declared.scope.Want.{Want}
+use Rattle.type_rules.specs.Faults.{Found}
+use Rattle.type_rules.specs.Scopes.{Scope, is_value, value_type, item_type, callee, wants_of}
+use Rattle.type_rules.specs.Rows.{beside, plain_fits, pair_type, prefix_type, cast_type, is_atom, is_species, is_index, taken_want, all_suit, is_built}
+use Rattle.type_rules.specs.Walk.{plain, count, operands, arguments_by, called_by, index_by, expr, args}
+use Rattle.type_rules.specs.Typing.{IsCalled, IsTyped, AreTyped}
 use Rattle.ulam_tree.proofs.Means.{Means, means_then, means_found, means_must, means_at}
 use Rattle.ulam_types.proofs.Operands.{operands_fit, operands_mean}
 

@@ -4,7 +4,7 @@ use Rattle.std.specs.Prelude.{IsErr, IsErrAnd}
 use Rattle.ulam_types.specs.declared.fault.TypeFault.{TypeFault}
 use Rattle.ulam_types.specs.declared.fault.TypeFault.TheVariants as e
 use Rattle.ulam_tree.specs.Found.{◌>>=◌}
-use Rattle.ulam_types.specs.Faults.{Fault, Found, wrong_type, mixed_signs, not_assignable, wrong_count, bad_as, break_outside, missing_return}
+use Rattle.type_rules.specs.Faults.{Fault, Found, wrong_type, mixed_signs, not_assignable, wrong_count, bad_as, break_outside, missing_return}
 use Rattle.ulam_types.specs.Shown.{Fails, Gives}
 
 pub fails_more : {A B : Type 0} (f : TypeFault) (v : Found A) (w : Found B) → ((x : Fault) → v ≡ Err x → w ≡ Err x) → Fails f v → Fails f w

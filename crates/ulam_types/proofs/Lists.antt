@@ -4,8 +4,8 @@ use Rattle.std.proofs.lemmas.List.{map-append}
 use Rattle.ulam_tree.specs.Resolved as r
 use Rattle.ulam_tree.specs.Typed as t
 use Rattle.ulam_tree.specs.Found.{with_front}
-use Rattle.ulam_types.specs.Scopes.{ClassSig}
-use Rattle.ulam_types.specs.Programs as p
+use Rattle.type_rules.specs.Scopes.{ClassSig}
+use Rattle.type_rules.specs.Programs as p
 use Rattle.ulam_tree.proofs.Means.{front_on}
 
 module _ {X Y : Type 0} (view : X → Y) where

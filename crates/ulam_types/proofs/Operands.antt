@@ -3,9 +3,9 @@ use Rattle.std.proofs.Common.{◌≡◌, Bool, true, false, Ok, refl, ◌∙◌}
 use Rattle.sat_math.specs.declared.Kind.{Kind}
 use Rattle.sat_math.specs.declared.Kind.TheVariants as k
 use Rattle.ulam_tree.specs.Typed as t
-use Rattle.ulam_types.specs.Faults.{Found}
-use Rattle.ulam_types.specs.Rows.{kind_from, beside}
-use Rattle.ulam_types.specs.Walk.{operands}
+use Rattle.type_rules.specs.Faults.{Found}
+use Rattle.type_rules.specs.Rows.{kind_from, beside}
+use Rattle.type_rules.specs.Walk.{operands}
 use Rattle.ulam_tree.proofs.Means.{Means, means_is, means_then}
 
 pub operands_fit : (pl pr : Bool) (left right : Kind → Found t.Expr) (a b : t.Expr) → (pl ≡ false → (v w : Kind) → left v ≡ left w) →

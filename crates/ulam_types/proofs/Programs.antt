@@ -7,11 +7,11 @@ use Rattle.ulam_tree.specs.TypedViews.{typed_program}
 use Rattle.ulam_tree.specs.declared.typed.Typed.{Typed}
 use Rattle.ulam_types.specs.declared.fault.TypeFault.{TypeFault}
 use Rattle.ulam_types.specs.declared.fault.TypeFault.TheVariants as e
-use Rattle.ulam_types.specs.Faults.{Fault}
-use Rattle.ulam_types.specs.Programs.{program}
-use Rattle.ulam_types.specs.ProgramTyping.{IsTypedProgram}
+use Rattle.type_rules.specs.Faults.{Fault}
+use Rattle.type_rules.specs.Programs.{program}
+use Rattle.type_rules.specs.ProgramTyping.{IsTypedProgram}
 use Rattle.ulam_types.specs.Shown.{Gives, Fails}
-use Rattle.ulam_types.specs.Well.{IsWellProgram}
+use Rattle.type_rules.specs.Well.{IsWellProgram}
 use Rattle.ulam_tree.proofs.Means.{Means}
 use Rattle.ulam_types.proofs.Classes.{program_fits, program_means}
 use Rattle.ulam_types.proofs.WellPrograms.{program_well}

@@ -8,13 +8,13 @@ use Rattle.ulam_tree.specs.declared.op.PairOp.{PairOp}
 use Rattle.ulam_tree.specs.declared.op.PairOp.TheVariants as op
 use Rattle.ulam_tree.specs.Resolved as r
 use Rattle.ulam_tree.specs.Typed as t
-use Rattle.ulam_types.specs.Faults.{Found}
-use Rattle.ulam_types.specs.Scopes.{Scope, in_loop, is_value, target_type}
-use Rattle.ulam_types.specs.Rows.{kind_from, plain_type, pair_type, is_truth, is_void, assignable}
-use Rattle.ulam_types.specs.Walk.{plain, count, index_by, expr, args, call}
-use Rattle.ulam_types.specs.Bodies as b
-use Rattle.ulam_types.specs.Bodies.{atom_slot, is_element_type}
-use Rattle.ulam_types.specs.Typing.{IsTyped, AreTyped, IsCall, IsLeftBy, IsValueFor, IsAssigned, IsTest, IsMaybe, IsCond, IsResult, IsTypedStatement, IsTypedPart, IsTypedBody}
+use Rattle.type_rules.specs.Faults.{Found}
+use Rattle.type_rules.specs.Scopes.{Scope, in_loop, is_value, target_type}
+use Rattle.type_rules.specs.Rows.{kind_from, plain_type, pair_type, is_truth, is_void, assignable}
+use Rattle.type_rules.specs.Walk.{plain, count, index_by, expr, args, call}
+use Rattle.type_rules.specs.Bodies as b
+use Rattle.type_rules.specs.Bodies.{atom_slot, is_element_type}
+use Rattle.type_rules.specs.Typing.{IsTyped, AreTyped, IsCall, IsLeftBy, IsValueFor, IsAssigned, IsTest, IsMaybe, IsCond, IsResult, IsTypedStatement, IsTypedPart, IsTypedBody}
 use Rattle.ulam_tree.proofs.Means.{Means, means_then, means_found, means_must}
 use Rattle.ulam_types.proofs.Exprs.{expr_fits, args_fit, called_fits, expr_means, args_mean, called_means, index_means}
 

@@ -4,9 +4,9 @@ use Rattle.std.proofs.lemmas.List.{drop_more, drop_all}
 use Rattle.ulam_tree.specs.declared.typed.Expr.{Expr}
 use Rattle.ulam_tree.specs.Typed as t
 use Rattle.ulam_tree.specs.TypedViews.{typed_expr, typed_args}
-use Rattle.ulam_types.specs.declared.scope.Want.{Want}
-use Rattle.ulam_types.specs.Scopes.{Scope}
-use Rattle.ulam_types.specs.Rows.{suits, all_suit}
+use Rattle.type_rules.specs.declared.scope.Want.{Want}
+use Rattle.type_rules.specs.Scopes.{Scope}
+use Rattle.type_rules.specs.Rows.{suits, all_suit}
 
 suit_next : (g : Scope) (ws : List Want) (es : List Expr) (i : ℕ) (w : Want) (e : Expr) → i < length ws → i < length es →
     all_suit g (drop i ws) (typed_args (drop i es)) ≡ (suits g (get_or ws i w) (typed_expr (get_or es i e)) && all_suit g (drop (i + 1) ws) (typed_args (drop (i + 1) es)))

@@ -5,12 +5,12 @@ use Rattle.sat_math.specs.declared.Kind.TheVariants as k
 use Rattle.ulam_tree.specs.declared.resolved.Ty.{Ty}
 use Rattle.ulam_tree.specs.Resolved as r
 use Rattle.ulam_tree.specs.Typed as t
-use Rattle.ulam_types.specs.declared.scope.Want.{Want}
-use Rattle.ulam_types.specs.Scopes.{Scope, wants_of}
-use Rattle.ulam_types.specs.Rows.{beside, pair_type, taken_want}
-use Rattle.ulam_types.specs.Walk.{plain, count as count_resolved}
-use Rattle.ulam_types.specs.Typing.{IsCall, IsTyped, AreTyped}
-use Rattle.ulam_types.specs.Well.{count, IsCallee, IsWell, AreWell}
+use Rattle.type_rules.specs.declared.scope.Want.{Want}
+use Rattle.type_rules.specs.Scopes.{Scope, wants_of}
+use Rattle.type_rules.specs.Rows.{beside, pair_type, taken_want}
+use Rattle.type_rules.specs.Walk.{plain, count as count_resolved}
+use Rattle.type_rules.specs.Typing.{IsCall, IsTyped, AreTyped}
+use Rattle.type_rules.specs.Well.{count, IsCallee, IsWell, AreWell}
 
 pub plain_same : (g : Scope) (w : Kind) (e : r.Expr) (a : t.Expr) → IsTyped g w e a → t.plain a ≡ plain e
 unfolding IsTyped

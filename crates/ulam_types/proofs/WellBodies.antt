@@ -7,10 +7,10 @@ use Rattle.ulam_tree.specs.Resolved as r
 use Rattle.ulam_tree.specs.Typed as t
 use Rattle.ulam_tree.specs.Locals.{locals, part_locals, all_locals}
 use Rattle.ulam_tree.specs.Completes.{completes, part_completes, all_complete}
-use Rattle.ulam_types.specs.Scopes.{Scope, in_loop}
-use Rattle.ulam_types.specs.Rows.{kind_from, pair_type}
-use Rattle.ulam_types.specs.Typing.{IsLeftBy, IsValueFor, IsAssigned, IsTest, IsMaybe, IsCond, IsResult, IsTypedStatement, IsTypedPart, IsTypedBody}
-use Rattle.ulam_types.specs.Well.{IsWellLeft, IsWellValue, IsWellAssigned, IsWellTest, IfSome, IsWellCond, IsWellResult, IsWellStatement, IsWellPart, IsWellBody}
+use Rattle.type_rules.specs.Scopes.{Scope, in_loop}
+use Rattle.type_rules.specs.Rows.{kind_from, pair_type}
+use Rattle.type_rules.specs.Typing.{IsLeftBy, IsValueFor, IsAssigned, IsTest, IsMaybe, IsCond, IsResult, IsTypedStatement, IsTypedPart, IsTypedBody}
+use Rattle.type_rules.specs.Well.{IsWellLeft, IsWellValue, IsWellAssigned, IsWellTest, IfSome, IsWellCond, IsWellResult, IsWellStatement, IsWellPart, IsWellBody}
 use Rattle.ulam_types.proofs.Well.{plain_same, well, call_well}
 
 left_well : (g : Scope) (x : r.Path) (e : Option r.Expr) (a : t.Left) (ty : Ty) → IsLeftBy g x e a ty → IsWellLeft g a ty

@@ -3,11 +3,11 @@ use Rattle.std.proofs.Common.{◌≡◌, ℕ, ◌+◌, true, false, not, ◌||�
 use Rattle.ulam_tree.specs.Resolved as r
 use Rattle.ulam_tree.specs.Typed as t
 use Rattle.ulam_tree.specs.Completes.{all_complete}
-use Rattle.ulam_types.specs.Scopes.{Scope, ClassSig, is_value}
-use Rattle.ulam_types.specs.Rows.{is_void}
-use Rattle.ulam_types.specs.Programs.{fields_of, functions_of, want_of, class_sig, param_type, scope_of}
-use Rattle.ulam_types.specs.ProgramTyping.{HaveValues, IsTypedMember, AreTypedMembers, AreTypedClasses, IsTypedProgram}
-use Rattle.ulam_types.specs.Well.{IsWellBody, IsWellMember, AreWellMembers, AreWellClasses, IsWellProgram}
+use Rattle.type_rules.specs.Scopes.{Scope, ClassSig, is_value}
+use Rattle.type_rules.specs.Rows.{is_void}
+use Rattle.type_rules.specs.Programs.{fields_of, functions_of, want_of, class_sig, param_type, scope_of}
+use Rattle.type_rules.specs.ProgramTyping.{HaveValues, IsTypedMember, AreTypedMembers, AreTypedClasses, IsTypedProgram}
+use Rattle.type_rules.specs.Well.{IsWellBody, IsWellMember, AreWellMembers, AreWellClasses, IsWellProgram}
 use Rattle.ulam_types.proofs.WellBodies.{body_well, all_locals_same, all_complete_same}
 
 member_well : (sigs : List ClassSig) (k : ℕ) (m : r.Member) (u : t.Member) → IsTypedMember sigs k m u → IsWellMember sigs k u

@@ -1,12 +1,3 @@
-pub mod Bodies
 pub mod Compound
-pub mod Faults
-pub mod ProgramTyping
-pub mod Programs
 pub mod Results
-pub mod Rows
-pub mod Scopes
 pub mod Shown
-pub mod Typing
-pub mod Walk
-pub mod Well

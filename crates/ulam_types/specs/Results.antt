@@ -17,8 +17,8 @@ use Rattle.ulam_tree.specs.ResolvedViews.{resolved_path, resolved_expr, resolved
 use Rattle.ulam_tree.specs.TypedViews.{typed_expr, boxed_expr, typed_args, typed_left, typed_cond, typed_statement, boxed_statement, typed_body, typed_member, typed_class}
 use Rattle.ulam_types.specs.declared.fault.TypeFault.{TypeFault}
 use Rattle.ulam_types.specs.declared.scope.Scope.{Scope}
-use Rattle.ulam_types.specs.Walk.{expr}
-use Rattle.ulam_types.specs.Bodies.{branch, statement}
+use Rattle.type_rules.specs.Walk.{expr}
+use Rattle.type_rules.specs.Bodies.{branch, statement}
 use Rattle.ulam_types.specs.Shown.{here, Gives}
 
 -- What the code has, as trees

@@ -10,8 +10,8 @@ use Rattle.ulam_types.specs.declared.scope.FunctionSig.{FunctionSig}
 use Rattle.ulam_types.specs.declared.scope.ClassSig.{ClassSig}
 use Rattle.ulam_types.specs.declared.scope.Scope.{Scope}
 use Rattle.ulam_tree.specs.Found.{◌>>=◌}
-use Rattle.ulam_types.specs.Faults.{Found, wrong_type, mixed_signs, not_assignable, wrong_count, bad_as, break_outside, missing_return}
-use Rattle.ulam_types.specs.Scopes as s
+use Rattle.type_rules.specs.Faults.{Found, wrong_type, mixed_signs, not_assignable, wrong_count, bad_as, break_outside, missing_return}
+use Rattle.type_rules.specs.Scopes as s
 
 abbrev pub function_view : FunctionSig → s.FunctionSig
 function_view f = record { result = f.result; wants = f.wants.items }

@@ -6,20 +6,21 @@ ghost use Rattle.ulam_tree.specs.Resolved as tree;
 ghost use Rattle.ulam_tree.specs.TypedViews.{boxed_expr};
 ghost use Rattle.ulam_types.specs.Compound.{is_compound};
 ghost use Rattle.ulam_types.specs.Results.{args_view, call_view, item_view, GivesExpr};
-ghost use Rattle.ulam_types.specs.Scopes as spec;
+ghost use Rattle.type_rules.specs.Scopes as spec;
 ghost use Rattle.ulam_types.specs.Shown.{here, Gives};
-ghost use Rattle.ulam_types.specs.Walk as walk;
+ghost use Rattle.type_rules.specs.Walk as walk;
 
 use crate::copy;
 use crate::fault::TypeFault;
 use crate::form::{call_value, instance, number, pair, truth_at, type_or_fault, value_at};
 use crate::lookup::{begins_local, function_at, is_atom, is_species, item_type, last_step};
 use crate::rows::{beside, cast_type, is_index, kind_from, prefix_type, truth};
-use crate::scope::{Scope, Want};
+use crate::scope::Scope;
 use crate::suits::{all_suit, built_type, taken_want};
 use feast_base::Place;
 use sat_math::Kind;
 use std::alloc::Global;
+use type_rules::Want;
 use ulam_tree::resolved::{Built, Expr, Named, Path, Step, Ty};
 use ulam_tree::{typed, typed_build as build};
 
@@ -55,7 +56,7 @@ pub fn place_of(raw: &Expr) -> Place
 
 /// An expression. A plain number takes the kind `want`.
 #[cycle(expr)]
-#[tactic(auto, unfolding(crate::specs::Walk::expr))]
+#[tactic(auto, unfolding(type_rules::specs::Walk::expr))]
 pub fn expr(alloc: Global, scope: &Scope, want: Kind, raw: &Expr) -> Result<typed::Expr, TypeFault>
     ensures { GivesExpr result scope.now want (resolved_expr raw.now) }
 {
@@ -86,7 +87,7 @@ pub fn expr(alloc: Global, scope: &Scope, want: Kind, raw: &Expr) -> Result<type
 
 /// An expression in brackets, or an operator with its operands.
 #[cycle(expr)]
-#[tactic(auto, unfolding(crate::specs::Walk::expr))]
+#[tactic(auto, unfolding(type_rules::specs::Walk::expr))]
 fn compound(alloc: Global, scope: &Scope, want: Kind, raw: &Expr) -> Result<typed::Expr, TypeFault>
     requires { IsTrue (is_compound (resolved_expr raw.now)) }
     ensures { GivesExpr result scope.now want (resolved_expr raw.now) }
@@ -135,7 +136,7 @@ fn compound(alloc: Global, scope: &Scope, want: Kind, raw: &Expr) -> Result<type
 
 /// A test of the class of a value.
 #[cycle(expr)]
-#[tactic(auto, unfolding(crate::specs::Walk::expr))]
+#[tactic(auto, unfolding(type_rules::specs::Walk::expr))]
 fn is(
     alloc: Global,
     scope: &Scope,

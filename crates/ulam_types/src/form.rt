@@ -6,11 +6,11 @@ ghost use Rattle.ulam_tree.specs.ResolvedViews.{resolved_path};
 ghost use Rattle.ulam_tree.specs.Resolved as tree;
 ghost use Rattle.ulam_tree.specs.Typed as typed_tree;
 ghost use Rattle.ulam_tree.specs.TypedViews.{typed_expr, boxed_expr};
-ghost use Rattle.ulam_types.specs.Faults.{wrong_type};
+ghost use Rattle.type_rules.specs.Faults.{wrong_type};
 ghost use Rattle.ulam_types.specs.Results.{call_view, GivesExpr};
-ghost use Rattle.ulam_types.specs.Rows as row;
+ghost use Rattle.type_rules.specs.Rows as row;
 ghost use Rattle.ulam_types.specs.Shown.{here, Gives};
-ghost use Rattle.ulam_types.specs.Walk as walk;
+ghost use Rattle.type_rules.specs.Walk as walk;
 
 use crate::copy;
 use crate::fault::TypeFault;
@@ -86,7 +86,7 @@ pub fn truth_at(value: bool, place: Place) -> typed::Expr
 }
 
 /// A path as an expression.
-#[tactic(auto, unfolding(crate::specs::Walk::expr))]
+#[tactic(auto, unfolding(type_rules::specs::Walk::expr))]
 pub fn value_at(alloc: Global, scope: &Scope, path: &Path) -> Result<typed::Expr, TypeFault>
     ensures { (want : Kind) → GivesExpr result scope.now want (tree.reads (resolved_path path.now)) }
 {
@@ -99,7 +99,7 @@ pub fn value_at(alloc: Global, scope: &Scope, path: &Path) -> Result<typed::Expr
 }
 
 /// The `instanceof` of a class.
-#[tactic(auto, unfolding(crate::specs::Walk::expr))]
+#[tactic(auto, unfolding(type_rules::specs::Walk::expr))]
 pub fn instance(scope: &Scope, class: Named) -> Result<typed::Expr, TypeFault>
     ensures { (want : Kind) → GivesExpr result scope.now want (tree.instance class) }
 {

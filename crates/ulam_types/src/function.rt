@@ -2,7 +2,7 @@
 ghost use Rattle.std.specs.Prelude.{◌≡◌, map, IfOk, IfErr};
 ghost use Rattle.ulam_tree.specs.ResolvedViews.{resolved_param, resolved_body, resolved_member};
 ghost use Rattle.ulam_tree.specs.TypedViews.{typed_member};
-ghost use Rattle.ulam_types.specs.Programs as walk;
+ghost use Rattle.type_rules.specs.Programs as walk;
 ghost use Rattle.ulam_types.specs.Results.{body_view};
 ghost use Rattle.ulam_types.specs.Shown.{sigs_view, here, Gives};
 ghost use Rattle.ulam_types.specs.declared.fault.TypeFault.TheVariants.{NoMemory};

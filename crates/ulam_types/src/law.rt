@@ -1,8 +1,8 @@
 //! Laws of types.
 ghost use Rattle.std.specs.Prelude.{◌≡◌, List, None};
 ghost use Rattle.ulam_tree.specs.Resolved.{Class};
-ghost use Rattle.ulam_types.specs.Programs.{first_fault};
-ghost use Rattle.ulam_types.specs.ProgramTyping.{HasTypedTree, HasOneTreeAtMost};
+ghost use Rattle.type_rules.specs.Programs.{first_fault};
+ghost use Rattle.type_rules.specs.ProgramTyping.{HasTypedTree, HasOneTreeAtMost};
 
 /// A program has a typed tree exactly if it has no first fault, and at most one.
 pub fn one_typing()

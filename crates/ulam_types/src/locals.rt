@@ -2,7 +2,7 @@
 ghost use Rattle.std.specs.Prelude.{◌≡◌, ◌++◌, map, IfOk};
 ghost use Rattle.ulam_tree.specs.Locals as locals;
 ghost use Rattle.ulam_tree.specs.ResolvedViews.{resolved_statement, resolved_body, resolved_part, resolved_param};
-ghost use Rattle.ulam_types.specs.Programs.{param_type, slots_of};
+ghost use Rattle.type_rules.specs.Programs.{param_type, slots_of};
 
 use std::alloc::{AllocError, Global};
 use ulam_tree::resolved::{Param, Statement, Ty};

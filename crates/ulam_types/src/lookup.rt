@@ -1,12 +1,13 @@
 //! What a path means, and what a value of a type can be assigned to.
 ghost use Rattle.std.specs.Prelude.{◌≡◌, slice_get};
-ghost use Rattle.ulam_types.specs.Bodies as walk;
-ghost use Rattle.ulam_types.specs.Rows as row;
-ghost use Rattle.ulam_types.specs.Scopes as spec;
+ghost use Rattle.type_rules.specs.Bodies as walk;
+ghost use Rattle.type_rules.specs.Rows as row;
+ghost use Rattle.type_rules.specs.Scopes as spec;
 ghost use Rattle.ulam_types.specs.Shown.{class_view, function_view, here, Finds};
 
 use crate::rows::fits_number;
-use crate::scope::{ClassSig, FieldSig, FunctionSig, Scope};
+use crate::scope::{ClassSig, FunctionSig, Scope};
+use type_rules::FieldSig;
 use ulam_tree::resolved::{Step, Ty};
 
 /// The signature of a class, if there is one of this number.

@@ -4,8 +4,8 @@ ghost use Rattle.ulam_tree.specs.Found.{must};
 ghost use Rattle.ulam_tree.specs.Resolved as tree;
 ghost use Rattle.ulam_tree.specs.ResolvedViews.{resolved_expr, resolved_left};
 ghost use Rattle.ulam_tree.specs.TypedViews.{typed_expr};
-ghost use Rattle.ulam_types.specs.Bodies as walk;
-ghost use Rattle.ulam_types.specs.Faults.{break_outside};
+ghost use Rattle.type_rules.specs.Bodies as walk;
+ghost use Rattle.type_rules.specs.Faults.{break_outside};
 ghost use Rattle.ulam_types.specs.Results.{resolved_maybe, resolved_does, maybe_view, left_view, GivesStatement};
 ghost use Rattle.ulam_types.specs.Shown.{here, Gives};
 
@@ -161,7 +161,7 @@ fn returned_value(
 }
 
 /// A `return`.
-#[tactic(auto, unfolding(crate::specs::Bodies::statement))]
+#[tactic(auto, unfolding(type_rules::specs::Bodies::statement))]
 pub fn give(
     alloc: Global,
     scope: &Scope,
@@ -186,7 +186,7 @@ fn within_loop(scope: &Scope, place: Place) -> Result<(), TypeFault>
 }
 
 /// A `break`.
-#[tactic(auto, unfolding(crate::specs::Bodies::statement))]
+#[tactic(auto, unfolding(type_rules::specs::Bodies::statement))]
 pub fn breaks(scope: &Scope, place: Place) -> Result<typed::Statement, TypeFault>
     ensures { GivesStatement result scope.now (tree.breaks place) }
 {
@@ -195,7 +195,7 @@ pub fn breaks(scope: &Scope, place: Place) -> Result<typed::Statement, TypeFault
 }
 
 /// A `continue`.
-#[tactic(auto, unfolding(crate::specs::Bodies::statement))]
+#[tactic(auto, unfolding(type_rules::specs::Bodies::statement))]
 pub fn continues(scope: &Scope, place: Place) -> Result<typed::Statement, TypeFault>
     ensures { GivesStatement result scope.now (tree.continues place) }
 {
@@ -204,7 +204,7 @@ pub fn continues(scope: &Scope, place: Place) -> Result<typed::Statement, TypeFa
 }
 
 /// The declaration of a local.
-#[tactic(auto, unfolding(crate::specs::Bodies::statement))]
+#[tactic(auto, unfolding(type_rules::specs::Bodies::statement))]
 pub fn declare(
     alloc: Global,
     scope: &Scope,
@@ -228,7 +228,7 @@ pub fn declare(
 }
 
 /// An assignment.
-#[tactic(auto, unfolding(crate::specs::Bodies::statement))]
+#[tactic(auto, unfolding(type_rules::specs::Bodies::statement))]
 pub fn assign(
     alloc: Global,
     scope: &Scope,
@@ -244,7 +244,7 @@ pub fn assign(
 }
 
 /// `++` or `--`.
-#[tactic(auto, unfolding(crate::specs::Bodies::statement))]
+#[tactic(auto, unfolding(type_rules::specs::Bodies::statement))]
 pub fn count(
     alloc: Global,
     scope: &Scope,
@@ -269,7 +269,7 @@ pub fn count(
 }
 
 /// A call as a statement.
-#[tactic(auto, unfolding(crate::specs::Bodies::statement))]
+#[tactic(auto, unfolding(type_rules::specs::Bodies::statement))]
 pub fn does(alloc: Global, scope: &Scope, raw: &Call) -> Result<typed::Statement, TypeFault>
     ensures { GivesStatement result scope.now (resolved_does raw.now) }
 {

@@ -2,11 +2,11 @@
 ghost use Rattle.std.specs.Prelude.{◌≢◌, ◌≤◌, length, map, IfOk, IfErr, ◌-◌, ◌^◌};
 ghost use Rattle.ulam_tree.specs.ResolvedViews.{resolved_class, resolved_member, resolved_program};
 ghost use Rattle.ulam_tree.specs.TypedViews.{typed_class, typed_program};
-ghost use Rattle.ulam_types.specs.Programs as walk;
-ghost use Rattle.ulam_types.specs.ProgramTyping.{IsTypedProgram, HasNoTypedTree};
+ghost use Rattle.type_rules.specs.Programs as walk;
+ghost use Rattle.type_rules.specs.ProgramTyping.{IsTypedProgram, HasNoTypedTree};
 ghost use Rattle.ulam_types.specs.Results.{members_view, classes_view};
 ghost use Rattle.ulam_types.specs.Shown.{sigs_view, Gives};
-ghost use Rattle.ulam_types.specs.Well.{IsWellProgram};
+ghost use Rattle.type_rules.specs.Well.{IsWellProgram};
 ghost use Rattle.ulam_types.specs.declared.fault.TypeFault.TheVariants.{NoMemory};
 
 use crate::copy;

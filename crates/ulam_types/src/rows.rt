@@ -1,12 +1,12 @@
 //! The table of types.
 ghost use Rattle.std.specs.Prelude.{◌≡◌};
-ghost use Rattle.ulam_types.specs.Rows as row;
+ghost use Rattle.type_rules.specs.Rows as row;
 ghost use Rattle.ulam_types.specs.Shown.{Gives};
 
 use crate::fault::TypeFault;
-use crate::scope::NumClass;
 use feast_base::Place;
 use sat_math::{Kind, NumType};
+use type_rules::NumClass;
 use ulam_tree::resolved::Ty;
 use ulam_tree::{PairOp, PrefixOp};
 

@@ -1,11 +1,12 @@
 //! Classes as expressions see them, without the bodies of functions.
 ghost use Rattle.std.specs.Prelude.{◌≡◌, map, IfOk};
 ghost use Rattle.ulam_tree.specs.ResolvedViews.{resolved_class, resolved_member, resolved_param};
-ghost use Rattle.ulam_types.specs.Programs as walk;
+ghost use Rattle.type_rules.specs.Programs as walk;
 ghost use Rattle.ulam_types.specs.Shown.{class_view, function_view, sigs_view};
 
-use crate::scope::{ClassSig, FieldSig, FunctionSig, Want};
+use crate::scope::{ClassSig, FunctionSig};
 use std::alloc::{AllocError, Global};
+use type_rules::{FieldSig, Want};
 use ulam_tree::resolved::{Class, Member, Param};
 
 /// What is wanted of the arguments of a function.

@@ -2,9 +2,9 @@
 ghost use Rattle.ulam_tree.specs.Resolved as tree;
 ghost use Rattle.ulam_tree.specs.ResolvedViews.{resolved_expr, resolved_path, resolved_cond, resolved_statement, resolved_body, resolved_part};
 ghost use Rattle.ulam_tree.specs.TypedViews.{typed_part, boxed_statement};
-ghost use Rattle.ulam_types.specs.Bodies as walk;
+ghost use Rattle.type_rules.specs.Bodies as walk;
 ghost use Rattle.ulam_types.specs.Results.{body_view, GivesBranch, GivesStatement};
-ghost use Rattle.ulam_types.specs.Scopes.{in_loop};
+ghost use Rattle.type_rules.specs.Scopes.{in_loop};
 ghost use Rattle.ulam_types.specs.Shown.{here, Gives};
 
 use crate::copy;
@@ -20,7 +20,7 @@ use ulam_tree::{typed, typed_build as build};
 
 /// A statement.
 #[cycle(statement)]
-#[tactic(auto, unfolding(crate::specs::Bodies::statement))]
+#[tactic(auto, unfolding(type_rules::specs::Bodies::statement))]
 pub fn statement(
     alloc: Global,
     scope: &Scope,
@@ -69,7 +69,7 @@ pub fn statement(
 
 /// A `while`.
 #[cycle(statement)]
-#[tactic(auto, unfolding(crate::specs::Bodies::statement))]
+#[tactic(auto, unfolding(type_rules::specs::Bodies::statement))]
 fn while_so(
     alloc: Global,
     scope: &Scope,
@@ -106,7 +106,7 @@ fn inside(alloc: Global, scope: &Scope, raw: &Statement) -> Result<Box<typed::St
 
 /// A statement that may be absent.
 #[cycle(statement)]
-#[tactic(auto, unfolding(crate::specs::Bodies::statement))]
+#[tactic(auto, unfolding(type_rules::specs::Bodies::statement))]
 fn part(
     alloc: Global,
     scope: &Scope,

@@ -2,13 +2,14 @@
 ghost use Rattle.std.specs.Prelude.{◌≡◌, length};
 ghost use Rattle.ulam_tree.specs.Typed as typed_tree;
 ghost use Rattle.ulam_tree.specs.TypedViews.{typed_form, typed_expr, typed_args};
-ghost use Rattle.ulam_types.specs.Rows as row;
+ghost use Rattle.type_rules.specs.Rows as row;
 ghost use Rattle.ulam_types.specs.Shown.{here};
 
 use crate::lookup::assignable;
 use crate::rows::{is_index, is_unsigned, kind_from, truth, unsigned_type, wide, width_of};
-use crate::scope::{Scope, Want};
+use crate::scope::Scope;
 use sat_math::Kind;
+use type_rules::Want;
 use ulam_tree::resolved::{Built, Ty};
 use ulam_tree::typed;
 use ulam_tree::typed::Form;

@@ -10,8 +10,8 @@ use Rattle.ulam_names.specs.Scopes.{built_in, of_window, of_random}
 use Rattle.ulam_tree.specs.Locals.{all_locals}
 use Rattle.ulam_tree.specs.Typed as t
 use Rattle.ulam_tree.specs.Ways.{leads}
-use Rattle.ulam_types.specs.Bodies.{body}
-use Rattle.ulam_types.specs.Walk.{expr}
+use Rattle.type_rules.specs.Bodies.{body}
+use Rattle.type_rules.specs.Walk.{expr}
 use Rattle.feast_run.proofs.GeneratedSource.Naming.{classes}
 use Rattle.feast_run.proofs.GeneratedSource.Trees.{tree}
 use Rattle.feast_run.proofs.GeneratedSource.Typing.{typed}

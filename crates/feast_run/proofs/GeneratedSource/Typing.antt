@@ -7,10 +7,10 @@ use Rattle.ulam_tree.specs.Typed as t
 use Rattle.ulam_tree.specs.Ways.{leads}
 use Rattle.ulam_types.proofs.Classes.{program_means}
 use Rattle.ulam_tree.proofs.Means.{Means}
-use Rattle.ulam_types.specs.Bodies.{body}
-use Rattle.ulam_types.specs.ProgramTyping.{IsTypedProgram}
-use Rattle.ulam_types.specs.Programs.{program}
-use Rattle.ulam_types.specs.Walk.{expr}
+use Rattle.type_rules.specs.Bodies.{body}
+use Rattle.type_rules.specs.ProgramTyping.{IsTypedProgram}
+use Rattle.type_rules.specs.Programs.{program}
+use Rattle.type_rules.specs.Walk.{expr}
 use Rattle.feast_run.proofs.GeneratedSource.Found.{found, is_found}
 use Rattle.feast_run.proofs.GeneratedSource.Naming.{classes}
 use Rattle.feast_run.proofs.GeneratedSource.Trees.{tree}

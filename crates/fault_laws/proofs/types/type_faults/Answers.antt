@@ -1,4 +1,4 @@
-use Rattle.ulam_types.specs.Faults as fault
+use Rattle.type_rules.specs.Faults as fault
 use Rattle.fault_laws.proofs.TypesExamples.{type_examples}
 use Rattle.fault_laws.proofs.TypesPrograms.{type_fault}
 use Rattle.fault_laws.proofs.types.type_faults.Goals as goal

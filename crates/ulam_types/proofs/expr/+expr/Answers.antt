@@ -1,7 +1,7 @@
 use Rattle.std.proofs.Common.{rules, arith, refl, sym, ◌∙◌, subst}
 use Rattle.std.proofs.lemmas.Grind.{common_steps}
 use Rattle.ulam_tree.specs.ResolvedViews.{resolved_args}
-use Rattle.ulam_types.specs.Walk as walk
+use Rattle.type_rules.specs.Walk as walk
 use Rattle.ulam_types.specs.Shown.{here, Fails}
 use Rattle.ulam_types.proofs.Args.{args_none, count_is, args_step, args_stop, args_done, call_at}
 use Rattle.ulam_types.proofs.Fails.{passed_on, no_room}

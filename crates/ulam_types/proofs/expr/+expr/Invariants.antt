@@ -1,6 +1,6 @@
 use Rattle.std.proofs.Common.{◌≡◌, length, drop}
 use Rattle.ulam_tree.specs.ResolvedViews.{resolved_args}
-use Rattle.ulam_types.specs.Walk as walk
+use Rattle.type_rules.specs.Walk as walk
 use Rattle.ulam_types.specs.Shown.{here, with_args}
 use Rattle.ulam_types.proofs.expr.+expr.Given as goal
 

@@ -1,6 +1,6 @@
 use Rattle.std.proofs.Common.{arith, rules}
 use Rattle.std.proofs.lemmas.Grind.{common_steps}
-use Rattle.ulam_types.specs.Walk as walk
+use Rattle.type_rules.specs.Walk as walk
 use Rattle.ulam_types.proofs.Fails.{passed_on, no_room}
 use Rattle.ulam_types.proofs.form.value_at.Goals as goal
 

@@ -1,6 +1,6 @@
 use Rattle.std.proofs.Common.{◌≡◌, drop, map}
 use Rattle.ulam_tree.specs.ResolvedViews.{resolved_param}
-use Rattle.ulam_types.specs.Programs as walk
+use Rattle.type_rules.specs.Programs as walk
 use Rattle.ulam_types.specs.Shown.{here}
 use Rattle.ulam_types.proofs.function.header.Given as goal
 

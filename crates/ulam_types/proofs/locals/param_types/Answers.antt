@@ -3,7 +3,7 @@ use Rattle.std.proofs.lemmas.List.{at_drop_more}
 use Rattle.ulam_tree.specs.ResolvedViews.{resolved_param}
 use Rattle.ulam_tree.specs.declared.resolved.Param.{Param}
 use Rattle.ulam_tree.specs.declared.resolved.Ty.{Ty}
-use Rattle.ulam_types.specs.Programs.{param_type}
+use Rattle.type_rules.specs.Programs.{param_type}
 use Rattle.ulam_types.proofs.locals.param_types.Goals as goal
 
 pub loop-param-preserved : goal.loop-param-preserved

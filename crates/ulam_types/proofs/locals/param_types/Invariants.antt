@@ -1,6 +1,6 @@
 use Rattle.std.proofs.Common.{◌≡◌, ◌++◌, map, drop}
 use Rattle.ulam_tree.specs.ResolvedViews.{resolved_param}
-use Rattle.ulam_types.specs.Programs.{param_type}
+use Rattle.type_rules.specs.Programs.{param_type}
 use Rattle.ulam_types.proofs.locals.param_types.Given as goal
 
 abbrev pub invariant-loop-param : goal.invariant-loop-param

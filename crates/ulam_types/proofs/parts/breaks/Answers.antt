@@ -1,6 +1,6 @@
 use Rattle.std.proofs.Common.{arith, rules}
 use Rattle.std.proofs.lemmas.Grind.{common_steps}
-use Rattle.ulam_types.specs.Bodies as walk
+use Rattle.type_rules.specs.Bodies as walk
 use Rattle.ulam_types.proofs.Fails.{passed_on}
 use Rattle.ulam_types.proofs.parts.breaks.Goals as goal
 

@@ -6,8 +6,8 @@ use Rattle.ulam_tree.specs.Typed as t
 use Rattle.ulam_tree.specs.ResolvedViews.{resolved_member}
 use Rattle.ulam_tree.specs.TypedViews.{typed_member}
 use Rattle.ulam_tree.specs.declared.resolved.Member.{Member}
-use Rattle.ulam_types.specs.Scopes.{ClassSig}
-use Rattle.ulam_types.specs.Programs as walk
+use Rattle.type_rules.specs.Scopes.{ClassSig}
+use Rattle.type_rules.specs.Programs as walk
 use Rattle.ulam_tree.specs.Found.{with_front}
 use Rattle.ulam_types.specs.Shown.{class_view}
 use Rattle.ulam_types.proofs.Lists.{member_on}

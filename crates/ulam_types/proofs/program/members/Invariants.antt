@@ -1,7 +1,7 @@
 use Rattle.std.proofs.Common.{◌≡◌, map, drop}
 use Rattle.ulam_tree.specs.ResolvedViews.{resolved_member}
 use Rattle.ulam_tree.specs.TypedViews.{typed_member}
-use Rattle.ulam_types.specs.Programs as walk
+use Rattle.type_rules.specs.Programs as walk
 use Rattle.ulam_tree.specs.Found.{with_front}
 use Rattle.ulam_types.specs.Shown.{class_view}
 use Rattle.ulam_types.proofs.program.members.Given as goal

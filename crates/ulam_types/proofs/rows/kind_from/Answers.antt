@@ -1,5 +1,5 @@
 use Rattle.std.proofs.Common.{◌∙◌, sym, ap}
-use Rattle.ulam_types.specs.Rows.{taken_by}
+use Rattle.type_rules.specs.Rows.{taken_by}
 use Rattle.ulam_types.proofs.rows.kind_from.Goals as goal
 
 pub returns-in-Bits : goal.returns-in-Bits

@@ -1,6 +1,6 @@
 use Rattle.std.proofs.Common.{◌≡◌, ◌++◌, map, drop}
 use Rattle.ulam_tree.specs.ResolvedViews.{resolved_class}
-use Rattle.ulam_types.specs.Programs.{class_sig}
+use Rattle.type_rules.specs.Programs.{class_sig}
 use Rattle.ulam_types.specs.Shown.{class_view}
 use Rattle.ulam_types.proofs.sigs.class_sigs.Given as goal
 

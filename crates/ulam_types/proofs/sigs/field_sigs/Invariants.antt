@@ -1,6 +1,6 @@
 use Rattle.std.proofs.Common.{◌≡◌, ◌++◌, map, drop}
 use Rattle.ulam_tree.specs.ResolvedViews.{resolved_member}
-use Rattle.ulam_types.specs.Programs.{fields_of}
+use Rattle.type_rules.specs.Programs.{fields_of}
 use Rattle.ulam_types.proofs.sigs.field_sigs.Given as goal
 
 abbrev pub invariant-loop-member : goal.invariant-loop-member

@@ -1,6 +1,6 @@
 use Rattle.std.proofs.Common.{◌≡◌, ◌++◌, map, drop}
 use Rattle.ulam_tree.specs.ResolvedViews.{resolved_member}
-use Rattle.ulam_types.specs.Programs.{functions_of}
+use Rattle.type_rules.specs.Programs.{functions_of}
 use Rattle.ulam_types.specs.Shown.{function_view}
 use Rattle.ulam_types.proofs.sigs.function_sigs.Given as goal
 

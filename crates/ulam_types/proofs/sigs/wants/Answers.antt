@@ -2,8 +2,8 @@ use Rattle.std.proofs.Common.{◌∙◌, sym, ap, List, [], ◌∷◌, ◌++◌,
 use Rattle.std.proofs.lemmas.List.{at_drop_more}
 use Rattle.ulam_tree.specs.ResolvedViews.{resolved_param}
 use Rattle.ulam_tree.specs.declared.resolved.Param.{Param}
-use Rattle.ulam_types.specs.declared.scope.Want.{Want}
-use Rattle.ulam_types.specs.Programs.{want_of}
+use Rattle.type_rules.specs.declared.scope.Want.{Want}
+use Rattle.type_rules.specs.Programs.{want_of}
 use Rattle.ulam_types.proofs.sigs.wants.Goals as goal
 
 pub loop-param-preserved : goal.loop-param-preserved

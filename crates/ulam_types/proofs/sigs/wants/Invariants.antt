@@ -1,6 +1,6 @@
 use Rattle.std.proofs.Common.{◌≡◌, ◌++◌, map, drop}
 use Rattle.ulam_tree.specs.ResolvedViews.{resolved_param}
-use Rattle.ulam_types.specs.Programs.{want_of}
+use Rattle.type_rules.specs.Programs.{want_of}
 use Rattle.ulam_types.proofs.sigs.wants.Given as goal
 
 abbrev pub invariant-loop-param : goal.invariant-loop-param

@@ -2,7 +2,7 @@ use Rattle.std.proofs.Common.{rules, arith, ◌≡◌, refl, sym, ◌∙◌, sub
 use Rattle.std.specs.Box.{box_value}
 use Rattle.std.proofs.lemmas.Grind.{common_steps}
 use Rattle.ulam_tree.specs.ResolvedViews.{resolved_expr, resolved_statement, resolved_body, resolved_cond, resolved_part}
-use Rattle.ulam_types.specs.Bodies as walk
+use Rattle.type_rules.specs.Bodies as walk
 use Rattle.ulam_types.specs.Shown.{here, Fails}
 use Rattle.ulam_types.proofs.Bodies.{body_none, body_step, body_stop, body_done, block_at, if_at, branch_stop, else_stop, for_at, for_stop}
 use Rattle.ulam_types.proofs.Fails.{passed_on, no_room}

@@ -1,6 +1,6 @@
 use Rattle.std.proofs.Common.{◌≡◌, drop}
 use Rattle.ulam_tree.specs.ResolvedViews.{resolved_body}
-use Rattle.ulam_types.specs.Bodies as walk
+use Rattle.type_rules.specs.Bodies as walk
 use Rattle.ulam_types.specs.Shown.{here, with_body}
 use Rattle.ulam_types.proofs.statement.+statement.Given as goal
 

@@ -1,6 +1,6 @@
 use Rattle.std.proofs.Common.{◌≡◌, drop}
 use Rattle.ulam_tree.specs.TypedViews.{typed_args}
-use Rattle.ulam_types.specs.Rows as row
+use Rattle.type_rules.specs.Rows as row
 use Rattle.ulam_types.specs.Shown.{here}
 use Rattle.ulam_types.proofs.suits.all_suit.Given as goal
 

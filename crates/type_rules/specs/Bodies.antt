@@ -12,10 +12,10 @@ use Rattle.std.specs.Prelude.{Bool}
 use Rattle.ulam_tree.specs.Resolved as r
 use Rattle.ulam_tree.specs.Typed as t
 use Rattle.ulam_tree.specs.Found.{◌>>=◌, value_or_fault, must}
-use Rattle.ulam_types.specs.Faults.{wrong_type, not_assignable, bad_as, break_outside, Found}
-use Rattle.ulam_types.specs.Scopes.{Scope, in_loop, scope_as, is_element, is_value, target_type}
-use Rattle.ulam_types.specs.Rows.{kind_from, plain_type, pair_found, is_truth, is_void, assignable}
-use Rattle.ulam_types.specs.Walk.{plain, place_of, expr, call, item}
+use Rattle.type_rules.specs.Faults.{wrong_type, not_assignable, bad_as, break_outside, Found}
+use Rattle.type_rules.specs.Scopes.{Scope, in_loop, scope_as, is_element, is_value, target_type}
+use Rattle.type_rules.specs.Rows.{kind_from, plain_type, pair_found, is_truth, is_void, assignable}
+use Rattle.type_rules.specs.Walk.{plain, place_of, expr, call, item}
 
 -- a left side, and its type
 abbrev pub left_by : Scope → r.Path → Option r.Expr → Found (t.Left × Ty)

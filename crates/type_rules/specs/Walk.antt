@@ -7,11 +7,11 @@ use Rattle.ulam_tree.specs.declared.resolved.Ty.{Ty}
 use Rattle.ulam_tree.specs.declared.op.PairOp.{PairOp}
 use Rattle.ulam_tree.specs.Resolved as r
 use Rattle.ulam_tree.specs.Typed as t
-use Rattle.ulam_types.specs.declared.scope.Want.{Want}
+use Rattle.type_rules.specs.declared.scope.Want.{Want}
 use Rattle.ulam_tree.specs.Found.{◌>>=◌, value_or_fault, must}
-use Rattle.ulam_types.specs.Faults.{wrong_type, wrong_count, bad_as, Found}
-use Rattle.ulam_types.specs.Scopes.{Scope, Callee, is_value, value_type, item_type, callee, wants_of}
-use Rattle.ulam_types.specs.Rows.{unsigned_type, bool, kind_from, beside, plain_type, plain_fits, pair_found, prefix_type, cast_type, is_atom, is_species, instance_type, is_index, taken_want, all_suit, is_built, misfit, result_of}
+use Rattle.type_rules.specs.Faults.{wrong_type, wrong_count, bad_as, Found}
+use Rattle.type_rules.specs.Scopes.{Scope, Callee, is_value, value_type, item_type, callee, wants_of}
+use Rattle.type_rules.specs.Rows.{unsigned_type, bool, kind_from, beside, plain_type, plain_fits, pair_found, prefix_type, cast_type, is_atom, is_species, instance_type, is_index, taken_want, all_suit, is_built, misfit, result_of}
 
 -- a number without `u`, in any number of brackets
 abbrev pub plain : r.Expr → Bool

@@ -6,11 +6,11 @@ use Rattle.ulam_tree.specs.declared.op.PairOp.{PairOp}
 use Rattle.ulam_tree.specs.declared.op.PairOp.TheVariants as op
 use Rattle.ulam_tree.specs.Typed as t
 use Rattle.ulam_tree.specs.Completes.{all_complete}
-use Rattle.ulam_types.specs.Scopes.{Scope, ClassSig, Callee, in_loop, scope_as, is_value, value_type, target_type, item_type, callee, wants_of}
-use Rattle.ulam_types.specs.Rows.{unsigned_type, bool, kind_from, plain_type, plain_fits, pair_type, prefix_type, cast_type, is_atom, is_species, instance_type, is_index, is_truth, is_void, assignable, all_suit, result_of}
-use Rattle.ulam_types.specs.Bodies.{atom_slot, is_element_type}
-use Rattle.ulam_types.specs.Programs.{class_sig, scope_of}
-use Rattle.ulam_types.specs.ProgramTyping.{HaveValues}
+use Rattle.type_rules.specs.Scopes.{Scope, ClassSig, Callee, in_loop, scope_as, is_value, value_type, target_type, item_type, callee, wants_of}
+use Rattle.type_rules.specs.Rows.{unsigned_type, bool, kind_from, plain_type, plain_fits, pair_type, prefix_type, cast_type, is_atom, is_species, instance_type, is_index, is_truth, is_void, assignable, all_suit, result_of}
+use Rattle.type_rules.specs.Bodies.{atom_slot, is_element_type}
+use Rattle.type_rules.specs.Programs.{class_sig, scope_of}
+use Rattle.type_rules.specs.ProgramTyping.{HaveValues}
 
 abbrev pub count : t.Args → ℕ
 count t.no_args = 0

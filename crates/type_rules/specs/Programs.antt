@@ -8,14 +8,14 @@ use Rattle.ulam_tree.specs.Resolved as r
 use Rattle.ulam_tree.specs.Typed as t
 use Rattle.ulam_tree.specs.Locals.{all_locals}
 use Rattle.ulam_tree.specs.Completes.{all_complete}
-use Rattle.ulam_types.specs.declared.scope.FieldSig.{FieldSig}
-use Rattle.ulam_types.specs.declared.scope.Want.{Want}
-use Rattle.ulam_types.specs.declared.scope.Want.TheVariants.{Value}
+use Rattle.type_rules.specs.declared.scope.FieldSig.{FieldSig}
+use Rattle.type_rules.specs.declared.scope.Want.{Want}
+use Rattle.type_rules.specs.declared.scope.Want.TheVariants.{Value}
 use Rattle.ulam_tree.specs.Found.{◌>>=◌, must, fault_of}
-use Rattle.ulam_types.specs.Faults.{Fault, wrong_type, missing_return, Found}
-use Rattle.ulam_types.specs.Scopes.{Scope, FunctionSig, ClassSig, is_value}
-use Rattle.ulam_types.specs.Rows.{is_void}
-use Rattle.ulam_types.specs.Bodies as b
+use Rattle.type_rules.specs.Faults.{Fault, wrong_type, missing_return, Found}
+use Rattle.type_rules.specs.Scopes.{Scope, FunctionSig, ClassSig, is_value}
+use Rattle.type_rules.specs.Rows.{is_void}
+use Rattle.type_rules.specs.Bodies as b
 
 -- Classes as expressions see them
 

@@ -3,10 +3,10 @@ use Rattle.std.specs.Prelude.{◌≡◌, ℕ, ◌+◌, true, ◌||◌, not, List
 use Rattle.ulam_tree.specs.Resolved as r
 use Rattle.ulam_tree.specs.Typed as t
 use Rattle.ulam_tree.specs.Completes.{all_complete}
-use Rattle.ulam_types.specs.Scopes.{Scope, ClassSig, is_value}
-use Rattle.ulam_types.specs.Rows.{is_void}
-use Rattle.ulam_types.specs.Programs.{class_sig, scope_of}
-use Rattle.ulam_types.specs.Typing.{IsTypedBody}
+use Rattle.type_rules.specs.Scopes.{Scope, ClassSig, is_value}
+use Rattle.type_rules.specs.Rows.{is_void}
+use Rattle.type_rules.specs.Programs.{class_sig, scope_of}
+use Rattle.type_rules.specs.Typing.{IsTypedBody}
 
 abbrev pub HaveValues : Scope → List r.Param → Type 0
 HaveValues g [] = Unit {0}

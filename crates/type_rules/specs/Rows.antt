@@ -12,13 +12,13 @@ use Rattle.ulam_tree.specs.declared.op.PairOp.TheVariants as op
 use Rattle.ulam_tree.specs.declared.resolved.Built.{Built}
 use Rattle.ulam_tree.specs.declared.resolved.Built.TheVariants.{Swap, IsLive, IsEmpty, Create, OneIn}
 use Rattle.ulam_tree.specs.Typed as t
-use Rattle.ulam_types.specs.declared.scope.NumClass.{NumClass}
-use Rattle.ulam_types.specs.declared.scope.NumClass.TheVariants.{Int, Unsigned, Bits, Bool as Truth, Other}
-use Rattle.ulam_types.specs.declared.scope.Want.{Want}
-use Rattle.ulam_types.specs.declared.scope.Want.TheVariants.{Value, Site, Bound}
+use Rattle.type_rules.specs.declared.scope.NumClass.{NumClass}
+use Rattle.type_rules.specs.declared.scope.NumClass.TheVariants.{Int, Unsigned, Bits, Bool as Truth, Other}
+use Rattle.type_rules.specs.declared.scope.Want.{Want}
+use Rattle.type_rules.specs.declared.scope.Want.TheVariants.{Value, Site, Bound}
 use Rattle.ulam_tree.specs.Found.{value_or_fault}
-use Rattle.ulam_types.specs.Faults.{Fault, wrong_type, mixed_signs, not_assignable, Found}
-use Rattle.ulam_types.specs.Scopes.{Scope, is_element, Callee, function, built}
+use Rattle.type_rules.specs.Faults.{Fault, wrong_type, mixed_signs, not_assignable, Found}
+use Rattle.type_rules.specs.Scopes.{Scope, is_element, Callee, function, built}
 
 abbrev pub int : ℕ → Ty
 int w = Num (record { kind = k.Int; width = w })

@@ -1,0 +1,9 @@
+pub mod Bodies
+pub mod Faults
+pub mod ProgramTyping
+pub mod Programs
+pub mod Rows
+pub mod Scopes
+pub mod Typing
+pub mod Walk
+pub mod Well
