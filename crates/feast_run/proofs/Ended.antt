@@ -4,7 +4,7 @@ use Rattle.feast_base.specs.Outside.{ShelfState, SinkState}
 use Rattle.feast_run.specs.Answer.{form_answer}
 use Rattle.feast_run.specs.Changes.{Change}
 use Rattle.feast_run.specs.Ending.{ComesTo, Ends, Leaves, Missed, KeepsOrMisses}
-use Rattle.feast_run.specs.Forms.{FormValue}
+use Rattle.call_form.specs.Forms.{FormValue}
 use Rattle.feast_run.specs.Halting.{FormOutcome, misses, refuses}
 use Rattle.feast_run.specs.Outputs.{output_text}
 use Rattle.feast_run.specs.Replies.{PutWith}

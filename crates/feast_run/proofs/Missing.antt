@@ -7,7 +7,7 @@ use Rattle.feast_run.specs.Changes.{Change}
 use Rattle.feast_run.specs.CodeFiles.{codes_from, ready_packed}
 use Rattle.feast_run.specs.Elements.{ElementsValue, code_elements, source_elements}
 use Rattle.feast_run.specs.Ending.{Ends, Leaves, status_of}
-use Rattle.feast_run.specs.Forms.{FormValue, check, code, pack, run, step, replay, gen, audit, rewind, steppack, runpack}
+use Rattle.call_form.specs.Forms.{FormValue, check, code, pack, run, step, replay, gen, audit, rewind, steppack, runpack}
 use Rattle.feast_base.specs.Stages.{Stage}
 use Rattle.feast_run.specs.Halting.{FormOutcome, HaltValue, MissesOf, misses, refuses}
 use Rattle.feast_run.specs.Promises.{Noted, IsWordOf, file_words}

@@ -18,7 +18,7 @@ use Rattle.feast_run.specs.Changes.{Change}
 use Rattle.feast_run.specs.CodeFiles.{codes_from, codes_in, ready_packed}
 use Rattle.feast_run.specs.Elements.{ElementsValue, code_elements, source_elements}
 use Rattle.feast_run.specs.Ending.{Ends, Whole, status_of, status_of_input, text_of}
-use Rattle.feast_run.specs.Forms.{FormValue, check, code, pack, run, step, replay, gen, audit, rewind, steppack, runpack}
+use Rattle.call_form.specs.Forms.{FormValue, check, code, pack, run, step, replay, gen, audit, rewind, steppack, runpack}
 use Rattle.feast_run.specs.Generating.{own_set, summarizes}
 use Rattle.feast_run.specs.Halting.{FormOutcome, HaltValue, RefusedValue, misses, refusal_of, refuses}
 use Rattle.feast_run.specs.Naming.{IsAboutFile, Names, NamesFile, NamesIt, words_at}

@@ -5,7 +5,7 @@ use Rattle.feast_base.specs.Outside.{ShelfState, file_of}
 use Rattle.feast_run.proofs.Missing.{noted_of}
 use Rattle.feast_run.specs.Changes.{Change}
 use Rattle.feast_run.specs.Ending.{ComesTo, status_of, status_of_input}
-use Rattle.feast_run.specs.Forms.{FormValue}
+use Rattle.call_form.specs.Forms.{FormValue}
 use Rattle.feast_run.specs.Halting.{FormOutcome, misses, refuses}
 use Rattle.feast_run.specs.Promises.{BothHeld, EndsInMemory, NothingFails, NothingMayFail, shelf_change, sink_change}
 use Rattle.feast_run.specs.declared.status.Status.{Status}

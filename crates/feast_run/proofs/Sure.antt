@@ -12,7 +12,7 @@ use Rattle.feast_base.proofs.Stages.{then_sure, then_one, any_sure, gives_one, k
 use Rattle.feast_run.proofs.Laws.{decides_one, sure_by, then_accepts}
 use Rattle.feast_run.specs.Answer.{atoms_after, form_answer, rewinds}
 use Rattle.feast_run.specs.Packed.{pack_text}
-use Rattle.feast_run.specs.Forms.{FormValue, check, code, pack, run, step, replay, gen, audit, rewind, steppack, runpack}
+use Rattle.call_form.specs.Forms.{FormValue, check, code, pack, run, step, replay, gen, audit, rewind, steppack, runpack}
 use Rattle.feast_run.specs.Generating.{generated_ready, own_set, stepped_summary}
 use Rattle.feast_run.specs.Audited.{Audits}
 use Rattle.feast_run.specs.CodeFiles.{codes_from, ready_packed}

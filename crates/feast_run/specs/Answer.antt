@@ -8,7 +8,7 @@ use Rattle.event_journal.specs.Logs.{LogValue, log_of}
 use Rattle.feast_base.specs.Outside.{File}
 use Rattle.report_text.specs.Entries.{Entries}
 use Rattle.feast_run.specs.CodeFiles.{ready_packed}
-use Rattle.feast_run.specs.Forms.{FormValue, check, code, pack, run, step, replay, gen, audit, rewind, steppack, runpack}
+use Rattle.call_form.specs.Forms.{FormValue, check, code, pack, run, step, replay, gen, audit, rewind, steppack, runpack}
 use Rattle.feast_run.specs.Packed.{pack_text}
 use Rattle.feast_run.specs.Generating.{generates}
 use Rattle.feast_base.specs.Stages.{Stage, and_then, gives, gives_any, gives_known}

@@ -5,7 +5,7 @@ use Rattle.feast_base.specs.Outside.{ShelfState, SinkState}
 use Rattle.feast_base.specs.Refusals.{refusal_line, usage_line, unreadable_line}
 use Rattle.feast_run.specs.Answer.{form_answer}
 use Rattle.feast_run.specs.Changes.{Change}
-use Rattle.feast_run.specs.Forms.{FormValue}
+use Rattle.call_form.specs.Forms.{FormValue}
 use Rattle.feast_base.specs.Stages.{Stage}
 use Rattle.feast_run.specs.Halting.{FormOutcome, HaltValue, misses, refuses}
 use Rattle.feast_run.specs.Tellings.{Keeps, Notes}

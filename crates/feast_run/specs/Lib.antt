@@ -8,7 +8,6 @@ pub mod Codes
 pub mod Elements
 pub mod Ending
 pub mod Faults
-pub mod Forms
 pub mod GeneratedElements
 pub mod Generating
 pub mod Halting

@@ -4,7 +4,7 @@ use Rattle.feast_base.specs.Outside.{SinkState}
 use Rattle.feast_base.specs.Refusals.{longer_line, placed_line, unreadable_line}
 use Rattle.feast_base.specs.declared.place.Refusal.{Refusal}
 use Rattle.feast_run.specs.Changes.{Change}
-use Rattle.feast_run.specs.Forms.{FormValue, check, code, pack, run, step, replay, gen, audit, rewind, steppack, runpack}
+use Rattle.call_form.specs.Forms.{FormValue, check, code, pack, run, step, replay, gen, audit, rewind, steppack, runpack}
 use Rattle.feast_run.specs.Promises.{Gains, IsWordOf, file_words}
 use Rattle.feast_run.specs.declared.status.Status.{Status}
 use Rattle.feast_run.specs.declared.status.Status.TheVariants as how

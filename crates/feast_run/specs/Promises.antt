@@ -13,7 +13,7 @@ use Rattle.feast_run.specs.Answer.{AreFirstAtoms, atoms_after, form_answer}
 use Rattle.feast_run.specs.Audited.{Audits}
 use Rattle.feast_run.specs.Changes.{Change, change}
 use Rattle.feast_run.specs.Ending.{ComesTo, Ends, status_of}
-use Rattle.feast_run.specs.Forms.{FormValue, check, code, pack, run, step, replay, gen, audit, rewind, steppack, runpack}
+use Rattle.call_form.specs.Forms.{FormValue, check, code, pack, run, step, replay, gen, audit, rewind, steppack, runpack}
 use Rattle.feast_run.specs.Packed.{pack_text}
 use Rattle.feast_run.specs.Generating.{generated_ready, stepped_summary}
 use Rattle.feast_run.specs.Halting.{FormOutcome, misses, refuses}

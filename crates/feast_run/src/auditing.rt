@@ -1,12 +1,12 @@
 //! The stages of an audit.
 ghost use Rattle.std.specs.Prelude.{◌≡◌, ◌<◌, ◌≤◌, ◌^◌, IfOk, length};
 ghost use Rattle.feast_run.specs.Audited.{Audits, audit_of, audit_with};
-ghost use Rattle.feast_run.specs.Forms.{audit, texts};
+ghost use Rattle.call_form.specs.Forms.{audit, texts};
 ghost use Rattle.feast_run.specs.Outputs.{IsWritable, output_text};
 ghost use Rattle.feast_run.specs.Replies.{TellsForm};
 ghost use Rattle.feast_run.specs.Tellings.{Moves, Tells};
 ghost use Rattle.feast_run.specs.Values.{IsReady, ready_value};
-ghost use Rattle.feast_run.specs.declared.form.TheConstants.{MOST_FILES};
+ghost use Rattle.call_form.specs.declared.form.TheConstants.{MOST_FILES};
 ghost use Rattle.report_text.specs.Again.{SaysThese};
 ghost use Rattle.world_text.specs.Values.{world_value};
 

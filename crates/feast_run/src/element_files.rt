@@ -1,11 +1,11 @@
 //! Loading and building element files.
 ghost use Rattle.std.specs.Prelude.{◌≡◌, ◌≤◌, [], IfOk, length, slice_index_or};
 ghost use Rattle.element_set.specs.Sets.{set_value};
-ghost use Rattle.feast_run.specs.Forms.{texts};
+ghost use Rattle.call_form.specs.Forms.{texts};
 ghost use Rattle.feast_run.specs.Stages.{AreWithin, builds, load, load_all, set_of};
 ghost use Rattle.feast_run.specs.Tellings.{Moves, Tells};
 ghost use Rattle.feast_run.specs.declared.loading.TheConstants.{ELEMENT_LIMIT};
-ghost use Rattle.feast_run.specs.declared.form.TheConstants.{MOST_FILES};
+ghost use Rattle.call_form.specs.declared.form.TheConstants.{MOST_FILES};
 
 use crate::halt::{Halt, Input, Refused};
 use crate::loading::{ELEMENT_LIMIT, load_file};

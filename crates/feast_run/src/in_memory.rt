@@ -1,6 +1,6 @@
 //! The top call over a shelf and a sink in memory.
 ghost use Rattle.std.specs.Prelude.{◌<◌, ◌^◌, ◌-◌};
-ghost use Rattle.feast_run.specs.Forms.{form_of_words};
+ghost use Rattle.call_form.specs.Forms.{form_of_words};
 ghost use Rattle.feast_run.specs.Promises.{EndsInMemory, NothingFails, both_held};
 
 use crate::{Status, feast};

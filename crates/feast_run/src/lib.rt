@@ -8,7 +8,6 @@ mod auditing;
 mod code_files;
 mod element_files;
 mod elements;
-mod form;
 mod generated_elements;
 mod generating;
 mod grids;

@@ -1,14 +1,14 @@
 //! The stages of a replay.
 ghost use Rattle.std.specs.Prelude.{◌≡◌, ◌≤◌, All, IfOk, length};
 ghost use Rattle.feast_run.specs.Answer.{atoms_after, replay_of};
-ghost use Rattle.feast_run.specs.Forms.{replay, texts};
+ghost use Rattle.call_form.specs.Forms.{replay, texts};
 ghost use Rattle.feast_run.specs.Outputs.{IsWritable, output_text};
 ghost use Rattle.feast_run.specs.Replies.{TellsForm};
 ghost use Rattle.feast_run.specs.Tellings.{Moves, Tells};
 ghost use Rattle.feast_run.specs.Values.{IsReady, ready_value};
 ghost use Rattle.world_runs.specs.Worlds.{IsLiveEvent};
 ghost use Rattle.world_text.specs.Values.{world_value};
-ghost use Rattle.feast_run.specs.declared.form.TheConstants.{MOST_FILES};
+ghost use Rattle.call_form.specs.declared.form.TheConstants.{MOST_FILES};
 
 use crate::grids::grid_after;
 use crate::halt::Halt;

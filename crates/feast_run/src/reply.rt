@@ -4,16 +4,16 @@ ghost use Rattle.element_set.specs.Sets.{Coded};
 ghost use Rattle.feast_base.specs.Refusals.{refusal_line};
 ghost use Rattle.feast_run.specs.Changes.{change};
 ghost use Rattle.feast_run.specs.Ending.{status_of_input};
-ghost use Rattle.feast_run.specs.Forms.{IsFew, form_of_words, form_value};
+ghost use Rattle.call_form.specs.Forms.{IsFew, form_of_words, form_value};
 ghost use Rattle.feast_run.specs.Outputs.{IsWritable};
 ghost use Rattle.feast_run.specs.Replies.{Replies, Says};
 
 use crate::Status;
-use crate::form::{Form, read_form};
 use crate::halt::{Halt, Input};
 use crate::loading::{UNREADABLE, USAGE, whole_file};
 use crate::output::Output;
 use crate::stages::form_stages;
+use call_form::{Form, read_form};
 use feast_base::{Gate, NoMemory, Refusal, Shelf, print_refusal};
 use std::alloc::Global;
 use std::thread::Threads;

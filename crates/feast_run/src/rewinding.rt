@@ -2,7 +2,7 @@
 ghost use Rattle.std.specs.Prelude.{◌≡◌, ◌<◌, ◌≤◌, All, Err, IfOk, length, take};
 ghost use Rattle.feast_run.specs.Answer.{atoms_after, rewind_of, rewinds};
 ghost use Rattle.feast_run.specs.Faults.{IsHalt};
-ghost use Rattle.feast_run.specs.Forms.{rewind, texts};
+ghost use Rattle.call_form.specs.Forms.{rewind, texts};
 ghost use Rattle.feast_run.specs.Outputs.{IsWritable, output_text};
 ghost use Rattle.feast_run.specs.Replies.{TellsForm};
 ghost use Rattle.feast_run.specs.Stages.{records_refused};
@@ -10,7 +10,7 @@ ghost use Rattle.feast_run.specs.Tellings.{Moves, Tells};
 ghost use Rattle.feast_run.specs.Values.{IsReady, ready_value};
 ghost use Rattle.world_runs.specs.Worlds.{IsLiveEvent};
 ghost use Rattle.world_text.specs.Values.{world_value};
-ghost use Rattle.feast_run.specs.declared.form.TheConstants.{MOST_FILES};
+ghost use Rattle.call_form.specs.declared.form.TheConstants.{MOST_FILES};
 
 use crate::halt::Halt;
 use crate::journals::{journal_refusal, load_journal};

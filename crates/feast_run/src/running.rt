@@ -2,7 +2,7 @@
 ghost use Rattle.std.specs.Prelude.{◌≡◌, ◌≢◌, ◌≤◌, [], IfOk, length};
 ghost use Rattle.event_journal.specs.Logs.{abandoned_in, records_in};
 ghost use Rattle.feast_run.specs.Answer.{lone_logs, run_report, runs};
-ghost use Rattle.feast_run.specs.Forms.{run, runpack, texts};
+ghost use Rattle.call_form.specs.Forms.{run, runpack, texts};
 ghost use Rattle.feast_run.specs.Outputs.{IsWritable, output_text};
 ghost use Rattle.feast_run.specs.Owing.{Reports};
 ghost use Rattle.feast_run.specs.Replies.{TellsForm};
@@ -12,7 +12,7 @@ ghost use Rattle.feast_run.specs.Values.{IsReady, ready_value};
 ghost use Rattle.world_runs.specs.OneTile.{events_of};
 ghost use Rattle.tile_map.specs.Plane.{tiles_of};
 ghost use Rattle.world_text.specs.Values.{world_value};
-ghost use Rattle.feast_run.specs.declared.form.TheConstants.{MOST_FILES};
+ghost use Rattle.call_form.specs.declared.form.TheConstants.{MOST_FILES};
 
 use crate::acting::{actors, tiles_in};
 use crate::grids::grid_after;

@@ -2,15 +2,14 @@
 ghost use Rattle.std.specs.Prelude.{◌≡◌, ◌≤◌, IfOk, length};
 ghost use Rattle.element_set.specs.Sets.{check_text, code_text, set_value};
 ghost use Rattle.feast_run.specs.Answer.{shows};
-ghost use Rattle.feast_run.specs.Forms.{IsFew, check, code, form_value, texts};
+ghost use Rattle.call_form.specs.Forms.{IsFew, check, code, form_value, texts};
 ghost use Rattle.feast_run.specs.Outputs.{IsWritable, output_text};
 ghost use Rattle.feast_run.specs.Replies.{TellsForm};
 ghost use Rattle.feast_run.specs.Tellings.{Moves, Tells};
-ghost use Rattle.feast_run.specs.declared.form.TheConstants.{MOST_FILES};
+ghost use Rattle.call_form.specs.declared.form.TheConstants.{MOST_FILES};
 
 use crate::auditing::audit_stages;
 use crate::element_files::load_set;
-use crate::form::Form;
 use crate::generating::gen_stages;
 use crate::halt::Halt;
 use crate::output::Output;
@@ -19,6 +18,7 @@ use crate::replaying::replay_stages;
 use crate::rewinding::rewind_stages;
 use crate::running::{run_stages, runpack_stages};
 use crate::stepping::{step_stages, steppack_stages};
+use call_form::Form;
 use element_set::ElementSet;
 use feast_base::{Gate, Shelf};
 use std::alloc::Global;

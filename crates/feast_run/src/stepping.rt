@@ -1,13 +1,13 @@
 //! The stages of a stepped run.
 ghost use Rattle.std.specs.Prelude.{◌≡◌, ◌≤◌, IfOk, length};
 ghost use Rattle.feast_run.specs.Answer.{steps};
-ghost use Rattle.feast_run.specs.Forms.{step, steppack, texts};
+ghost use Rattle.call_form.specs.Forms.{step, steppack, texts};
 ghost use Rattle.feast_run.specs.Outputs.{IsWritable, output_text};
 ghost use Rattle.feast_run.specs.Replies.{TellsForm};
 ghost use Rattle.feast_run.specs.Stepped.{IsOutcomeOf, IsSteppedRun, stepped_report};
 ghost use Rattle.feast_run.specs.Tellings.{Moves, Tells};
 ghost use Rattle.feast_run.specs.Values.{IsReady, ready_value};
-ghost use Rattle.feast_run.specs.declared.form.TheConstants.{MOST_FILES};
+ghost use Rattle.call_form.specs.declared.form.TheConstants.{MOST_FILES};
 
 use crate::acting::{actors, tiles_in};
 use crate::halt::Halt;

@@ -2,7 +2,7 @@
 ghost use Rattle.std.specs.Prelude.{◌≡◌, ◌<◌, ◌^◌, ◌-◌};
 ghost use Rattle.feast_run.specs.Changes.{change};
 ghost use Rattle.feast_run.specs.Ending.{Ends};
-ghost use Rattle.feast_run.specs.Forms.{form_of_words};
+ghost use Rattle.call_form.specs.Forms.{form_of_words};
 ghost use Rattle.feast_run.specs.Naming.{Names};
 ghost use Rattle.feast_run.specs.Outputs.{IsWritable, output_text};
 ghost use Rattle.feast_run.specs.Promises.{Complete, Exactly, Headline, Noted, UsageExactly};

@@ -3,7 +3,7 @@ ghost use Rattle.std.specs.Prelude.{◌≡◌, ◌≤◌, IfOk, length};
 ghost use Rattle.cell_grid.specs.Known.{BringsNone};
 ghost use Rattle.code_file.specs.Form.{IsSayable};
 ghost use Rattle.feast_run.specs.Faults.{IsHalt, IsWorldHalt};
-ghost use Rattle.feast_run.specs.Forms.{texts};
+ghost use Rattle.call_form.specs.Forms.{texts};
 ghost use Rattle.feast_run.specs.CodeFiles.{ready_packed, with_codes};
 ghost use Rattle.feast_run.specs.Elements.{code_elements, source_elements};
 ghost use Rattle.feast_run.specs.Halting.{decides};
@@ -15,7 +15,7 @@ ghost use Rattle.world_text.specs.Named.{world_with_names};
 ghost use Rattle.world_text.specs.Printed.{IsNamed};
 ghost use Rattle.world_text.specs.Reading.{fault_of};
 ghost use Rattle.world_text.specs.Values.{world_value};
-ghost use Rattle.feast_run.specs.declared.form.TheConstants.{MOST_FILES};
+ghost use Rattle.call_form.specs.declared.form.TheConstants.{MOST_FILES};
 
 use crate::code_files::load_codes;
 use crate::element_files::load_set;

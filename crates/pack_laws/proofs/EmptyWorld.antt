@@ -9,7 +9,7 @@ use Rattle.feast_run.proofs.Runs.{alone_reports}
 use Rattle.feast_run.proofs.Sound.{set_sound}
 use Rattle.feast_run.specs.Answer.{run_report}
 use Rattle.feast_run.specs.Elements.{ElementsValue, source_elements}
-use Rattle.feast_run.specs.Forms.{run, step}
+use Rattle.call_form.specs.Forms.{run, step}
 use Rattle.feast_run.specs.Owing.{IsRun, Reports}
 use Rattle.feast_run.specs.Promises.{Shows, WorldTold}
 use Rattle.feast_run.specs.Stages.{ReadyValue, ready_with}

@@ -10,7 +10,7 @@ use Rattle.feast_run.proofs.Runs.{set_is}
 use Rattle.feast_run.proofs.Sure.{codes_one, set_one}
 use Rattle.feast_run.specs.CodeFiles.{codes_from}
 use Rattle.feast_run.specs.Elements.{code_elements, source_elements}
-use Rattle.feast_run.specs.Forms.{run, runpack, step, steppack}
+use Rattle.call_form.specs.Forms.{run, runpack, step, steppack}
 use Rattle.feast_base.specs.Stages.{Stage, and_then}
 use Rattle.feast_run.specs.Halting.{HaltValue}
 use Rattle.feast_run.specs.Packed.{pack_text}

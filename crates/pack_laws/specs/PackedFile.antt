@@ -2,7 +2,7 @@
 use Rattle.std.specs.Prelude.{ℕ, ◌≡◌, ◌≤◌, ◌↔◌, List, Some, length, Result, Ok, Err}
 use Rattle.feast_base.specs.Outside.{File, file_of}
 use Rattle.feast_run.specs.Answer.{form_answer}
-use Rattle.feast_run.specs.Forms.{FormValue, pack, run, runpack, step, steppack}
+use Rattle.call_form.specs.Forms.{FormValue, pack, run, runpack, step, steppack}
 use Rattle.feast_run.specs.Halting.{HaltValue, misses, refuses}
 use Rattle.feast_run.specs.Promises.{Shows}
 use Rattle.feast_run.specs.declared.loading.TheConstants.{CODE_LIMIT}

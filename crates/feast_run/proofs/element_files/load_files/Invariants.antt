@@ -1,6 +1,6 @@
 use Rattle.std.proofs.Common.{◌≡◌, List, [], drop, length, Result}
 use Rattle.feast_base.specs.Outside.{File}
-use Rattle.feast_run.specs.Forms.{texts}
+use Rattle.call_form.specs.Forms.{texts}
 use Rattle.feast_run.specs.Halting.{HaltValue}
 use Rattle.feast_run.specs.Stages.{AreWithin, load_more}
 use Rattle.feast_run.specs.Tellings.{Keeps}

@@ -1,13 +1,13 @@
 //! The forms that the words of a call may have.
 ghost use Rattle.std.specs.Prelude.{ℕ, ◌≡◌, ◌≤◌, IfSome, List, MatchOption, None, Some, length, option_map};
-ghost use Rattle.feast_run.specs.Forms.{FormValue, IsFew, form_of_words, form_value, later_form, left_of, of_files, of_journal, of_number, of_rewind, of_world, texts, two_words, world_form};
-ghost use Rattle.feast_run.specs.declared.form.TheConstants.{MOST_FILES};
+ghost use Rattle.call_form.specs.Forms.{FormValue, IsFew, form_of_words, form_value, later_form, left_of, of_files, of_journal, of_number, of_rewind, of_world, texts, two_words, world_form};
+ghost use Rattle.call_form.specs.declared.form.TheConstants.{MOST_FILES};
 
 use feast_base::MOST_ATTEMPTS;
 use text_lines::number;
 
-/// The most element files.
-const MOST_FILES: usize = 64;
+/// The most element files that a form may name.
+pub const MOST_FILES: usize = 64;
 
 /// The most events that a rewind may leave.
 const MOST_LEFT: u128 = MOST_ATTEMPTS as u128;

@@ -1,6 +1,6 @@
 use Rattle.std.proofs.Common.{arith, rules}
 use Rattle.std.proofs.lemmas.Grind.{common_steps}
-use Rattle.feast_run.proofs.form.of_files.Goals as goal
+use Rattle.call_form.proofs.form.of_files.Goals as goal
 
 pub returns-then-words-le-MOST_FILES-clause-value : goal.returns-then-words-le-MOST_FILES-clause-value
 returns-then-words-le-MOST_FILES-clause-value c = grind (arith, common_steps)

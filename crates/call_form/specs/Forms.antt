@@ -3,10 +3,10 @@ use Rattle.std.specs.Prelude.{ℕ, ◌≤◌, ◌^◌, List, [], ◌∷◌, Opti
 use Rattle.std.specs.Option.{option_and_then}
 use Rattle.std.specs.Str.{bytes_eq}
 use Rattle.std.specs.Global.{Global}
-use Rattle.feast_run.specs.declared.form.Form.{Form}
-use Rattle.feast_run.specs.declared.form.Form.TheVariants as kind
+use Rattle.call_form.specs.declared.form.Form.{Form}
+use Rattle.call_form.specs.declared.form.Form.TheVariants as kind
 use Rattle.text_lines.specs.Fields.{field_number}
-use Rattle.feast_run.specs.declared.form.TheConstants.{MOST_FILES, MOST_LEFT}
+use Rattle.call_form.specs.declared.form.TheConstants.{MOST_FILES, MOST_LEFT}
 
 -- the words of a call as texts
 abbrev pub texts : List (String Global) → List (List ℕ)
