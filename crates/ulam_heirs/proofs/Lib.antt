@@ -12,7 +12,6 @@ mod OpenTables
 mod Tables
 mod Walking
 pub mod Spanning
-mod Copies
 mod Turns
 mod PlaceSets
 mod Params

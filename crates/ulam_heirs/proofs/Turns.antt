@@ -4,8 +4,7 @@ use Rattle.std.specs.Prelude.{slice_get}
 use Rattle.std.proofs.lemmas.List.{at_drop_more, take_more, take_all, take-append-le, drop_all, append-nil, map-append, length-map, length-take-le}
 use Rattle.std.proofs.lemmas.Bool.{leb-true, leb-false}
 use Rattle.ulam_tree.specs.Raw.{Member, Item}
-use Rattle.ulam_tree.specs.RawViews.{member_of}
-use Rattle.ulam_tree.specs.declared.raw.Member.{Member as RawMember}
+use Rattle.ulam_tree.specs.RawViews.{Shared, shared_member}
 use Rattle.ulam_heirs.specs.declared.heir.Heir.{Heir as CodeHeir}
 use Rattle.ulam_heirs.specs.Heads.{Heads}
 use Rattle.ulam_heirs.specs.Lines.{Heir}
@@ -36,8 +35,8 @@ none_within : (most : Option ℕ) → IsWithin most 0
 none_within None = tt
 none_within (Some n) = omega arith
 
-pub empty_within : (most : Option ℕ) (found : List RawMember) → found ≡ [] → IsWithin most (length found)
-empty_within most found e = subst (λ (xs : List RawMember). IsWithin most (length xs)) (sym e) (none_within most)
+pub empty_within : (most : Option ℕ) (found : List Shared) → found ≡ [] → IsWithin most (length found)
+empty_within most found e = subst (λ (xs : List Shared). IsWithin most (length xs)) (sym e) (none_within most)
 
 -- one more is within the bound, unless there are as many as may be
 pub one_within : (most : Option ℕ) (n : ℕ) → is_full most n ≡ false → IsWithin most (n + 1)
@@ -45,40 +44,40 @@ one_within None n e = tt
 one_within (Some m) n e = let less : n < m = leb-false m n e in omega (arith, less)
 
 -- where there are as many as may be, more are not the first ones
-pub full_stays : (most : Option ℕ) (found : List RawMember) (rest : List Member) → is_full most (length found) ≡ true → first_of most (map member_of found ++ rest) ≡ first_of most (map member_of found)
+pub full_stays : (most : Option ℕ) (found : List Shared) (rest : List Member) → is_full most (length found) ≡ true → first_of most (map shared_member found ++ rest) ≡ first_of most (map shared_member found)
 full_stays None found rest e = cc
 full_stays (Some n) found rest e =
     let full : n ≤ length found = leb-true n (length found) e in
-    take-append-le n (map member_of found) rest (omega (arith, full, length-map found member_of))
+    take-append-le n (map shared_member found) rest (omega (arith, full, length-map found shared_member))
 
 -- the first members, with one more class
-pub flat_on : (most : Option ℕ) (xs : List CodeHeir) (found more : List RawMember) (i : ℕ) (x : CodeHeir) (before later : List CodeHeir) → i < length xs → x ≡ get_or xs i x → before ≡ take i xs → later ≡ drop (i + 1) xs →
-    first_of most (map member_of more) ≡ first_of most (map member_of found ++ own_members (heirs_of before) (heir_of x) (heirs_of later)) →
-    first_of most (map member_of found ++ flat_behind (heirs_of (take i xs)) (heirs_of (drop i xs))) ≡ first_of most (map member_of more ++ flat_behind (heirs_of (take (i + 1) xs)) (heirs_of (drop (i + 1) xs)))
+pub flat_on : (most : Option ℕ) (xs : List CodeHeir) (found more : List Shared) (i : ℕ) (x : CodeHeir) (before later : List CodeHeir) → i < length xs → x ≡ get_or xs i x → before ≡ take i xs → later ≡ drop (i + 1) xs →
+    first_of most (map shared_member more) ≡ first_of most (map shared_member found ++ own_members (heirs_of before) (heir_of x) (heirs_of later)) →
+    first_of most (map shared_member found ++ flat_behind (heirs_of (take i xs)) (heirs_of (drop i xs))) ≡ first_of most (map shared_member more ++ flat_behind (heirs_of (take (i + 1) xs)) (heirs_of (drop (i + 1) xs)))
 flat_on most xs found more i x before later lt is b l e =
-    let front : List Member = map member_of found in
+    let front : List Member = map shared_member found in
     let taken : List Heir = heirs_of (take i xs) in
     let rest : List Heir = heirs_of (drop (i + 1) xs) in
     let behind : List Member = flat_behind (taken ++ (heir_of x ∷ [])) rest in
-    let own : first_of most (map member_of more) ≡ first_of most (front ++ own_members taken (heir_of x) rest) =
+    let own : first_of most (map shared_member more) ≡ first_of most (front ++ own_members taken (heir_of x) rest) =
     e ∙ ap (λ (zs : List CodeHeir). first_of most (front ++ own_members (heirs_of zs) (heir_of x) (heirs_of later))) b ∙ ap (λ (zs : List CodeHeir). first_of most (front ++ own_members taken (heir_of x) (heirs_of zs))) l in
     at_drop_more (λ (zs : List CodeHeir). first_of most (front ++ flat_behind taken (heirs_of zs))) xs i x lt
     ∙ ap (λ (y : CodeHeir). first_of most (front ++ flat_behind taken (heir_of y ∷ rest))) (sym is)
     ∙ ap (first_of most) (sym (append_assoc front (own_members taken (heir_of x) rest) behind))
     ∙ sym (first_front most (front ++ own_members taken (heir_of x) rest) behind)
     ∙ ap (λ (zs : List Member). first_of most (zs ++ behind)) (sym own)
-    ∙ first_front most (map member_of more) behind
-    ∙ ap (λ (zs : List Heir). first_of most (map member_of more ++ flat_behind zs rest)) (sym (taken_on xs i x lt is))
+    ∙ first_front most (map shared_member more) behind
+    ∙ ap (λ (zs : List Heir). first_of most (map shared_member more ++ flat_behind zs rest)) (sym (taken_on xs i x lt is))
 
-all_within : (most : Option ℕ) (found : List RawMember) → IsWithin most (length found) → first_of most (map member_of found) ≡ map member_of found
+all_within : (most : Option ℕ) (found : List Shared) → IsWithin most (length found) → first_of most (map shared_member found) ≡ map shared_member found
 all_within None found few = refl
-all_within (Some n) found few = take_all n (map member_of found) (omega (arith, few, length-map found member_of))
+all_within (Some n) found few = take_all n (map shared_member found) (omega (arith, few, length-map found shared_member))
 
 -- after the last class
-pub flat_end : (most : Option ℕ) (xs : List CodeHeir) (found : List RawMember) (i : ℕ) (whole : List Member) → length xs ≤ i → IsWithin most (length found) →
-    whole ≡ first_of most (map member_of found ++ flat_behind (heirs_of (take i xs)) (heirs_of (drop i xs))) → map member_of found ≡ whole
+pub flat_end : (most : Option ℕ) (xs : List CodeHeir) (found : List Shared) (i : ℕ) (whole : List Member) → length xs ≤ i → IsWithin most (length found) →
+    whole ≡ first_of most (map shared_member found ++ flat_behind (heirs_of (take i xs)) (heirs_of (drop i xs))) → map shared_member found ≡ whole
 flat_end most xs found i whole past few e =
-    let front : List Member = map member_of found in
+    let front : List Member = map shared_member found in
     sym (
     e
     ∙ ap (λ (zs : List CodeHeir). first_of most (front ++ flat_behind (heirs_of (take i xs)) (heirs_of zs))) (drop_all i xs past)

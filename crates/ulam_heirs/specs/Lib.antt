@@ -8,7 +8,6 @@ pub mod Files
 pub mod Within
 pub mod Laws
 pub mod Behind
-pub mod Simple
 pub mod Views
 pub mod Ranks
 pub mod Opened

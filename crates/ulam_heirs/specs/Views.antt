@@ -5,10 +5,7 @@ use Rattle.std.specs.Option.{option_and_then}
 use Rattle.feast_base.specs.declared.place.Place.{Place}
 use Rattle.ulam_lex.specs.declared.token.Token.{Token}
 use Rattle.ulam_tree.specs.Raw as t
-use Rattle.ulam_tree.specs.RawViews.{word_of, class_of, expr_of, statement_of, member_of, item_of, file_of}
-use Rattle.ulam_tree.specs.declared.raw.Expr.{Expr}
-use Rattle.ulam_tree.specs.declared.raw.Statement.{Statement}
-use Rattle.ulam_tree.specs.declared.raw.Member.{Member}
+use Rattle.ulam_tree.specs.RawViews.{word_of, class_of, item_of, file_of}
 use Rattle.ulam_tree.specs.declared.raw.Item.{Item}
 use Rattle.ulam_tree.specs.declared.raw.File.{File}
 use Rattle.ulam_heirs.specs.declared.headed.Base.{Base}
@@ -43,20 +40,7 @@ items_of xs = map item_of xs
 abbrev pub files_of : List File → List (List t.Item)
 files_of fs = map file_of fs
 
--- an expression, if there is one
-abbrev pub maybe_expr : Option Expr → Option t.Expr
-maybe_expr e = option_map expr_of e
-
 -- What functions make, unless memory runs out
-
-abbrev pub MakesExpr : {E : Type 0} → Result Expr E → t.Expr → Type 0
-MakesExpr result e = IfOk result (λ x. expr_of x ≡ e)
-
-abbrev pub MakesStatement : {E : Type 0} → Result Statement E → t.Statement → Type 0
-MakesStatement result s = IfOk result (λ x. statement_of x ≡ s)
-
-abbrev pub MakesMember : {E : Type 0} → Result Member E → t.Member → Type 0
-MakesMember result m = IfOk result (λ x. member_of x ≡ m)
 
 abbrev pub MakesItem : {E : Type 0} → Result Item E → t.Item → Type 0
 MakesItem result i = IfOk result (λ x. item_of x ≡ i)
@@ -71,18 +55,6 @@ Adds view old new more = map view new.items ≡ map view old.items ++ more
 -- the same, as far as the first members go, if there is a bound
 abbrev pub AddsFirst : {X A : Type 0} → Option ℕ → (X → A) → Vec X → Vec X → List A → Type 0
 AddsFirst most view old new more = first_of most (map view new.items) ≡ first_of most (map view old.items ++ more)
-
--- Parts of trees
-
--- arguments, and then more
-abbrev pub join_args : List Expr → t.Args → t.Args
-join_args [] more = more
-join_args (e ∷ es) more = t.arg (expr_of e) (join_args es more)
-
--- statements, and then more
-abbrev pub join_body : List Statement → t.Body → t.Body
-join_body [] more = more
-join_body (x ∷ xs) more = t.then_so (statement_of x) (join_body xs more)
 
 -- the number of the base of a class, given the numbers of the bases of all classes
 abbrev pub base_in : List (Option ℕ) → ℕ → Option ℕ

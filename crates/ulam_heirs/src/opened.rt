@@ -120,7 +120,7 @@ fn virtual_members<'a>(
     let mut found = Vec::new(alloc);
     for member in &heir.class.members {
         if is_virtual(opened, heir, member) {
-            found.push(member)?;
+            found.push(member.as_ref())?;
         }
     }
     Ok(found)

@@ -15,7 +15,7 @@ use Rattle.ulam_tree.specs.declared.raw.File.{File}
 use Rattle.ulam_tree.specs.declared.resolved.Named.{Named}
 use Rattle.ulam_tree.specs.Raw as t
 use Rattle.ulam_tree.specs.Resolved as r
-use Rattle.ulam_tree.specs.RawViews.{word_of, width_of, type_of, const_of, param_of, member_of, class_of, item_of, body_list}
+use Rattle.ulam_tree.specs.RawViews.{word_of, width_of, type_of, const_of, param_of, member_of, Shared, shared_member, class_of, item_of, body_list}
 use Rattle.ulam_names.specs.declared.half.HalfClass.{HalfClass}
 use Rattle.ulam_names.specs.declared.half.HalfParam.{HalfParam}
 use Rattle.ulam_names.specs.declared.half.Half.{Half}
@@ -74,8 +74,8 @@ function known names f = w.member known (names_view names) (t.function (type_of 
 abbrev pub one_more : Known → Names → Vec Half Global → Member → Found (s.Names × List w.Half)
 one_more known names halves x = with_halves (each half_of halves) (member known names x)
 
-abbrev pub members : Known → List Member → Found (s.Names × List w.Half)
-members known xs = w.members known no_names (map member_of xs)
+abbrev pub members : Known → List Shared → Found (s.Names × List w.Half)
+members known xs = w.members known no_names (map shared_member xs)
 
 -- Items
 

@@ -15,6 +15,7 @@ use crate::names::{Names, const_value, new_name};
 use crate::table::Table;
 use feast_base::MOST_PARAMS;
 use std::alloc::Global;
+use std::rc::Rc;
 use ulam_tree::{Const, Member, Param, Statement, TypeRef, Width, Word};
 
 /// Whether a parameter has a name.
@@ -185,7 +186,7 @@ fn member<'a>(
 pub fn members<'a>(
     alloc: Global,
     known: &Table<bool>,
-    raw: &'a [Member],
+    raw: &'a [Rc<Member>],
 ) -> Result<(Names<'a>, Vec<Half<'a>>), NameFault>
     ensures { Gives so_far result (walk.members known.now raw.now) }
 {

@@ -2,12 +2,11 @@
 use Rattle.std.proofs.Common.{◌≡◌, ℕ, suc, true, false, refl, ap, sym, List, [], ◌∷◌, ◌++◌, map, Ok, Err}
 use Rattle.ulam_tree.specs.Raw as t
 use Rattle.ulam_tree.specs.Raw.{Args, no_args, arg, Body, no_more, then_so}
-use Rattle.ulam_tree.specs.RawViews.{word_of, expr_of, args_list, statement_of, body_list, param_of, member_of, item_of}
+use Rattle.ulam_tree.specs.RawViews.{word_of, expr_of, args_list, statement_of, body_list, param_of, Shared, shared_member, item_of}
 use Rattle.ulam_tree.specs.declared.raw.Word.{Word}
 use Rattle.ulam_tree.specs.declared.raw.Expr.{Expr}
 use Rattle.ulam_tree.specs.declared.raw.Statement.{Statement}
 use Rattle.ulam_tree.specs.declared.raw.Param.{Param}
-use Rattle.ulam_tree.specs.declared.raw.Member.{Member}
 use Rattle.ulam_tree.specs.declared.raw.Item.{Item}
 use Rattle.ulam_parse.specs.declared.symbol.Symbol.TheVariants as s
 use Rattle.ulam_parse.specs.Tokens.{Tok}
@@ -76,10 +75,10 @@ pub params_step : (m : ℕ) (xs : List Param) (x : Param) (w : t.Word) (us a b :
 unfolding more_params
 params_step m xs x w us a b f g h = rw (f, g, h) (front_pushed param_of xs x (more_params m b))
 
-pub members_step : (m : ℕ) (xs : List Member) (x : Member) (us a : List Tok) → sees s.CloseBrace us ≡ false → member us ≡ Ok (member_of x, a) →
-    with_front (map member_of xs) (members (suc m) us) ≡ with_front (map member_of (xs ++ (x ∷ []))) (members m a)
+pub members_step : (m : ℕ) (xs : List Shared) (x : Shared) (us a : List Tok) → sees s.CloseBrace us ≡ false → member us ≡ Ok (shared_member x, a) →
+    with_front (map shared_member xs) (members (suc m) us) ≡ with_front (map shared_member (xs ++ (x ∷ []))) (members m a)
 unfolding members
-members_step m xs x us a f g = rw (f, g) (front_pushed member_of xs x (members m a))
+members_step m xs x us a f g = rw (f, g) (front_pushed shared_member xs x (members m a))
 
 pub items_step : (m : ℕ) (xs : List Item) (x : Item) (us a : List Tok) → sees s.End us ≡ false → item us ≡ Ok (item_of x, a) →
     with_front (map item_of xs) (items (suc m) us) ≡ with_front (map item_of (xs ++ (x ∷ []))) (items m a)

@@ -3,12 +3,11 @@ use Rattle.std.specs.Prelude.{ℕ, ◌≡◌, List, [], ◌∷◌, map, drop, Ve
 use Rattle.std.specs.Global.{Global}
 use Rattle.feast_base.specs.Places.{no_place}
 use Rattle.ulam_tree.specs.Raw as t
-use Rattle.ulam_tree.specs.RawViews.{word_of, args_list, body_list, param_of, member_of, item_of}
+use Rattle.ulam_tree.specs.RawViews.{word_of, args_list, body_list, param_of, Shared, shared_member, item_of}
 use Rattle.ulam_tree.specs.declared.raw.Word.{Word}
 use Rattle.ulam_tree.specs.declared.raw.Expr.{Expr}
 use Rattle.ulam_tree.specs.declared.raw.Statement.{Statement}
 use Rattle.ulam_tree.specs.declared.raw.Param.{Param}
-use Rattle.ulam_tree.specs.declared.raw.Member.{Member}
 use Rattle.ulam_tree.specs.declared.raw.Item.{Item}
 use Rattle.ulam_parse.specs.declared.tape.Tape.{Tape}
 use Rattle.ulam_parse.specs.declared.halt.Halt.{Halt as CodeHalt}
@@ -58,8 +57,8 @@ body_in = λ v. body_list v.items
 abbrev pub params_in : Vec Param Global → List t.Param
 params_in = λ v. map param_of v.items
 
-abbrev pub members_in : Vec Member Global → List t.Member
-members_in = λ v. map member_of v.items
+abbrev pub members_in : Vec Shared Global → List t.Member
+members_in = λ v. map shared_member v.items
 
 abbrev pub items_in : Vec Item Global → List t.Item
 items_in = λ v. map item_of v.items

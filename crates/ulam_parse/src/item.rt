@@ -1,5 +1,5 @@
 //! Members, classes and files.
-ghost use Rattle.ulam_tree.specs.RawViews.{class_of, item_of};
+ghost use Rattle.ulam_tree.specs.RawViews.{class_of, item_of, shared_member};
 ghost use Rattle.ulam_parse.specs.Files as spec;
 ghost use Rattle.ulam_parse.specs.Reading.{behind};
 ghost use Rattle.ulam_parse.specs.Views.{Reads, Finds, members_in, items_in};
@@ -10,10 +10,19 @@ use crate::symbol::Symbol;
 use crate::take::{count_from, expect, past, sees, skip, word};
 use crate::tape::Tape;
 use std::alloc::Global;
+use std::rc::Rc;
 use ulam_tree::{Class, Item, Member};
 
+/// A member that classes may share.
+fn shared_member(alloc: Global, tape: &Tape, at: usize) -> Result<(Rc<Member>, usize), Halt>
+    ensures { Reads shared_member spec.member tape.now at result }
+{
+    let (value, next) = member(alloc, tape, at)?;
+    Ok((Rc::new(alloc, value)?, next))
+}
+
 /// Members, appended to those read so far, and the closing brace.
-fn members(alloc: Global, found: &mut Vec<Member>, tape: &Tape, at: usize) -> Result<usize, Halt>
+fn members(alloc: Global, found: &mut Vec<Rc<Member>>, tape: &Tape, at: usize) -> Result<usize, Halt>
     ensures { Finds (members_in found.new) (behind (members_in found.old) spec.all_members) tape.now at result }
 {
     let mut next = at;
@@ -21,7 +30,7 @@ fn members(alloc: Global, found: &mut Vec<Member>, tape: &Tape, at: usize) -> Re
         if let Some(behind) = past(Symbol::CloseBrace, tape, next) {
             return Ok(behind);
         }
-        let (value, behind) = member(alloc, tape, next)?;
+        let (value, behind) = shared_member(alloc, tape, next)?;
         found.push(value)?;
         next = behind;
     }

@@ -1,7 +1,8 @@
 -- The code's trees as plain ones.
 use Rattle.std.specs.Prelude.{List, [], ◌∷◌, map, Option, Some, None, option_map}
-use Rattle.std.specs.Global.{Box}
+use Rattle.std.specs.Global.{Vec, Box}
 use Rattle.std.specs.Box.{box_value}
+use Rattle.std.specs.Rc.{rc_value}
 use Rattle.ulam_tree.specs.Raw as t
 use Rattle.ulam_tree.specs.declared.raw.Word.{Word}
 use Rattle.ulam_tree.specs.declared.type_ref.Width.{Width}
@@ -117,8 +118,19 @@ member_of (m.Constant ty w v) = t.constant (type_of ty) (word_of w) (const_of v)
 member_of (m.Field ty w l) = t.field (type_of ty) (word_of w) (option_map width_of l)
 member_of (m.Function ty w ps b) = t.function (type_of ty) (word_of w) (map param_of ps.items) (body_list b.items)
 
+abbrev held_in : {X Y : Type 0} → (X → Vec Y) → Type 0
+held_in {Y = Y} field = Y
+
+-- what a class has as a member, an `Rc` of it
+abbrev pub Shared : Type 0
+Shared = held_in (λ (x : Class). x.members)
+
+-- the member that an `Rc` points to
+abbrev pub shared_member : Shared → t.Member
+shared_member = λ m. member_of (rc_value m)
+
 abbrev pub class_of : Class → t.Class
-class_of x = record { quark = x.quark; word = word_of x.word; members = map member_of x.members.items }
+class_of x = record { quark = x.quark; word = word_of x.word; members = map shared_member x.members.items }
 
 abbrev pub item_of : Item → t.Item
 item_of (i.Ulam n) = t.ulam n

@@ -3,6 +3,7 @@
 use crate::op::{PairOp, PrefixOp};
 use crate::type_ref::{TypeRef, Width};
 use feast_base::{Name, Place};
+use std::rc::Rc;
 
 /// A name, or the name of a type, and its place.
 #[derive(Drop)]
@@ -48,8 +49,8 @@ pub struct Class {
     pub quark: bool,
     /// Its name.
     pub word: Word,
-    /// What it declares, in order.
-    pub members: Vec<Member>,
+    /// What it declares, in order. Classes may share a declaration.
+    pub members: Vec<Rc<Member>>,
 }
 
 /// A declaration in a class.

@@ -8,5 +8,5 @@ use Rattle.ulam_names.proofs.member.members.Given as goal
 
 abbrev pub invariant-loop-one : goal.invariant-loop-one
 invariant-loop-one l =
-    walk.members l.known no_names (map raw_view.member_of l.raw)
-    ≡ with_halves (map half_of l.found.items) (walk.members l.known (names_view l.names) (map raw_view.member_of (drop l.one-index l.raw)))
+    walk.members l.known no_names (map raw_view.shared_member l.raw)
+    ≡ with_halves (map half_of l.found.items) (walk.members l.known (names_view l.names) (map raw_view.shared_member (drop l.one-index l.raw)))
