@@ -1,7 +1,8 @@
 use Rattle.std.proofs.Common.{◌≡◌, ◌<◌, ◌∙◌, sym, ap, subst, ◌+◌, List, ◌∷◌, length, map, drop, get_or}
 use Rattle.std.proofs.lemmas.List.{at_drop_more}
 use Rattle.ulam_tree.specs.Raw as t
-use Rattle.ulam_tree.specs.RawViews.{Shared, shared_member}
+use Rattle.ulam_tree.specs.RawViews.{member_of, Shared, shared_member}
+use Rattle.ulam_tree.specs.declared.raw.Member.{Member}
 use Rattle.ulam_heirs.specs.Lines.{Heir}
 use Rattle.ulam_heirs.specs.Spans.{span_by, members_span}
 use Rattle.ulam_heirs.specs.Views.{heir_of}
@@ -16,4 +17,5 @@ loop-member-preserved c = λ name.
     c.loop-member.invariant name
     ∙ at_drop_more (λ (zs : List Shared). members_span h c.args.index name (map shared_member zs) (span_by name c.loop-member.spans.entries)) ms c.loop-member.member-index c.member-item.result (subst (λ (zs : List Shared). c.loop-member.member-index < length zs) same c.loop-member-test.true)
     ∙ ap (λ (x : Shared). members_span h c.args.index name (shared_member x ∷ rest) (span_by name c.loop-member.spans.entries)) (sym (c.member-item.is ∙ ap (λ (zs : List Shared). get_or zs c.loop-member.member-index c.member-item.result) same))
+    ∙ ap (λ (x : Member). members_span h c.args.index name (member_of x ∷ rest) (span_by name c.loop-member.spans.entries)) (sym c.deref.ensures)
     ∙ ap (members_span h c.args.index name rest) (sym (c.in_ok-add_member.ensures name))
