@@ -205,8 +205,8 @@ fn open_gates_let_workers_pass(rt: HostRuntime) {
     assert!(rt; rested(&gate) >= Duration::from_millis(2));
 }
 
-/// A file of the system of six bytes, which a shelf may load whole, the same with a limit of two, and the
-/// same once it is gone.
+/// What a shelf answers for a file of six bytes, which it may load whole, for the same with a limit of
+/// two, and for the same once it is gone.
 fn told(
     rt: &HostRuntime,
     path: &str,
