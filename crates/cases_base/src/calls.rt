@@ -4,49 +4,57 @@ ghost use Rattle.std.specs.Prelude.{◌≡◌, ◌≤◌, ◌+◌, length};
 
 use feast_base::text::{push, push_hex, push_number};
 use feast_base::{
-    ClockGate, FileShelf, Gate, LoadFault, MemShelf, MemSink, Name, OpenGate, Rest, Shelf, Sink,
-    Source, StdSink, Stop, is_type_name,
+    ClockGate, FileShelf, Gate, LoadFault, MemShelf, MemSink, Name, NoMemory, OpenGate, Rest,
+    Shelf, Sink, Source, StdSink, Stop, is_type_name,
 };
 use std::alloc::Global;
+use std::process::Abort;
 use std::test::Fail;
 use std::time::Duration;
 use std::{fs, process};
 
 #[test]
-fn a_name_keeps_its_bytes(rt: HostRuntime) -> Result<(), Fail> {
+fn a_name_keeps_its_bytes(rt: HostRuntime) -> Result<(), NoMemory> {
     let name = Name::new(rt.alloc(), b"Walker")?;
     assert!(rt; name.bytes() == b"Walker".as_slice());
     Ok(())
 }
 
+/// A file.
+fn file(alloc: Global, name: &str, bytes: &[u8]) -> Result<Source, NoMemory> {
+    Source::new(alloc, name, Vec::from_slice(alloc, bytes)?)
+}
+
 #[test]
-fn a_source_keeps_its_name_and_its_bytes(rt: HostRuntime) -> Result<(), Fail> {
-    let alloc = rt.alloc();
-    let source = Source::new(alloc, "w", vec![in alloc; 7, 8]?)?;
+fn a_source_keeps_its_name_and_its_bytes(rt: HostRuntime) -> Result<(), NoMemory> {
+    let source = file(rt.alloc(), "w", &[7, 8])?;
     assert!(rt; source.name() == "w" && source.bytes() == [7, 8].as_slice());
     Ok(())
 }
 
+/// Names, and whether they are those of types.
+const TYPE_NAMES: [(&str, bool); 15] = [
+    ("A", true),
+    ("Walker", true),
+    ("EventWindow", true),
+    ("A_b9", true),
+    ("Z", true),
+    ("", false),
+    ("a", false),
+    ("_A", false),
+    ("9A", false),
+    ("A-", false),
+    ("A b", false),
+    ("A\n", false),
+    ("@", false),
+    ("[", false),
+    ("A\u{e9}", false),
+];
+
 #[test]
 fn a_type_name_begins_with_a_capital(rt: HostRuntime) {
-    for (name, is_one) in [
-        ("A", true),
-        ("Walker", true),
-        ("EventWindow", true),
-        ("A_b9", true),
-        ("Z", true),
-        ("", false),
-        ("a", false),
-        ("_A", false),
-        ("9A", false),
-        ("A-", false),
-        ("A b", false),
-        ("A\n", false),
-        ("@", false),
-        ("[", false),
-        ("A\u{e9}", false),
-    ] {
-        assert!(rt; is_type_name(name.as_bytes()) == is_one, "{name}");
+    for (name, is_one) in &TYPE_NAMES {
+        assert!(rt; is_type_name(name.as_bytes()) == *is_one, "{name}");
     }
 }
 
@@ -56,11 +64,16 @@ fn a_type_name_has_at_most_255_bytes(rt: HostRuntime) {
     assert!(rt; !is_type_name(&[b'A'; 256]));
 }
 
-/// A file `w`, another of the same name, and no other; the second load is listed as one that fails.
-fn shelf(alloc: Global) -> Result<MemShelf, Fail> {
-    let first = Source::new(alloc, "w", vec![in alloc; 1, 2, 3]?)?;
-    let second = Source::new(alloc, "w", vec![in alloc; 4]?)?;
-    Ok(MemShelf::new(alloc, vec![in alloc; first, second]?, vec![in alloc; 2]?))
+/// The files of a shelf, two of which have one name.
+const FILES: [(&str, &[u8]); 2] = [("w", &[1, 2, 3]), ("w", &[4])];
+
+/// A shelf with these files. The second load is listed as one that fails.
+fn shelf(alloc: Global) -> Result<MemShelf, NoMemory> {
+    let mut files = Vec::new(alloc);
+    for (name, bytes) in &FILES {
+        files.push(file(alloc, name, bytes)?)?;
+    }
+    Ok(MemShelf::new(alloc, files, Vec::from_slice(alloc, &[2])?))
 }
 
 /// Loads by name and limit, one after another, with their answers.
@@ -71,14 +84,19 @@ const LOADS: [(&str, u32, Result<(), LoadFault>); 4] = [
     ("w", 1, Err(LoadFault::TooLong)),
 ];
 
+/// That a shelf answers these loads so.
+fn assert_loads(rt: &impl Abort, shelf: &mut MemShelf, into: &mut Vec<u8>) {
+    for (name, limit, answer) in &LOADS {
+        let told = shelf.load(name, *limit as usize, into);
+        assert!(rt; told == *answer, "{name} {limit}");
+    }
+}
+
 #[test]
-fn a_shelf_in_memory_loads_the_first_file_of_a_name(rt: HostRuntime) -> Result<(), Fail> {
+fn a_shelf_in_memory_loads_the_first_file_of_a_name(rt: HostRuntime) -> Result<(), NoMemory> {
     let mut shelf = shelf(rt.alloc())?;
     let mut into = vec![in rt.alloc(); 9]?;
-    for (name, limit, answer) in LOADS {
-        let told = shelf.load(name, limit as usize, &mut into);
-        assert!(rt; told == answer, "{name} {limit}");
-    }
+    assert_loads(&rt, &mut shelf, &mut into);
     assert!(rt; into.as_slice() == [9, 1, 2, 3, 1, 2].as_slice());
     Ok(())
 }
@@ -105,14 +123,22 @@ fn takes_each(sink: &mut MemSink, pieces: &[(&str, bool)]) -> bool
     true
 }
 
-/// The second put is listed as one that fails, and three bytes are left for the third.
+/// That a new sink takes or refuses these pieces, was asked for each once, and has then these bytes.
+fn assert_takes(rt: &impl Abort, sink: &mut MemSink, pieces: &[(&str, bool)], written: &str)
+    requires few { length pieces.now ≤ 100 }
+    requires new { sink.old.faults ≡ 0 }
+{
+    assert!(rt; takes_each(sink, pieces));
+    assert!(rt; sink.written() == written.as_bytes() && sink.calls() == pieces.len() as u64);
+}
+
+/// Pieces, of which the second put is listed as one that fails, and three bytes are left for the third.
+const LISTED: [(&str, bool); 4] = [("abc", true), ("x", false), ("wxyz", false), ("def", true)];
+
 #[test]
-fn a_sink_in_memory_takes_what_it_has_room_for(rt: HostRuntime) -> Result<(), Fail> {
-    let mut sink = MemSink::new(rt.alloc(), vec![in rt.alloc(); 2]?, 6)?;
-    let pieces = [("abc", true), ("x", false), ("wxyz", false), ("def", true)];
-    assert!(rt; takes_each(&mut sink, &pieces));
-    assert!(rt; sink.written() == b"abcdef".as_slice());
-    assert!(rt; sink.calls() == 4);
+fn a_sink_in_memory_takes_what_it_has_room_for(rt: HostRuntime) -> Result<(), NoMemory> {
+    let mut sink = MemSink::new(rt.alloc(), Vec::from_slice(rt.alloc(), &[2])?, 6)?;
+    assert_takes(&rt, &mut sink, &LISTED, "abcdef");
     Ok(())
 }
 
@@ -139,22 +165,25 @@ const STOPPED: [(&str, bool); 7] = [
 ];
 
 #[test]
-fn a_stop_keeps_the_first_bytes_of_its_piece(rt: HostRuntime) -> Result<(), Fail> {
+fn a_stop_keeps_the_first_bytes_of_its_piece(rt: HostRuntime) -> Result<(), NoMemory> {
     let stops = Vec::from_slice(rt.alloc(), &STOPS)?;
     let mut sink = MemSink::stopping(rt.alloc(), stops, 12)?;
-    assert!(rt; takes_each(&mut sink, &STOPPED));
-    assert!(rt; sink.written() == b"abcdeghjkl".as_slice());
-    assert!(rt; sink.calls() == 7);
+    assert_takes(&rt, &mut sink, &STOPPED, "abcdeghjkl");
     Ok(())
 }
 
+/// Appends bytes, a number and digits.
+fn push_each(out: &mut Vec<u8>) -> Result<(), NoMemory> {
+    push(out, b"a ")?;
+    push_number(out, 18446744073709551615)?;
+    push(out, b" ")?;
+    push_hex(out, 0x1_0000_0000_00ab_cdef, 8)
+}
+
 #[test]
-fn texts_are_made_of_bytes_numbers_and_digits(rt: HostRuntime) -> Result<(), Fail> {
+fn texts_are_made_of_bytes_numbers_and_digits(rt: HostRuntime) -> Result<(), NoMemory> {
     let mut out = Vec::new(rt.alloc());
-    push(&mut out, b"a ")?;
-    push_number(&mut out, 18446744073709551615)?;
-    push(&mut out, b" ")?;
-    push_hex(&mut out, 0x1_0000_0000_00ab_cdef, 8)?;
+    push_each(&mut out)?;
     assert!(rt; out.as_slice() == b"a 18446744073709551615 00abcdef".as_slice());
     Ok(())
 }
@@ -178,12 +207,12 @@ fn open_gates_let_workers_pass(rt: HostRuntime) {
 
 /// What a shelf answers for a file of six bytes, which it may load whole, for the same with a limit of
 /// two, and for the same once it is gone.
-fn told<F: Shelf>(
+fn told(
     rt: &HostRuntime,
     path: &str,
-    shelf: &mut F,
     into: &mut Vec<u8>,
 ) -> Result<[Result<(), LoadFault>; 3], Fail> {
+    let mut shelf = FileShelf::new(rt, rt.alloc());
     fs::write(rt, path, "feast\n")?;
     let whole = shelf.load(path, 6, into);
     let longer = shelf.load(path, 2, into);
@@ -191,17 +220,16 @@ fn told<F: Shelf>(
     Ok([whole, longer, shelf.load(path, 6, into)])
 }
 
+/// A path that no other process has.
+fn path(rt: &HostRuntime) -> Result<String, Fail> {
+    Ok(format!(in rt.alloc(); "/tmp/feast_base_{}", process::id(rt.process()))?)
+}
+
 #[test]
 fn files_of_the_system_are_loaded(rt: HostRuntime) -> Result<(), Fail> {
-    let alloc = rt.alloc();
-    let path = format!(in alloc; "/tmp/feast_base_{}", process::id(rt.process()))?;
-    let mut into = vec![in alloc; 9]?;
-    let told = told(
-        &rt,
-        path.as_str(),
-        &mut FileShelf::new(&rt, alloc),
-        &mut into,
-    )?;
+    let path = path(&rt)?;
+    let mut into = vec![in rt.alloc(); 9]?;
+    let told = told(&rt, path.as_str(), &mut into)?;
     assert!(rt; told == [Ok(()), Err(LoadFault::TooLong), Err(LoadFault::Failed)]);
     assert!(rt; into.as_slice() == b"\tfeast\nfea".as_slice());
     Ok(())

@@ -32,41 +32,77 @@ impl Read for Drip {
     }
 }
 
-/// The answer of a read of `feast` that fails once this many bytes are left, and what it read.
-fn dripped(alloc: Global, limit: u8, fails_at: Option<usize>) -> (Result<(), LoadFault>, Vec<u8>) {
-    let mut drip = Drip {
-        bytes: b"feast",
-        fails_at,
-        interrupted: false,
-    };
-    let mut into = Vec::new(alloc);
-    let told = read_whole(&mut drip, limit as usize, &mut into);
-    (told, into)
+/// A read of `feast`.
+struct Reading {
+    limit: u8,
+    /// How many bytes are left when it fails.
+    fails_at: Option<usize>,
+    answer: Result<(), LoadFault>,
+    taken: &'static str,
 }
 
-/// Limits and the bytes that are left when a read fails, with the answer and what was read.
-const READS: [(u8, Option<usize>, Result<(), LoadFault>, &str); 6] = [
-    (5, None, Ok(()), "feast"),
-    (9, None, Ok(()), "feast"),
-    (4, None, Err(LoadFault::TooLong), "feast"),
-    (9, Some(3), Err(LoadFault::Failed), "fe"),
-    (9, Some(0), Err(LoadFault::Failed), "feast"),
-    (2, Some(1), Err(LoadFault::TooLong), "fea"),
+impl Reading {
+    /// Whether the read is answered so, and takes these bytes.
+    fn is_so(&self, alloc: Global) -> bool {
+        let mut drip = Drip {
+            bytes: b"feast",
+            fails_at: self.fails_at,
+            interrupted: false,
+        };
+        let mut into = Vec::new(alloc);
+        let told = read_whole(&mut drip, self.limit as usize, &mut into);
+        told == self.answer && into.as_slice() == self.taken.as_bytes()
+    }
+}
+
+const READINGS: [Reading; 6] = [
+    Reading {
+        limit: 5,
+        fails_at: None,
+        answer: Ok(()),
+        taken: "feast",
+    },
+    Reading {
+        limit: 9,
+        fails_at: None,
+        answer: Ok(()),
+        taken: "feast",
+    },
+    Reading {
+        limit: 4,
+        fails_at: None,
+        answer: Err(LoadFault::TooLong),
+        taken: "feast",
+    },
+    Reading {
+        limit: 9,
+        fails_at: Some(3),
+        answer: Err(LoadFault::Failed),
+        taken: "fe",
+    },
+    Reading {
+        limit: 9,
+        fails_at: Some(0),
+        answer: Err(LoadFault::Failed),
+        taken: "feast",
+    },
+    Reading {
+        limit: 2,
+        fails_at: Some(1),
+        answer: Err(LoadFault::TooLong),
+        taken: "fea",
+    },
 ];
 
 #[test]
 fn a_file_is_read_to_its_end_or_its_fault(rt: HostRuntime) {
-    for (limit, fails_at, answer, taken) in READS {
-        let (told, into) = dripped(rt.alloc(), limit, fails_at);
-        assert!(rt;
-            told == answer && into.as_slice() == taken.as_bytes(),
-            "limit {limit}"
-        );
+    for (number, reading) in READINGS.iter().enumerate() {
+        assert!(rt; reading.is_so(rt.alloc()), "read {number}");
     }
 }
 
 /// How a writer fails.
-#[derive(Clone, Copy, Debug)]
+#[derive(Clone, Copy)]
 enum Fault {
     Nothing,
     TakesNothing,
@@ -109,30 +145,61 @@ impl Write for Sip {
     }
 }
 
-/// Faults, whether the piece is written in spite of them, what is written, and how often it is flushed.
-const WRITES: [(Fault, bool, &str, u8); 4] = [
-    (Fault::Nothing, true, "report\n", 1),
-    (Fault::TakesNothing, false, "rep", 0),
-    (Fault::Fails, false, "rep", 0),
-    (Fault::FailsToFlush, false, "report\n", 1),
-];
-
-/// The answer of a write with a fault, and its writer.
-fn sipped(alloc: Global, fault: Fault) -> (bool, Sip) {
-    let mut sip = Sip {
-        got: Vec::new(alloc),
-        fault,
-        flushes: 0,
-        interrupted: false,
-    };
-    (write_whole(&mut sip, b"report\n").is_ok(), sip)
+/// A write of a report.
+struct Writing {
+    fault: Fault,
+    /// Whether it is written in spite of the fault.
+    is_written: bool,
+    got: &'static str,
+    flushes: u8,
 }
+
+impl Writing {
+    /// Whether the write is answered so, and its writer got these bytes and was flushed so often.
+    fn is_so(&self, alloc: Global) -> bool {
+        let mut sip = Sip {
+            got: Vec::new(alloc),
+            fault: self.fault,
+            flushes: 0,
+            interrupted: false,
+        };
+        let told = write_whole(&mut sip, b"report\n").is_ok();
+        told == self.is_written
+            && sip.flushes == self.flushes
+            && sip.got.as_slice() == self.got.as_bytes()
+    }
+}
+
+const WRITINGS: [Writing; 4] = [
+    Writing {
+        fault: Fault::Nothing,
+        is_written: true,
+        got: "report\n",
+        flushes: 1,
+    },
+    Writing {
+        fault: Fault::TakesNothing,
+        is_written: false,
+        got: "rep",
+        flushes: 0,
+    },
+    Writing {
+        fault: Fault::Fails,
+        is_written: false,
+        got: "rep",
+        flushes: 0,
+    },
+    Writing {
+        fault: Fault::FailsToFlush,
+        is_written: false,
+        got: "report\n",
+        flushes: 1,
+    },
+];
 
 #[test]
 fn a_piece_is_written_whole_or_up_to_its_fault(rt: HostRuntime) {
-    for (fault, is_written, got, flushes) in WRITES {
-        let (told, sip) = sipped(rt.alloc(), fault);
-        assert!(rt; told == is_written && sip.flushes == flushes, "{fault:?}");
-        assert!(rt; sip.got.as_slice() == got.as_bytes(), "{fault:?}");
+    for (number, writing) in WRITINGS.iter().enumerate() {
+        assert!(rt; writing.is_so(rt.alloc()), "write {number}");
     }
 }

@@ -4,6 +4,8 @@
 #![tactic(auto)]
 
 #[cfg(test)]
-mod off;
+mod corners;
+#[cfg(test)]
+mod facts;
 #[cfg(test)]
 mod planes;
