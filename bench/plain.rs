@@ -24,7 +24,7 @@ mod world;
 
 fn main() {
     let words: Vec<String> = std::env::args().skip(1).collect();
-    let [form, path] = &words[..] else { panic!("run|step WORLD") };
+    let [form, path, ..] = &words[..] else { panic!("run|step WORLD") };
     let mut world = world::World::read(&std::fs::read(path).expect("a world that can be read"));
     let logs = world.run(form == "step");
     report::put(&world, &logs).expect("standard output");

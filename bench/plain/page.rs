@@ -41,8 +41,8 @@ fn eight_hexadecimal(n: u32) -> u64 {
     n + 0x3030_3030_3030_3030 + letters * u64::from(b'a' - b'0' - 10)
 }
 
-/// How many bytes of text a page has, and how many more a line may take that begins in it.
-pub const PAGE: usize = 1 << 17;
+/// How many bytes of text a page has, and how many more the line may take that fills it.
+const PAGE: usize = 3 << 17;
 const LINE: usize = 128;
 
 /// A page of text.
@@ -68,43 +68,60 @@ impl Page {
         self.filled = 0;
     }
 
+    /// Begins a line on a page that isn't full.
+    pub fn line(&mut self) -> Line<'_> {
+        let bytes = self.bytes[self.filled..].first_chunk_mut().expect("room for a line");
+        Line { bytes, at: 0, filled: &mut self.filled }
+    }
+}
+
+/// A line that is written.
+pub struct Line<'a> {
+    bytes: &'a mut [u8; LINE],
+    at: usize,
+    filled: &'a mut usize,
+}
+
+impl Line<'_> {
+    /// Ends the line, with a newline in place of the last space.
+    pub fn end(self) {
+        self.bytes[self.at - 1] = b'\n';
+        *self.filled += self.at;
+    }
+
     /// Puts the first bytes of eight.
     fn put_some(&mut self, eight: u64, count: usize) {
-        self.bytes[self.filled..self.filled + 8].copy_from_slice(&eight.to_le_bytes());
-        self.filled += count;
+        self.bytes[self.at..self.at + 8].copy_from_slice(&eight.to_le_bytes());
+        self.at += count;
     }
 
-    pub fn word(&mut self, word: &[u8]) {
-        self.bytes[self.filled..self.filled + word.len()].copy_from_slice(word);
-        self.filled += word.len();
-    }
-
-    /// Ends a line: with a newline in place of the last space.
-    pub fn end_line(&mut self) {
-        self.bytes[self.filled - 1] = b'\n';
+    /// Puts a text as it is.
+    pub fn text(&mut self, text: &[u8]) {
+        self.bytes[self.at..self.at + text.len()].copy_from_slice(text);
+        self.at += text.len();
     }
 
     /// Puts a number and a space.
     pub fn number(&mut self, n: u32) {
         if n >= 100_000_000 {
-            self.number_in_two(n);
-        } else {
-            let digits = eight_digits(n);
-            let leading = (digits.trailing_zeros() / 8).min(7) as usize;
-            self.put_some((digits + 0x3030_3030_3030_3030) >> (8 * leading), 8 - leading);
-            self.word(b" ");
+            return self.long_number(n);
         }
+        let digits = eight_digits(n);
+        let leading = (digits.trailing_zeros() / 8).min(7) as usize;
+        self.put_some((digits + 0x3030_3030_3030_3030) >> (8 * leading), 8 - leading);
+        self.text(b" ");
     }
 
+    /// Puts a number of nine or ten digits, and a space.
     #[cold]
-    fn number_in_two(&mut self, n: u32) {
-        self.number(n / 100_000_000);
-        self.filled -= 1;
+    fn long_number(&mut self, n: u32) {
+        self.short(n / 100_000_000);
+        self.at -= 1;
         self.put_some(eight_digits(n % 100_000_000) + 0x3030_3030_3030_3030, 8);
-        self.word(b" ");
+        self.text(b" ");
     }
 
-    /// Puts a number that is mostly short, and a space.
+    /// Puts a number that is mostly below 1,000, and a space.
     pub fn short(&mut self, n: u32) {
         match SHORT.get(n as usize) {
             Some(text) => self.put_some(*text, (text >> 56) as usize),

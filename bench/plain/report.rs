@@ -1,18 +1,21 @@
-//! The report of a run, printed in threads: each prints the next piece of it to its own page, which is put once the
+//! The report of a run, printed in threads: each prints the next piece of it to an empty page, which is put once the
 //! pieces before it are.
 use crate::atoms::{EMPTY, NAMES, STATE, TYPE, WALL};
-use crate::page::Page;
+use crate::page::{Line, Page};
 use crate::tile::{Log, Record};
 use crate::world::World;
+use std::collections::BTreeMap;
 use std::io::{self, Write};
 use std::ops::Range;
 use std::sync::atomic::{AtomicUsize, Ordering};
 use std::sync::{Condvar, Mutex, MutexGuard};
 use std::thread;
 
-/// About how many sites and records are in a piece.
+/// About how many sites and records are in a piece, and how many times the records of a piece are sorted, a part at a
+/// time: so few that a processor's nearest cache has room for them.
 const SITES: usize = 1 << 14;
-const RECORDS: usize = 1 << 12;
+const RECORDS: usize = 1 << 13;
+const SORTS: usize = 8;
 
 /// A part of a report.
 enum Piece {
@@ -26,38 +29,69 @@ enum Piece {
     Abandoned(usize),
 }
 
-/// Where the pieces go, each in its turn.
+/// Where the pieces go, in order.
 struct Output {
-    turn: Mutex<Turn>,
-    passed: Condvar,
+    shelf: Mutex<Shelf>,
+    changed: Condvar,
 }
 
-struct Turn {
-    /// The piece that is put now.
-    piece: usize,
+/// Pages of pieces that are printed before it is their turn, and empty pages.
+struct Shelf {
+    /// The piece that is put next.
+    turn: usize,
+    printed: BTreeMap<usize, Page>,
+    empty: Vec<Page>,
     /// What became of the puts so far; after a fault nothing is put any more.
     outcome: io::Result<()>,
 }
 
-impl Output {
-    /// Waits for the turn of a piece.
-    fn reach(&self, piece: usize) -> MutexGuard<'_, Turn> {
-        let turn = self.turn.lock().expect("no thread ends in its turn");
-        self.passed.wait_while(turn, |turn| turn.piece != piece).expect("no thread ends in its turn")
+impl Shelf {
+    fn put(&mut self, page: &mut Page) {
+        if self.outcome.is_ok() {
+            self.outcome = io::stdout().write_all(page.text());
+        }
+        page.clear();
     }
 
-    /// Puts text of a piece, in its turn.
-    fn put(&self, piece: usize, text: &[u8]) {
-        let mut turn = self.reach(piece);
-        if turn.outcome.is_ok() {
-            turn.outcome = io::stdout().write_all(text);
+    /// Puts all pieces whose turn it is.
+    fn put_ready(&mut self) {
+        while let Some(mut page) = self.printed.remove(&self.turn) {
+            self.put(&mut page);
+            self.empty.push(page);
+            self.turn += 1;
         }
     }
+}
 
-    /// The piece is put: it is the next one's turn.
-    fn pass(&self, piece: usize) {
-        self.reach(piece).piece += 1;
-        self.passed.notify_all();
+impl Output {
+    /// With so many empty pages.
+    fn new(pages: usize) -> Self {
+        let empty = (0..pages).map(|_| Page::new()).collect();
+        let shelf = Shelf { turn: 0, printed: BTreeMap::new(), empty, outcome: Ok(()) };
+        Output { shelf: Mutex::new(shelf), changed: Condvar::new() }
+    }
+
+    fn wait_until(&self, is_ready: impl Fn(&Shelf) -> bool) -> MutexGuard<'_, Shelf> {
+        let shelf = self.shelf.lock().expect("no thread ends at the shelf");
+        self.changed.wait_while(shelf, |shelf| !is_ready(shelf)).expect("no thread ends at the shelf")
+    }
+
+    /// Waits for an empty page.
+    fn empty_page(&self) -> Page {
+        self.wait_until(|shelf| !shelf.empty.is_empty()).empty.pop().expect("an empty page")
+    }
+
+    /// Puts a part of a piece that is longer than its page, in its turn.
+    fn put_part(&self, piece: usize, page: &mut Page) {
+        self.wait_until(|shelf| shelf.turn == piece).put(page);
+    }
+
+    /// A piece is printed: puts it, and those after it that are printed, or leaves it to whoever prints those before.
+    fn finish(&self, piece: usize, page: Page) {
+        let mut shelf = self.wait_until(|_| true);
+        shelf.printed.insert(piece, page);
+        shelf.put_ready();
+        self.changed.notify_all();
     }
 }
 
@@ -74,49 +108,67 @@ struct Report<'a> {
 impl Report<'_> {
     /// Prints pieces as long as there are any.
     fn print(&self) {
-        let mut printer = Printer { report: self, piece: 0, page: Page::new(), places: Vec::new(), order: Vec::new() };
+        let (mut places, mut order) = (Vec::new(), Vec::new());
         loop {
-            printer.piece = self.next.fetch_add(1, Ordering::Relaxed);
-            let Some(piece) = self.pieces.get(printer.piece) else { return };
+            let page = self.output.empty_page();
+            let number = self.next.fetch_add(1, Ordering::Relaxed);
+            let Some(piece) = self.pieces.get(number) else { return };
+            let mut printer = Printer { report: self, number, page, places, order };
             printer.print(piece);
-            printer.flush();
-            self.output.pass(printer.piece);
+            self.output.finish(number, printer.page);
+            (places, order) = (printer.places, printer.order);
         }
     }
 }
 
-/// A thread that prints pieces, with all that it keeps for the next.
-struct Printer<'a> {
-    report: &'a Report<'a>,
-    piece: usize,
-    page: Page,
-    /// For each stamp of a piece the place of its next record.
-    places: Vec<u32>,
-    /// The records of a piece with their tiles, in order.
-    order: Vec<(u32, Record)>,
+/// A part of a tile's records: those that are sorted now, and those after them.
+struct Part<'a> {
+    tile: u32,
+    now: &'a [Record],
+    rest: &'a [Record],
 }
 
-impl Printer<'_> {
-    /// Puts what the page has.
-    fn flush(&mut self) {
-        self.report.output.put(self.piece, self.page.text());
-        self.page.clear();
+impl<'a> Part<'a> {
+    /// The records from a stamp on.
+    fn new(tile: u32, log: &'a Log, first: u32) -> Self {
+        Part { tile, now: &[], rest: &log.records[log.records.partition_point(|record| record.stamp < first)..] }
     }
 
-    fn end_line(&mut self) {
-        self.page.end_line();
+    /// Goes on to the next records, those below a stamp.
+    fn advance(&mut self, end: u32) {
+        let count = self.rest.iter().take_while(|record| record.stamp < end).count();
+        (self.now, self.rest) = self.rest.split_at(count);
+    }
+}
+
+/// What prints a piece.
+struct Printer<'a> {
+    report: &'a Report<'a>,
+    number: usize,
+    page: Page,
+    /// For each of some stamps the place of its next record.
+    places: Vec<u32>,
+    /// The records with these stamps and their tiles, in order.
+    order: Vec<(u32, &'a Record)>,
+}
+
+impl<'a> Printer<'a> {
+    /// Writes a line, and puts the page if that fills it.
+    fn line(&mut self, write: impl FnOnce(&mut Line<'_>)) {
+        let mut line = self.page.line();
+        write(&mut line);
+        line.end();
         if self.page.is_full() {
-            self.flush();
+            self.report.output.put_part(self.number, &mut self.page);
         }
     }
 
     fn print(&mut self, piece: &Piece) {
         match piece {
-            Piece::Title(word, count) => {
-                self.page.word(word);
-                self.page.number(*count as u32);
-                self.end_line();
-            }
+            Piece::Title(word, count) => self.line(|line| {
+                line.text(word);
+                line.number(*count as u32);
+            }),
             Piece::Atoms(sites) => self.print_atoms(sites.clone()),
             Piece::Journal(stamps) => self.print_journal(stamps),
             Piece::Abandoned(tile) => self.print_abandoned(*tile),
@@ -128,14 +180,15 @@ impl Printer<'_> {
         let (mut x, mut y) = (sites.start % world.width(), sites.start / world.width());
         for &atom in &world.grid[sites] {
             if atom != EMPTY && atom != WALL {
-                self.page.short(x as u32);
-                self.page.short(y as u32);
-                self.page.word(NAMES[(atom >> TYPE) as usize - 1]);
-                self.page.word(b" ");
-                self.page.hexadecimal_byte(((atom & STATE) >> 64) as u32);
-                self.page.hexadecimal(atom as u64);
-                self.page.word(b" ");
-                self.end_line();
+                self.line(|line| {
+                    line.short(x as u32);
+                    line.short(y as u32);
+                    line.text(NAMES[(atom >> TYPE) as usize - 1]);
+                    line.text(b" ");
+                    line.hexadecimal_byte(((atom & STATE) >> 64) as u32);
+                    line.hexadecimal(atom as u64);
+                    line.text(b" ");
+                });
             }
             x += 1;
             if x == world.width() {
@@ -144,71 +197,71 @@ impl Printer<'_> {
         }
     }
 
-    /// Prints the records with some stamps, by stamp and then by tile. Each tile has them by stamp, so they are sorted
-    /// by counting how many have each stamp; those of one tile are in order as they are.
+    /// Prints the records with some stamps, by stamp and then by tile.
     fn print_journal(&mut self, stamps: &Range<u32>) {
-        let logs = self.report.logs;
-        let part = |log: &Log| {
-            let place = |stamp| log.records.partition_point(|record| record.stamp < stamp);
-            place(stamps.start)..place(stamps.end)
-        };
-        if let [log] = logs {
-            log.records[part(log)].iter().for_each(|record| self.print_record(0, record));
-            return;
+        let logs = &self.report.logs;
+        let mut parts: Vec<_> = (0..).zip(*logs).map(|(tile, log)| Part::new(tile, log, stamps.start)).collect();
+        if let [part] = &mut parts[..] {
+            part.advance(stamps.end);
+            return part.now.iter().for_each(|record| self.print_record(0, record));
         }
-        let parts: Vec<_> = (0..).zip(logs).map(|(tile, log)| (tile, &log.records[part(log)])).collect();
-        self.sort(&parts, stamps);
-        let order = std::mem::take(&mut self.order);
-        order.iter().for_each(|(tile, record)| self.print_record(*tile, record));
-        self.order = order;
+        let step = stamps.len().div_ceil(SORTS);
+        for first in stamps.clone().step_by(step) {
+            let end = stamps.end.min(first + step as u32);
+            parts.iter_mut().for_each(|part| part.advance(end));
+            self.sort(&parts, first..end);
+            let order = std::mem::take(&mut self.order);
+            order.iter().for_each(|(tile, record)| self.print_record(*tile, record));
+            self.order = order;
+        }
     }
 
-    /// Puts the records of all tiles with some stamps in order.
-    fn sort(&mut self, parts: &[(u32, &[Record])], stamps: &Range<u32>) {
+    /// Puts the records of all tiles with some stamps in order. Each tile has them by stamp, so they are sorted by
+    /// counting how many have each stamp.
+    fn sort(&mut self, parts: &[Part<'a>], stamps: Range<u32>) {
         let place = |record: &Record| (record.stamp - stamps.start) as usize;
         self.places.clear();
         self.places.resize(stamps.len() + 1, 0);
-        for record in parts.iter().flat_map(|(_, records)| *records) {
-            self.places[place(record) + 1] += 1;
+        for part in parts {
+            part.now.iter().for_each(|record| self.places[place(record) + 1] += 1);
         }
         for stamp in 1..self.places.len() {
             self.places[stamp] += self.places[stamp - 1];
         }
-        let count = self.places[stamps.len()] as usize;
-        self.order.resize(count.max(self.order.len()), (0, Record::default()));
-        self.order.truncate(count);
-        for (tile, records) in parts {
-            for record in *records {
+        let Some(some) = parts.iter().find_map(|part| part.now.first()) else { return self.order.clear() };
+        self.order.resize(self.places[stamps.len()] as usize, (0, some));
+        for part in parts {
+            for record in part.now {
                 let next = &mut self.places[place(record)];
-                self.order[*next as usize] = (*tile, *record);
+                self.order[*next as usize] = (part.tile, record);
                 *next += 1;
             }
         }
     }
 
     fn print_record(&mut self, tile: u32, record: &Record) {
-        let page = &mut self.page;
-        page.number(record.stamp);
-        page.short(tile);
-        page.number(record.number);
-        page.short(u32::from(record.x));
-        page.short(u32::from(record.y));
-        page.hexadecimal(record.seed);
-        page.word(b" ");
-        self.end_line();
+        self.line(|line| {
+            line.number(record.stamp);
+            line.short(tile);
+            line.number(record.number);
+            line.short(u32::from(record.x));
+            line.short(u32::from(record.y));
+            line.hexadecimal(record.seed);
+            line.text(b" ");
+        });
     }
 
     fn print_abandoned(&mut self, tile: usize) {
         for lost in &self.report.logs[tile].abandoned {
-            let page = &mut self.page;
-            page.short(tile as u32);
-            page.number(lost.number);
-            page.short(u32::from(lost.x));
-            page.short(u32::from(lost.y));
-            page.short(lost.edge);
-            page.short(lost.holder);
-            page.number(lost.holder_attempt);
-            self.end_line();
+            self.line(|line| {
+                line.short(tile as u32);
+                line.number(lost.number);
+                line.short(u32::from(lost.x));
+                line.short(u32::from(lost.y));
+                line.short(lost.edge);
+                line.short(lost.holder);
+                line.number(lost.holder_attempt);
+            });
         }
     }
 }
@@ -231,14 +284,14 @@ fn pieces(world: &World, logs: &[Log]) -> Vec<Piece> {
 
 /// Puts the report of a run to standard output.
 pub fn put(world: &World, logs: &[Log]) -> io::Result<()> {
-    let output = Output { turn: Mutex::new(Turn { piece: 0, outcome: Ok(()) }), passed: Condvar::new() };
     let pieces = pieces(world, logs);
+    let threads = thread::available_parallelism().map_or(1, usize::from).min(pieces.len());
+    let output = Output::new(2 * threads);
     let report = Report { world, logs, pieces, next: AtomicUsize::new(0), output };
-    let threads = thread::available_parallelism().map_or(1, usize::from).min(report.pieces.len());
     thread::scope(|scope| {
         let start = |_| thread::Builder::new().spawn_scoped(scope, || report.print()).ok();
         let _started: Vec<_> = (1..threads).map_while(start).collect();
         report.print();
     });
-    report.output.turn.into_inner().expect("no thread ends in its turn").outcome
+    report.output.shelf.into_inner().expect("no thread ends at the shelf").outcome
 }
