@@ -27,54 +27,95 @@ pub struct World {
     pub grid: Vec<Atom>,
 }
 
-fn decimal(text: &[u8]) -> u64 {
-    text.iter().fold(0, |n, b| n * 10 + u64::from(b - b'0'))
-}
+/// The fields of a line that are still to be read, with a space between two of them.
+struct Fields<'a>(&'a [u8]);
 
-fn hexadecimal(text: &[u8]) -> u128 {
-    text.iter().fold(0, |n, &b| n << 4 | u128::from(if b <= b'9' { b - b'0' } else { b - b'a' + 10 }))
+impl<'a> Fields<'a> {
+    /// The next field as it is.
+    fn word(&mut self) -> &'a [u8] {
+        let length = self.0.iter().position(|&b| b == b' ').unwrap_or(self.0.len());
+        let (word, rest) = self.0.split_at(length);
+        self.0 = rest;
+        self.pass_space();
+        word
+    }
+
+    fn pass_space(&mut self) {
+        self.0 = self.0.strip_prefix(b" ").unwrap_or(self.0);
+    }
+
+    /// The next field as a decimal number.
+    fn number(&mut self) -> u64 {
+        let mut n = 0;
+        while let [digit @ b'0'..=b'9', rest @ ..] = self.0 {
+            n = n * 10 + u64::from(digit - b'0');
+            self.0 = rest;
+        }
+        self.pass_space();
+        n
+    }
+
+    /// The next two fields as decimal numbers.
+    fn two(&mut self) -> (usize, usize) {
+        (self.number() as usize, self.number() as usize)
+    }
+
+    /// The next field as a hexadecimal number; 0 if there is none.
+    fn hexadecimal(&mut self) -> u128 {
+        let digit = |b: u8| u128::from(if b <= b'9' { b - b'0' } else { b - b'a' + 10 });
+        self.word().iter().fold(0, |n, &b| n << 4 | digit(b))
+    }
 }
 
 impl World {
     pub fn read(bytes: &[u8]) -> Self {
         let mut world = World::default();
         for line in bytes.split(|&b| b == b'\n') {
-            world.read_line(line);
+            world.read_line(Fields(line));
         }
         world
     }
 
-    fn read_line(&mut self, line: &[u8]) {
-        let mut fields = line.split(|&b| b == b' ');
-        let word = fields.next();
-        let mut field = || fields.next().expect("a field");
-        match word {
-            Some(b"tiles") => self.tiles = (decimal(field()) as usize, decimal(field()) as usize),
-            Some(b"size") => {
-                self.size = (decimal(field()) as usize, decimal(field()) as usize);
+    fn read_line(&mut self, mut fields: Fields<'_>) {
+        match fields.word() {
+            b"atom" => self.read_atom(fields),
+            b"try" => {
+                let tile = fields.number() as usize;
+                let (x, y) = fields.two();
+                let centre = y % self.size.1 * self.size.0 + x % self.size.0;
+                self.tries[tile].push((centre as u32, fields.hexadecimal() as u64));
+            }
+            b"tiles" => self.tiles = fields.two(),
+            b"size" => {
+                self.size = fields.two();
                 self.make_tiles();
             }
-            Some(b"off") => {
-                let tile = decimal(field()) as usize;
+            b"off" => {
+                let tile = fields.number() as usize;
                 self.on[tile] = false;
                 self.rows(tile).for_each(|row| self.grid[row].fill(WALL));
             }
-            Some(b"seed") => self.seed = decimal(field()),
-            Some(b"attempts") => self.count = decimal(field()) as u32,
-            Some(b"try") => {
-                let [tile, x, y] = std::array::from_fn(|_| decimal(field()) as usize);
-                let centre = y % self.size.1 * self.size.0 + x % self.size.0;
-                self.tries[tile].push((centre as u32, hexadecimal(field()) as u64));
-            }
-            Some(b"atom") => {
-                let [x, y] = std::array::from_fn(|_| decimal(field()) as usize);
-                let (site, name) = (y * self.width() + x, field());
-                let kind = NAMES.iter().position(|n| *n == name).expect("Wander, Stone, Number or Sorter") + 1;
-                self.grid[site] = (kind as Atom) << TYPE | fields.next().map_or(0, hexadecimal);
-            }
-            Some(b"order") if line.starts_with(b"order seed ") => self.order_seed = fields.nth(1).map(decimal),
-            Some(b"order") => self.order.extend(fields.map(|tile| decimal(tile) as usize)),
+            b"seed" => self.seed = fields.number(),
+            b"attempts" => self.count = fields.number() as u32,
+            b"order" => self.read_order(fields),
             _ => {}
+        }
+    }
+
+    fn read_atom(&mut self, mut fields: Fields<'_>) {
+        let (x, y) = fields.two();
+        let name = fields.word();
+        let kind = NAMES.iter().position(|n| *n == name).expect("Wander, Stone, Number or Sorter") + 1;
+        let site = y * self.width() + x;
+        self.grid[site] = (kind as Atom) << TYPE | fields.hexadecimal();
+    }
+
+    fn read_order(&mut self, mut fields: Fields<'_>) {
+        if let Some(seed) = fields.0.strip_prefix(b"seed ") {
+            self.order_seed = Some(Fields(seed).number());
+        }
+        while let [b'0'..=b'9', ..] = fields.0 {
+            self.order.push(fields.number() as usize);
         }
     }
 
