@@ -7,7 +7,7 @@ from typing import Callable, Iterator
 
 from calls import Failed, Used, Words, in_turn, made
 from check import source_files
-from worlds import SORTERS, WALKER, WANDERERS, Mix, lines_of_tries, world
+from worlds import HORDE, LIFE, SIDE, SORTERS, WALKER, WANDERERS, Mix, lines_of_tries, world
 
 ORDER = "order seed 9\n"
 
@@ -65,10 +65,10 @@ class Bench:
         path.write_text(text)
         return path
 
-    def world(self, tiles: int, mix: Mix = WANDERERS, scripted: bool = False) -> pathlib.Path:
+    def world(self, tiles: int, mix: Mix = WANDERERS, scripted: bool = False, side: int = SIDE) -> pathlib.Path:
         """The world of so many tiles each way."""
         order = "" if scripted or tiles == 1 else ORDER
-        return self.file(f"world-{tiles}", world(tiles, self.attempts, scripted, mix=mix) + order)
+        return self.file(f"world-{tiles}", world(tiles, self.attempts, scripted, side, mix) + order)
 
     def idle_world(self, tiles: int) -> pathlib.Path:
         """The same plane and atoms with one attempt a tile."""
@@ -125,12 +125,38 @@ def compared(bench: Bench, tiles: int, mix: Mix, work: str, price: Aim | None, r
     ours = used["ours"]
     yield Line(work, ours.shown(), beside("plain.rs", used["plain"]), ours.seconds / used["plain"].seconds, "times its time", price)
     yield Line(work, ours.shown(), beside("one tile of ours", used["alone"]), used["alone"].seconds / ours.seconds, "times its rate", rate)
+    yield Line(f"{work}, memory", f"{ours.megabytes:.0f} MB", f"plain.rs {used['plain'].megabytes:.0f} MB",
+               ours.megabytes / used["plain"].megabytes, "times its memory")
 
 
 def many_tiles(bench: Bench) -> Iterator[Line]:
     """Threaded runs with one site in four taken."""
     for tiles, rate in ((2, 1.0), (8, 0.9)):
         yield from compared(bench, tiles, WANDERERS, f"run, {tiles} by {tiles} tiles", Aim(1.5), at_least(rate))
+
+
+def small_tiles(bench: Bench) -> Iterator[Line]:
+    """A threaded run of smaller tiles, beside the plain program with tiles."""
+    elements, where = bench.elements(), bench.world(4, side=16)
+    calls: dict[str, Words] = {"ours": [bench.program, "run", where, elements], "plain": [bench.plain, "run", where]}
+    bench.audited(where, calls["plain"], elements)
+    used = in_turn(calls, bench.rounds)
+    ratio = used["ours"].seconds / used["plain"].seconds
+    work = "run, 4 by 4 tiles of 16 by 16 sites"
+    yield Line(work, used["ours"].shown(), beside("plain.rs", used["plain"]), ratio, "times its time", Aim(1.5))
+
+
+def examples(bench: Bench) -> Iterator[Line]:
+    """Threaded runs of examples on four tiles of 32 by 32 sites, beside the same plane on one tile."""
+    for example in (HORDE, LIFE):
+        elements = bench.file("elements", example.text)
+        many = bench.file("world-2", example.repeated(2, 32, bench.attempts))
+        alone = bench.file("world-1", example.repeated(1, 64, bench.attempts))
+        calls: dict[str, Words] = {"ours": [bench.program, "run", many, elements], "alone": [bench.program, "run", alone, elements]}
+        used = in_turn(calls, bench.rounds)
+        rate = used["alone"].seconds / used["ours"].seconds
+        work = f"run, {example.name}, 2 by 2 tiles of 32 by 32 sites"
+        yield Line(work, used["ours"].shown(), beside("one tile of ours", used["alone"]), rate, "times its rate")
 
 
 def sorters(bench: Bench) -> Iterator[Line]:
@@ -168,7 +194,9 @@ def stepped(bench: Bench) -> Iterator[Line]:
         calls: dict[str, Words] = {"ours": [bench.program, "step", where, elements], "plain": [bench.plain, "step", where]}
         bench.same(calls["ours"], calls["plain"])
         used = in_turn(calls, bench.rounds)
-        yield Line(f"step, {tiles} by {tiles} tiles", used["ours"].shown(), beside("plain.rs", used["plain"]), used["ours"].seconds, "s", aim)
+        work, ours, plain = f"step, {tiles} by {tiles} tiles", used["ours"], used["plain"]
+        yield Line(work, ours.shown(), beside("plain.rs", plain), ours.seconds / plain.seconds, "times its time")
+        yield Line(work, ours.shown(), "", ours.seconds, "s", aim)
 
 
 def audits(bench: Bench) -> Iterator[Line]:
@@ -180,6 +208,17 @@ def audits(bench: Bench) -> Iterator[Line]:
     yield Line("audit, 64 tiles", used.shown(), "", used.seconds, "s", Aim(0.6))
 
 
+def rewinds(bench: Bench) -> Iterator[Line]:
+    """A rewind of a report of four tiles to its start, and to its first 1,000 records."""
+    where, elements, report = bench.world(2), bench.elements(), bench.folder / "report"
+    made([bench.program, "step", where, elements], report)
+    calls: dict[str, Words] = {
+        f"rewind to record {count}": [bench.program, "rewind", where, report, count, elements] for count in ("0", "1000")
+    }
+    for work, used in in_turn(calls, bench.rounds).items():
+        yield Line(work, used.shown(), "", used.seconds, "s")
+
+
 def others(bench: Bench) -> Iterator[Line]:
     """Element files of 1 MB, and a report that is read again, of four tiles stepped."""
     files = source_files(bench.folder)
@@ -189,7 +228,6 @@ def others(bench: Bench) -> Iterator[Line]:
     calls |= {
         "replay": [bench.program, "replay", where, report, elements],
         "audit, four tiles": [bench.program, "audit", where, report, elements],
-        "rewind": [bench.program, "rewind", where, report, "1000", elements],
     }
     for work, used in in_turn(calls, bench.rounds).items():
         yield Line(work, used.shown())
@@ -198,9 +236,12 @@ def others(bench: Bench) -> Iterator[Line]:
 PARTS: dict[str, Callable[[Bench], Iterator[Line]]] = {
     "one": one_tile,
     "many": many_tiles,
+    "small": small_tiles,
     "sorters": sorters,
+    "examples": examples,
     "workers": workers,
     "step": stepped,
     "audit": audits,
+    "rewind": rewinds,
     "others": others,
 }

@@ -31,6 +31,7 @@ class Case:
     attempts: int
     off: tuple[int, ...] = ()
     scripted: bool = False
+    uneven: int = 1  # how many times as many attempts the first tile makes, if they are scripted
     listed: bool = False
     mix: Mix = dataclasses.field(default=WANDERERS, repr=False)
 
@@ -60,7 +61,7 @@ class Case:
         lines = []
         for tile in self._on():
             left, top = tile % self.tiles[0] * self.size[0], tile // self.tiles[0] * self.size[1]
-            for _ in range(self.attempts):
+            for _ in range(self.attempts * (1 if lines else self.uneven)):
                 x, y = left + draw.randrange(self.size[0]), top + draw.randrange(self.size[1])
                 lines.append(f"try {tile} {x} {y} {draw.getrandbits(64):016x}")
         return lines
@@ -93,6 +94,9 @@ STEPPED = [
     Case((2, 2), (64, 64), 5_000),
     Case((8, 8), (8, 8), 200),
     Case((3, 3), (12, 9), 2_000, off=(2,), mix=SORTERS),
+    Case((4, 4), (64, 64), 2_500, scripted=True, uneven=20),
+    Case((8, 8), (9, 10), 100, off=(0, 9, 27, 62, 63), mix=SORTERS),
+    Case((8, 1), (8, 64), 200, off=(5,)),
 ]
 THREADED = [
     Case((2, 2), (8, 8), 20_000),
@@ -101,6 +105,9 @@ THREADED = [
     Case((8, 8), (8, 8), 1_000),
     Case((4, 2), (16, 40), 5_000),
     Case((3, 2), (16, 16), 10_000, mix=SORTERS),
+    Case((8, 8), (16, 16), 1_000, off=(0, 9, 27, 62, 63)),
+    Case((8, 1), (8, 64), 2_000, off=(5,)),
+    Case((4, 4), (64, 64), 1_000, scripted=True, uneven=20),
 ]
 
 

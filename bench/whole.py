@@ -33,7 +33,7 @@ def build(crate: pathlib.Path) -> None:
 def build_plain(folder: pathlib.Path, source: pathlib.Path = HERE / "flat.rs") -> pathlib.Path:
     """Builds a plain program, that of one tile unless another is named, and returns its path."""
     plain = folder / source.stem
-    subprocess.run(["rustc", "-O", "-C", "target-cpu=x86-64-v2", source, "-o", plain], check=True)
+    subprocess.run(["rustc", "--edition", "2021", "-O", "-C", "target-cpu=x86-64-v2", source, "-o", plain], check=True)
     return plain
 
 

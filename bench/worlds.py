@@ -73,6 +73,34 @@ def world(
     return "\n".join(lines) + "\n"
 
 
+@dataclasses.dataclass(frozen=True)
+class Example:
+    """An example of one tile, and the element files that it needs."""
+
+    name: str
+    files: tuple[str, ...]
+
+    @property
+    def text(self) -> str:
+        """The elements, as one file."""
+        return "".join((EXAMPLES / f"{name}.ulam").read_text() for name in self.files)
+
+    def repeated(self, tiles: int, side: int, attempts: int = ATTEMPTS) -> str:
+        """A world of so many tiles each way whose plane is that of the example, repeated as often as there is room."""
+        known = [line.split() for line in (EXAMPLES / f"{self.name}.world").read_text().splitlines()]
+        columns, rows = next((int(line[1]), int(line[2])) for line in known if line[:1] == ["size"])
+        lines = ["feast 1", f"tiles {tiles} {tiles}", f"size {side} {side}", "seed 7", f"attempts {attempts // tiles**2}"]
+        for top in range(0, tiles * side, rows):
+            for left in range(0, tiles * side, columns):
+                atoms = (line for line in known if line[:1] == ["atom"])
+                lines += [f"atom {left + int(x)} {top + int(y)} {' '.join(atom)}" for _, x, y, *atom in atoms]
+        return "\n".join(lines) + "\n"
+
+
+HORDE = Example("horde", ("horde", "regulator"))
+LIFE = Example("life", ("life",))
+
+
 def lines_of_tries(tiles: int, side: int = 8, attempts: int = ATTEMPTS) -> str:
     """A world of so many tiles each way whose attempts are written out, one tile after another; it has no atoms."""
     draw = random.Random(1)
