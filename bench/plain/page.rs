@@ -8,7 +8,7 @@ const fn short_texts() -> [u64; 1_000] {
     let mut n = 0;
     while n < 1_000 {
         let digits = [b'0' + (n / 100) as u8, b'0' + (n / 10 % 10) as u8, b'0' + (n % 10) as u8];
-        let leading = if n >= 100 { 0 } else if n >= 10 { 1 } else { 2 };
+        let leading = (n < 100) as usize + (n < 10) as usize;
         let mut text = b' ' as u64;
         let mut at = 3;
         while at > leading {
