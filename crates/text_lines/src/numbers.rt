@@ -90,6 +90,7 @@ fn hex_worth(bytes: &[u8]) -> Option<u64>
 
 /// The number that a field of 18 lower-case hexadecimal digits is, below 2^72. None if it is not
 /// one.
+#[inline(never)]
 pub fn state(field: &[u8]) -> Option<u128>
     ensures value { result ≡ hex_of 18 field.now }
     ensures bound { IfSome result (λ n. n < 2 ^ 72) }
@@ -103,6 +104,7 @@ pub fn state(field: &[u8]) -> Option<u128>
 }
 
 /// The number that a field of 16 lower-case hexadecimal digits is. None if it is not one.
+#[inline(never)]
 pub fn seed(field: &[u8]) -> Option<u64>
     ensures { result ≡ hex_of 16 field.now }
 {

@@ -85,18 +85,18 @@ impl RawAtoms {
         }
     }
 
-    /// Adds an atom. `NoMemory` if there is none for it.
+    /// Adds an atom at a column and a row. `NoMemory` if there is none for it.
     pub(crate) fn push(
         &mut self,
         alloc: Global,
         line: u64,
-        x: u32,
-        y: u32,
+        site: (u32, u32),
         name: &[u8],
         state: u128,
     ) -> Result<(), NoMemory>
-        ensures { OnOk result (raw_atoms self.new ≡ raw_atoms self.old ++ raw_atom line x y name.now state ∷ []) }
+        ensures { OnOk result (raw_atoms self.new ≡ raw_atoms self.old ++ raw_atom line site.0 site.1 name.now state ∷ []) }
     {
+        let (x, y) = site;
         let name = number_of(alloc, &mut self.names, &mut self.recent, name)?;
         self.atoms.push(NumberedAtom {
             line,

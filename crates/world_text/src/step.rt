@@ -51,7 +51,7 @@ fn put_atom(
 ) -> Result<(), NoMemory>
     ensures { OnOk result (draft_value draft.new ≡ put line (draft_value draft.old) (atom x y name.now state)) }
 {
-    draft.atoms.push(alloc, line, x, y, name, state)?;
+    draft.atoms.push(alloc, line, (x, y), name, state)?;
     draft.last = Kind::Atom;
     Ok(())
 }
