@@ -10,7 +10,7 @@ use Rattle.world_text.specs.Forms.{line_of}
 use Rattle.world_text.specs.Line.{Line, header, tiles, size, off, seed, attempts, try, atom, order_seed, order}
 use Rattle.world_text.specs.Named.{atom_place, name_fault, world_with_names, type_of, unless, world_of}
 use Rattle.world_text.specs.Reading.{go_on, line_step, over, read_lines, read_text}
-use Rattle.world_text.specs.declared.draft.RawAtom.{RawAtom}
+use Rattle.world_text.specs.Atoms.{RawAtom}
 use Rattle.world_text.specs.declared.kind.Kind.{Kind}
 use Rattle.world_text.specs.declared.kind.Kind.TheVariants.{Start, Header, Tiles, Size, Off, Seed, Attempts, Try, Atom, OrderSeed, Order}
 

@@ -41,10 +41,12 @@ pub fn one_number(args: Option<&[u8]>) -> Option<u128>
 
 /// The number whose 16 digits the one field is. None if there is no field, more than one, or one of
 /// another form.
+#[tactic(auto, using(crate::proofs::Takes::digits_alone, crate::proofs::Takes::no_digits))]
 pub fn one_seed(args: Option<&[u8]>) -> Option<u64>
     ensures { result ≡ one_seed (fields_left args.entry) }
 {
-    seed(one_field(args)?)
+    // A space is no digit, so more fields than one are not the digits of a seed.
+    seed(args?)
 }
 
 /// The two numbers that the fields are. None if there are fewer or more, or one is not a number.

@@ -11,7 +11,7 @@ use Rattle.world_text.specs.Named.{WorldValue, name_fault, world_with_names, ato
 use Rattle.world_text.specs.Printed.{IsNamed, lines_text, world_lines}
 use Rattle.world_text.specs.Reading.{go_on, over, read_text}
 use Rattle.world_text.specs.Saying.{AreCut, AreNamedToo, AreWorldCuts, IsPrinted, IsReadBut, IsWorldBut, last_kind, draft_after_lines}
-use Rattle.world_text.specs.declared.draft.RawAtom.{RawAtom}
+use Rattle.world_text.specs.Atoms.{RawAtom}
 use Rattle.world_text.specs.declared.kind.Kind.{Kind}
 use Rattle.world_text.specs.declared.kind.Kind.TheVariants.{Header, Off, Size, Start, Tiles}
 use Rattle.world_text.proofs.Again.{text_again}

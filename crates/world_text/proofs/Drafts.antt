@@ -1,12 +1,15 @@
 -- What a draft's lists become with one more line, and what its plan needs.
-use Rattle.std.proofs.Common.{ℕ, zero, suc, nat_lt, false, not, ◌≡◌, ◌+◌, ◌*◌, ◌<◌, ◌≤◌, arith, List, [], ◌∷◌, ◌++◌, length, get_or, ap, ◌∙◌}
+use Rattle.std.proofs.Common.{ℕ, zero, suc, nat_lt, false, true, not, ◌≡◌, ◌+◌, ◌*◌, ◌^◌, ◌<◌, ◌≤◌, arith, List, [], ◌∷◌, ◌++◌, All, length, get_or, ap, ◌∙◌}
 use Rattle.std.proofs.Math.ListN.{set}
 use Rattle.std.proofs.lemmas.List.{get_or_default}
 use Rattle.list_laws.proofs.Filters.{filter_short}
+use Rattle.list_laws.proofs.Tests.{both}
 use Rattle.draw_stream.specs.Plans.{IsPlan, scripted}
 use Rattle.draw_stream.specs.declared.attempt.Attempt.{Attempt}
 use Rattle.tile_map.proofs.Numbers.{tiles_few}
-use Rattle.world_text.specs.Drafts.{DraftValue, IsDraft}
+use Rattle.tile_map.specs.Plane.{MapValue, in_plane, is_on, owner_of, site}
+use Rattle.world_text.specs.Atoms.{RawAtom}
+use Rattle.world_text.specs.Drafts.{DraftValue, IsDraft, IsRawAtom}
 
 pub tries_more : (lists : List (List Attempt)) (t : ℕ) (new old : List Attempt) (a : Attempt) → t < length lists → old ≡ get_or lists t old → new ≡ old ++ a ∷ [] →
     set lists t new ≡ set lists t (get_or lists t [] ++ a ∷ [])
@@ -43,3 +46,17 @@ draft_plan d k = record {
   most = omega (arith, k.lists, tiles_few d.plane k.map);
   few = omega (arith, k.made, k.few);
 }
+
+one_inside : (m : MapValue) (a : RawAtom) → IsRawAtom m a → (a.x < m.tx * m.w) × (a.y < m.ty * m.h) × (a.state < 2 ^ 71)
+one_inside m a k =
+    let s = site a.x a.y in
+    let inside = both (in_plane m s) (is_on m (owner_of m s)) k.live in
+    let sides = both (nat_lt a.x (m.tx * m.w)) (nat_lt a.y (m.ty * m.h)) inside.0 in
+    (lt_is a.x (m.tx * m.w) sides.0, lt_is a.y (m.ty * m.h) sides.1, k.state)
+  where
+    lt_is : (a b : ℕ) → nat_lt a b ≡ true → a < b
+    lt_is a b h = grind arith
+
+-- the atoms of a draft stand on its plane
+pub atoms_inside : (d : DraftValue) → IsDraft d → All (λ (a : RawAtom). (a.x < d.plane.tx * d.plane.w) × (a.y < d.plane.ty * d.plane.h) × (a.state < 2 ^ 71)) d.atoms
+atoms_inside d k = λ i a lt. one_inside d.plane (get_or d.atoms i a) (k.atoms i a lt)

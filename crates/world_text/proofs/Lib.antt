@@ -4,6 +4,7 @@ pub mod Drafts
 pub mod Formed
 pub mod Kept
 pub mod Marks
+pub mod Numbered
 pub mod Planes
 pub mod Prints
 pub mod Round

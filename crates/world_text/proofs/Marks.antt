@@ -9,7 +9,7 @@ use Rattle.std.proofs.lemmas.List.Folds.{list_any-append}
 use Rattle.list_laws.specs.Options.{or_zero}
 use Rattle.world_text.specs.Named.{name_fault, atom_place, placed_atom, type_from, type_of, AreMarked}
 use Rattle.bit_field.specs.Atom.{AtomValue}
-use Rattle.world_text.specs.declared.draft.RawAtom.{RawAtom}
+use Rattle.world_text.specs.Atoms.{RawAtom}
 use Rattle.world_text.specs.declared.world.Placed.{Placed}
 
 pub unmarked : (n : ℕ) → AreMarked (replicate n false) []

@@ -18,7 +18,7 @@ use Rattle.text_lines.specs.Lines.{ended_line}
 use Rattle.tile_map.specs.Plane.{MapValue}
 use Rattle.feast_base.proofs.Appending.{piece_done}
 use Rattle.world_text.specs.Line.{Line}
-use Rattle.world_text.specs.declared.draft.RawAtom.{RawAtom}
+use Rattle.world_text.specs.Atoms.{RawAtom}
 use Rattle.world_text.specs.declared.world.Placed.{Placed}
 
 pub taken_none : (l m : List Attempt) → TakesNext l None m → l ≡ []

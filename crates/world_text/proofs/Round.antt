@@ -16,7 +16,7 @@ use Rattle.world_text.specs.Named.{ReadsWorld, WorldValue, name_fault, world_wit
 use Rattle.world_text.specs.Printed.{IsNamed, atom_line, off_lines, order_lines, plan_lines, try_lines, world_lines, world_text}
 use Rattle.world_text.specs.Reading.{over}
 use Rattle.world_text.specs.Saying.{IsPrinted, draft_after_lines}
-use Rattle.world_text.specs.declared.draft.RawAtom.{RawAtom}
+use Rattle.world_text.specs.Atoms.{RawAtom}
 use Rattle.world_text.specs.declared.kind.Kind.{Kind}
 use Rattle.world_text.specs.declared.kind.Kind.TheVariants.{Atom, Attempts, Order, OrderSeed, Size}
 use Rattle.world_text.proofs.Again.{text_again}

@@ -8,7 +8,7 @@ use Rattle.tile_map.specs.Plane.{MapValue, IsMap, plane_of, whole_plane, site, t
 use Rattle.world_text.specs.Line.{Line, header, tiles, size, off, seed, attempts, try, atom, order_seed, order}
 use Rattle.world_text.specs.declared.kind.Kind.{Kind}
 use Rattle.world_text.specs.declared.kind.Kind.TheVariants.{Start, Header, Tiles, Size, Off, Seed, Attempts, Try, Atom, OrderSeed, Order}
-use Rattle.world_text.specs.declared.draft.RawAtom.{RawAtom}
+use Rattle.world_text.specs.Atoms.{RawAtom}
 use Rattle.bit_field.specs.declared.TheConstants.{STATE_BITS}
 use Rattle.feast_base.specs.declared.limits.TheConstants.{MOST_ATTEMPTS}
 use Rattle.tile_map.specs.declared.limits.TheConstants.{LEAST_SIDE, MOST_ACROSS, MOST_SIDE}

@@ -1,3 +1,4 @@
+pub mod Atoms
 pub mod Drafts
 pub mod Forms
 pub mod Line

@@ -11,7 +11,7 @@ use Rattle.std.specs.Global.{Global}
 use Rattle.list_laws.specs.Options.{or_zero}
 use Rattle.world_text.specs.Reading.{read_text, fault_of}
 use Rattle.world_text.specs.declared.fault.WorldFault.{WorldFault}
-use Rattle.world_text.specs.declared.draft.RawAtom.{RawAtom}
+use Rattle.world_text.specs.Atoms.{RawAtom}
 use Rattle.world_text.specs.declared.world.Placed.{Placed}
 
 -- the order of a stepped run: tiles, or a seed that gives them

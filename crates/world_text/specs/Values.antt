@@ -1,6 +1,7 @@
 -- The code's types as the values that contracts speak of.
 use Rattle.std.specs.Prelude.{ℕ, ◌≡◌, List, Result, Ok, Err}
 use Rattle.tile_map.specs.Plane.{MapValue, plane_of}
+use Rattle.world_text.specs.Atoms.{raw_atoms}
 use Rattle.world_text.specs.Drafts.{DraftValue}
 use Rattle.world_text.specs.Line.{Line, header, tiles, size, off, seed, attempts, try, atom, order_seed, order}
 use Rattle.world_text.specs.Named.{WorldValue, OrderValue, listed, drawn, world_with_names}
@@ -39,7 +40,7 @@ draft_value d = record {
   origin = d.origin;
   made = d.made;
   tries = d.tries.items;
-  atoms = d.atoms.items;
+  atoms = raw_atoms d.atoms;
   order_seed = d.order_seed;
   order = d.order.items;
 }

@@ -3,9 +3,10 @@ ghost use Rattle.std.specs.Prelude.{◌≡◌, ◌++◌, ◌∷◌, IfOk, [], re
 ghost use Rattle.world_text.specs.Drafts.{nothing_said};
 ghost use Rattle.world_text.specs.Values.{draft_value};
 
+use crate::atoms::RawAtoms;
 use crate::kind::Kind;
 use draw_stream::{Attempt, Script};
-use feast_base::{Name, NoMemory};
+use feast_base::NoMemory;
 use std::alloc::Global;
 use std::marker::Model;
 use tile_map::LEAST_SIDE;
@@ -51,16 +52,6 @@ impl Tries {
     }
 }
 
-/// An atom that a line places, and that line's number.
-#[derive(Drop)]
-pub(crate) struct RawAtom {
-    pub(crate) line: u64,
-    pub(crate) x: u32,
-    pub(crate) y: u32,
-    pub(crate) name: Name,
-    pub(crate) state: u128,
-}
-
 /// What the lines so far say of a world.
 #[derive(Drop)]
 pub(crate) struct Draft {
@@ -74,7 +65,7 @@ pub(crate) struct Draft {
     pub(crate) origin: Option<(u64, u64)>,
     pub(crate) made: u32,
     pub(crate) tries: Vec<Tries>,
-    pub(crate) atoms: Vec<RawAtom>,
+    pub(crate) atoms: RawAtoms,
     pub(crate) order_seed: Option<u64>,
     pub(crate) order: Vec<u32>,
 }
@@ -106,7 +97,7 @@ pub(crate) fn nothing_said(alloc: Global) -> Result<Draft, NoMemory>
         origin: None,
         made: 0,
         tries: empty_lists(alloc, 1)?,
-        atoms: Vec::new(alloc),
+        atoms: RawAtoms::new(alloc),
         order_seed: None,
         order: Vec::new(alloc),
     })

@@ -6,6 +6,7 @@
 //! that reads as this world again.
 #![tactic(auto)]
 
+mod atoms;
 mod draft;
 mod fault;
 mod kind;

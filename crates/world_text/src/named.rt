@@ -1,15 +1,16 @@
 //! Giving the atoms of a world the types of their names.
-ghost use Rattle.std.specs.Prelude.{ℕ, ◌≡◌, ◌*◌, ◌≤◌, ◌<◌, ◌^◌, All, IfOk, IfSome, List, false, length, not, slice_index_or, slice_set, true};
+ghost use Rattle.std.specs.Prelude.{ℕ, ◌≡◌, ◌+◌, ◌*◌, ◌≤◌, ◌<◌, ◌^◌, All, IfOk, IfSome, List, false, length, map, not, slice_index_or, slice_set, true};
 ghost use Rattle.draw_stream.specs.Plans.{IsPlan, scripted, tiles_on};
-ghost use Rattle.world_text.specs.declared.draft.RawAtom.{RawAtom};
-ghost use Rattle.world_text.specs.Named.{AreKinds, NamesAtoms, order_by, atom_place, plan_by, type_of};
+ghost use Rattle.world_text.specs.Atoms.{RawAtom, raw_atoms};
+ghost use Rattle.world_text.specs.Named.{AreKinds, NamesAtoms, order_by, plan_by, type_of};
 ghost use Rattle.world_text.specs.Printed.{IsNamed, IsPrintable};
 ghost use Rattle.world_text.specs.Values.{Names, order_value, world_value};
 ghost use Rattle.bit_field.specs.declared.TheConstants.{STATE_BITS};
 ghost use Rattle.feast_base.specs.declared.limits.TheConstants.{MOST_ATTEMPTS, MOST_SITES, MOST_TILES};
 ghost use Rattle.window_sites.specs.declared.window.TheConstants.{MOST_COLUMNS};
 
-use crate::draft::{RawAtom, Tries};
+use crate::atoms::RawAtoms;
+use crate::draft::Tries;
 use crate::fault::WorldFault;
 use crate::raw_world::RawWorld;
 use crate::world::{Order, Placed, World};
@@ -40,14 +41,29 @@ fn type_of(kinds: &HashMap<&[u8], u16>, name: &[u8]) -> Option<u16>
     kinds.get(name).copied()
 }
 
-/// The place of an atom in row order.
-fn atom_place(width: u32, height: u32, atom: &RawAtom) -> usize
+/// The type numbers of kept names.
+fn types_of(
+    alloc: Global,
+    kinds: &HashMap<&[u8], u16>,
+    kept: &[Name],
+) -> Result<Vec<Option<u16>>, NoMemory>
+    ensures { (names : List (List ℕ)) → AreKinds names kinds.now → IfOk result (λ v. v.items ≡ map (type_of names) kept.now) }
+{
+    let mut types = Vec::new(alloc);
+    for name in kept {
+        types.push(type_of(kinds, name.bytes()))?;
+    }
+    Ok(types)
+}
+
+/// The place of a site in row order.
+fn place_of(width: u32, height: u32, x: u32, y: u32) -> usize
     requires small { (width ≤ MOST_COLUMNS) × (height ≤ MOST_COLUMNS) }
-    requires inside { (atom.now.x < width) × (atom.now.y < height) }
-    ensures value { result ≡ atom_place width atom.now }
+    requires inside { (x < width) × (y < height) }
+    ensures value { result ≡ y * width + x }
     ensures below { result < width * height }
 {
-    (atom.y * width + atom.x) as usize
+    (y * width + x) as usize
 }
 
 /// Marks a place as taken, and answers whether it was free.
@@ -67,21 +83,22 @@ fn name_atoms(
     names: &[Name],
     width: u32,
     height: u32,
-    atoms: &[RawAtom],
+    atoms: &RawAtoms,
 ) -> Result<Vec<Placed>, WorldFault>
     requires names { length names.now ≤ 65535 }
     requires small { (width ≤ MOST_COLUMNS) × (height ≤ MOST_COLUMNS) }
-    requires inside { All (λ (a : RawAtom). (a.x < width) × (a.y < height) × (a.state < 2 ^ STATE_BITS)) atoms.now }
-    ensures { NamesAtoms names.now width atoms.now result }
+    requires inside { All (λ (a : RawAtom). (a.x < width) × (a.y < height) × (a.state < 2 ^ STATE_BITS)) (raw_atoms atoms.now) }
+    ensures { NamesAtoms names.now width (raw_atoms atoms.now) result }
 {
     let kinds = kinds_of(alloc, names)?;
+    let types = types_of(alloc, &kinds, atoms.names())?;
     let mut marks = Vec::from_elem(alloc, false, (width * height) as usize)?;
     let mut found = Vec::new(alloc);
-    for raw in atoms {
-        let Some(kind) = type_of(&kinds, raw.name.bytes()) else {
+    for raw in atoms.atoms() {
+        let Some(kind) = types[raw.name] else {
             return Err(WorldFault::UnknownElement(raw.line));
         };
-        let place = atom_place(width, height, raw);
+        let place = place_of(width, height, raw.x, raw.y);
         if !take_site(&mut marks, place) {
             return Err(WorldFault::SiteTaken(raw.line));
         }
@@ -143,7 +160,7 @@ fn world(alloc: Global, raw: RawWorld, names: &[Name]) -> Result<World, WorldFau
 {
     let draft = raw.into_draft();
     let (width, height) = (draft.tx * draft.w, draft.ty * draft.h);
-    let atoms = name_atoms(alloc, names, width, height, draft.atoms.as_slice())?;
+    let atoms = name_atoms(alloc, names, width, height, &draft.atoms)?;
     let sites = (draft.w * draft.h) as u64;
     let plan = plan(
         alloc,

@@ -12,14 +12,14 @@ ghost use Rattle.feast_base.specs.declared.limits.TheConstants.{MOST_ATTEMPTS, M
 ghost use Rattle.tile_map.specs.declared.limits.TheConstants.{MOST_ACROSS};
 ghost use Rattle.window_sites.specs.declared.window.TheConstants.{MOST_COLUMNS};
 
-use crate::draft::{Draft, RawAtom, empty_lists};
+use crate::draft::{Draft, empty_lists};
 use crate::fault::WorldFault;
 use crate::kind::{Kind, kind_of, may_follow, misplaced_fault};
 use crate::line::Line;
 use crate::ranges::{in_range, too_many};
 use crate::take::line;
 use draw_stream::Attempt;
-use feast_base::{Name, NoMemory};
+use feast_base::NoMemory;
 use std::alloc::Global;
 use text_lines::is_skipped;
 
@@ -51,14 +51,7 @@ fn put_atom(
 ) -> Result<(), NoMemory>
     ensures { OnOk result (draft_value draft.new ≡ put line (draft_value draft.old) (atom x y name.now state)) }
 {
-    let name = Name::new(alloc, name)?;
-    draft.atoms.push(RawAtom {
-        line,
-        x,
-        y,
-        name,
-        state,
-    })?;
+    draft.atoms.push(alloc, line, (x, y), name, state)?;
     draft.last = Kind::Atom;
     Ok(())
 }

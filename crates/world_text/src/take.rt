@@ -29,11 +29,13 @@ fn state_of(args: Option<&[u8]>) -> Option<u128>
 {
     match args {
         None => Some(0),
-        Some(_) => state(one_field(args)?),
+        // A space is no digit, so more fields than one are not the digits of a state.
+        Some(text) => state(text),
     }
 }
 
 /// The name of a type, and perhaps a state.
+#[inline(never)]
 #[tactic(auto, unfolding(crate::specs::Forms::name_state))]
 fn name_state(args: Option<&[u8]>) -> Option<(&[u8], u128)>
     ensures { option_map (λ r. (r.0.now, r.1)) result ≡ name_state (fields_left args.entry) }
