@@ -22,7 +22,12 @@ fn shared_member(alloc: Global, tape: &Tape, at: usize) -> Result<(Rc<Member>, u
 }
 
 /// Members, appended to those read so far, and the closing brace.
-fn members(alloc: Global, found: &mut Vec<Rc<Member>>, tape: &Tape, at: usize) -> Result<usize, Halt>
+fn members(
+    alloc: Global,
+    found: &mut Vec<Rc<Member>>,
+    tape: &Tape,
+    at: usize,
+) -> Result<usize, Halt>
     ensures { Finds (members_in found.new) (behind (members_in found.old) spec.all_members) tape.now at result }
 {
     let mut next = at;
