@@ -183,7 +183,7 @@ fn passes<R: Threads + Sync>(
 #[test]
 fn no_tile_gets_ahead_of_another(rt: HostRuntime) -> Result<(), Fail> {
     for plane in &PLANES {
-        for text in CALLS {
+        for text in &CALLS {
             assert!(rt;
                 passes(&rt, rt.alloc(), text, plane)?,
                 "{text}: {} tiles",

@@ -132,7 +132,7 @@ fn loads_fail<R: Threads + Sync + Abort>(
 /// A form that loads a file twice, in another order, or goes on after a load that failed, fails here.
 #[test]
 fn each_load_fails_in_turn(rt: HostRuntime) -> Result<(), Fail> {
-    for (call, names) in CALLS {
+    for (call, names) in &CALLS {
         loads_fail(&rt, rt.alloc(), call, names)?;
     }
     Ok(())
@@ -176,7 +176,7 @@ fn puts_fail<R: Threads + Sync + Abort>(
 /// A form that puts more after a put that failed, or says that all is done, fails here.
 #[test]
 fn each_put_fails_in_turn(rt: HostRuntime) -> Result<(), Fail> {
-    for (call, _) in CALLS {
+    for (call, _) in &CALLS {
         puts_fail(&rt, rt.alloc(), call, &STOPS)?;
     }
     Ok(())

@@ -4,6 +4,7 @@ use crate::calls::{gated, shelf};
 use feast_base::{Gate, MemSink, Rest};
 use feast_run::Status;
 use std::alloc::Global;
+use std::array::from_fn;
 use std::sync::atomic::{AtomicU64, Ordering};
 use std::test::Fail;
 use std::thread::Threads;
@@ -54,27 +55,19 @@ impl OrderGate {
     /// A gate to which nobody has come.
     fn new() -> OrderGate {
         OrderGate {
-            come: [
-                AtomicU64::new(0),
-                AtomicU64::new(0),
-                AtomicU64::new(0),
-                AtomicU64::new(0),
-            ],
+            come: from_fn(|_| AtomicU64::new(0)),
             strange: AtomicU64::new(0),
         }
     }
 
-    /// How many attempts of each tile have come, if all came in order.
-    fn counts(&self) -> Option<[u64; 4]> {
-        if self.strange.load(Ordering::SeqCst) != 0 {
-            return None;
+    /// Whether so many attempts of each tile have come, all in order.
+    fn has_let(&self, attempts: &[u64; 4]) -> bool {
+        for (come, count) in self.come.iter().zip(attempts) {
+            if come.load(Ordering::SeqCst) != *count {
+                return false;
+            }
         }
-        Some([
-            self.come[0].load(Ordering::SeqCst),
-            self.come[1].load(Ordering::SeqCst),
-            self.come[2].load(Ordering::SeqCst),
-            self.come[3].load(Ordering::SeqCst),
-        ])
+        self.strange.load(Ordering::SeqCst) == 0
     }
 }
 
@@ -92,19 +85,23 @@ impl Gate for OrderGate {
 
 impl Rest for OrderGate {}
 
-/// How many attempts of each tile come to the gate in a call that is Done, if all come in order.
-fn came<R: Threads + Sync>(rt: &R, alloc: Global, text: &str) -> Result<Option<[u64; 4]>, Fail> {
+/// Whether a call is Done, and so many attempts of each tile come to its gate, all in order.
+fn comes<R: Threads + Sync>(
+    rt: &R,
+    alloc: Global,
+    text: &str,
+    attempts: &[u64; 4],
+) -> Result<bool, Fail> {
     let gate = OrderGate::new();
     let mut shelf = shelf(alloc, &FILES, Vec::new(alloc))?;
     let mut sink = MemSink::new(alloc, Vec::new(alloc), 10_000)?;
-    match gated(rt, alloc, text, &mut shelf, &mut sink, &gate)? {
-        Status::Done => Ok(gate.counts()),
-        _ => Ok(None),
-    }
+    let status = gated(rt, alloc, text, &mut shelf, &mut sink, &gate)?;
+    Ok(status == Status::Done && gate.has_let(attempts))
 }
 
-/// Runs, with the number of attempts of each tile. A tile that is off has none.
-const RUNS: [(&str, [u64; 4]); 8] = [
+/// Calls of each form, with the number of attempts of each tile that come to the gate. A tile that is off
+/// has none, and so has each form but a run.
+const CALLS: [(&str, [u64; 4]); 17] = [
     ("run one e", [7, 0, 0, 0]),
     ("run three e", [7, 7, 7, 0]),
     ("run off e", [7, 0, 7, 0]),
@@ -113,37 +110,25 @@ const RUNS: [(&str, [u64; 4]); 8] = [
     ("runpack three c", [7, 7, 7, 0]),
     ("runpack off c", [7, 0, 7, 0]),
     ("runpack uneven c", [1, 3, 0, 0]),
+    ("check e", [0; 4]),
+    ("code e", [0; 4]),
+    ("pack e", [0; 4]),
+    ("step three e", [0; 4]),
+    ("steppack three c", [0; 4]),
+    ("replay walk j e", [0; 4]),
+    ("audit walk j e", [0; 4]),
+    ("rewind walk j 0 e", [0; 4]),
+    ("gen 5", [0; 4]),
 ];
 
 /// A run comes to the gate once before each attempt, with the number of the tile and that of the
 /// attempt, in order. A worker that calls it with attempt 0 each time fails here, one that takes all
-/// tiles but the first for one tile, and one that comes twice.
+/// tiles but the first for one tile, and one that comes twice. No other form comes to the gate: a `step`
+/// that calls it before its steps fails here.
 #[test]
-fn a_gate_is_reached_before_each_attempt(rt: HostRuntime) -> Result<(), Fail> {
-    for (text, attempts) in RUNS {
-        assert!(rt; came(&rt, rt.alloc(), text)? == Some(attempts), "{text}");
-    }
-    Ok(())
-}
-
-/// A call of each other form.
-const GATELESS: [&str; 9] = [
-    "check e",
-    "code e",
-    "pack e",
-    "step three e",
-    "steppack three c",
-    "replay walk j e",
-    "audit walk j e",
-    "rewind walk j 0 e",
-    "gen 5",
-];
-
-/// No other form comes to the gate. A `step` that calls it before its steps fails here.
-#[test]
-fn only_runs_reach_their_gate(rt: HostRuntime) -> Result<(), Fail> {
-    for text in GATELESS {
-        assert!(rt; came(&rt, rt.alloc(), text)? == Some([0; 4]), "{text}");
+fn a_run_reaches_its_gate_before_each_attempt(rt: HostRuntime) -> Result<(), Fail> {
+    for (text, attempts) in &CALLS {
+        assert!(rt; comes(&rt, rt.alloc(), text, attempts)?, "{text}");
     }
     Ok(())
 }

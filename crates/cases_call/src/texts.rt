@@ -38,7 +38,7 @@ fn are_exact(alloc: Global, set: &ElementSet) -> Result<bool, NoMemory> {
 
 #[test]
 fn texts_of_sets_take_as_much_memory_as_they_are_long(rt: HostRuntime) -> Result<(), Fail> {
-    for text in FILES {
+    for text in &FILES {
         let set = built(rt.alloc(), text)?;
         let told = are_exact(rt.alloc(), &set);
         drop(set);

@@ -89,7 +89,6 @@ const MOST_TURNS: u32 = 1_000_000_000;
 
 /// An attempt that is held back until the other of two tiles has come to the gate with an attempt of
 /// its own.
-#[derive(Clone, Copy)]
 struct Keep {
     tile: u32,
     attempt: u64,
@@ -243,83 +242,108 @@ fn is_replayed<'a, R: Threads + Sync, G: Gate>(
     Ok(told && has_atoms(shown.as_str(), atoms.as_str()) && entries(shown.as_str()) == count)
 }
 
-/// Whether that holds of a run with these attempts held back, and the gate let nobody go in vain.
-fn meets<R: Threads + Sync>(
-    rt: &R,
-    alloc: Global,
-    world: &str,
-    keeps: &[Keep],
+/// A run some attempts of which are held back.
+struct Held {
+    /// What it shows.
+    about: &'static str,
+    world: &'static str,
+    keeps: &'static [Keep],
+    /// How many entries its report has.
     count: u64,
-    report: Option<&str>,
-) -> Result<bool, Fail> {
-    let gate = KeepingGate::new(keeps);
-    let is_replayed = is_replayed(rt, alloc, (world, WALKER), &gate, count, report)?;
-    Ok(is_replayed && gate.missed.load(Ordering::SeqCst) == 0)
+    /// Its report, if that is known.
+    report: Option<&'static str>,
 }
 
-/// The first attempts of both tiles, each held back until the other comes.
-const AT_ONCE: [Keep; 2] = [
-    Keep {
-        tile: 0,
-        attempt: 0,
-        until: 0,
+impl Held {
+    /// Whether the run is replayed and has that report, and the gate let nobody go in vain.
+    fn is_met<R: Threads + Sync>(&self, rt: &R, alloc: Global) -> Result<bool, Fail> {
+        let gate = KeepingGate::new(self.keeps);
+        let run = (self.world, WALKER);
+        let is_replayed = is_replayed(rt, alloc, run, &gate, self.count, self.report)?;
+        Ok(is_replayed && gate.missed.load(Ordering::SeqCst) == 0)
+    }
+}
+
+/// The first attempts of two tiles, which are held back until the other tile comes.
+///
+/// A run on one thread fails where both are held back, whichever tile acts first. Where one is held back
+/// for the other's attempt 1, nobody has the edge when it comes: a worker that gives up at an edge that
+/// nobody holds fails there, and one that calls its gate with attempt 0 alone. A run in an order of its
+/// own, whatever its gates let through, fails at one of these two. And a gate may hold a tile back for
+/// long: a worker that waits without end for one that is far behind fails at the last two.
+const HELD: [Held; 5] = [
+    Held {
+        about: "two workers are at the gate at once",
+        world: BORDER,
+        keeps: &[
+            Keep {
+                tile: 0,
+                attempt: 0,
+                until: 0,
+            },
+            Keep {
+                tile: 1,
+                attempt: 0,
+                until: 0,
+            },
+        ],
+        count: 2,
+        report: None,
     },
-    Keep {
-        tile: 1,
-        attempt: 0,
-        until: 0,
+    Held {
+        about: "the higher tile comes second",
+        world: BORDER_THEN_ZERO,
+        keeps: &[Keep {
+            tile: 1,
+            attempt: 0,
+            until: 1,
+        }],
+        count: 3,
+        report: Some(
+            "feast 1\natoms 1\n17 4 Walker 000000000000000000\njournal 3\n1 0 0 15 4 0000000000000000\n2 0 1 3 3 0000000000000000\n2 1 0 16 4 0000000000000000\nabandoned 0\n",
+        ),
+    },
+    Held {
+        about: "the lower tile comes second",
+        world: BORDER_THEN_ONE,
+        keeps: &[Keep {
+            tile: 0,
+            attempt: 0,
+            until: 1,
+        }],
+        count: 3,
+        report: Some(
+            "feast 1\natoms 1\n16 4 Walker 000000000000000000\njournal 3\n1 1 0 16 4 0000000000000000\n2 0 0 15 4 0000000000000000\n2 1 1 24 3 0000000000000000\nabandoned 0\n",
+        ),
+    },
+    Held {
+        about: "the lower tile is held back until the higher comes with its thousandth attempt",
+        world: MANY,
+        keeps: &[Keep {
+            tile: 0,
+            attempt: 0,
+            until: 999,
+        }],
+        count: 4000,
+        report: None,
+    },
+    Held {
+        about: "the higher tile is held back until the lower comes with its thousandth attempt",
+        world: MANY,
+        keeps: &[Keep {
+            tile: 1,
+            attempt: 0,
+            until: 999,
+        }],
+        count: 4000,
+        report: None,
     },
 ];
 
-/// The first attempt of each tile waits for the first of the other, so both are at the gate at once.
-/// A run on one thread fails here, whichever tile acts first.
 #[test]
-fn two_workers_are_at_the_gate_at_once(rt: HostRuntime) -> Result<(), Fail> {
-    assert!(rt; meets(&rt, rt.alloc(), BORDER, &AT_ONCE, 2, None)?);
-    Ok(())
-}
-
-/// Tile 1's attempt waits for attempt 1 of tile 0, so nobody has the edge when it comes. A worker that
-/// gives up at an edge that nobody holds fails here, and one that calls its gate with attempt 0 alone.
-#[test]
-fn the_higher_tile_comes_second(rt: HostRuntime) -> Result<(), Fail> {
-    let keeps = [Keep {
-        tile: 1,
-        attempt: 0,
-        until: 1,
-    }];
-    let report =
-        "feast 1\natoms 1\n17 4 Walker 000000000000000000\njournal 3\n1 0 0 15 4 0000000000000000\n2 0 1 3 3 0000000000000000\n2 1 0 16 4 0000000000000000\nabandoned 0\n";
-    assert!(rt; meets(&rt, rt.alloc(), BORDER_THEN_ZERO, &keeps, 3, Some(report))?);
-    Ok(())
-}
-
-/// The same the other way round. A run in an order of its own, whatever its gates let through, fails
-/// one of these two.
-#[test]
-fn the_lower_tile_comes_second(rt: HostRuntime) -> Result<(), Fail> {
-    let keeps = [Keep {
-        tile: 0,
-        attempt: 0,
-        until: 1,
-    }];
-    let report =
-        "feast 1\natoms 1\n16 4 Walker 000000000000000000\njournal 3\n1 1 0 16 4 0000000000000000\n2 0 0 15 4 0000000000000000\n2 1 1 24 3 0000000000000000\nabandoned 0\n";
-    assert!(rt; meets(&rt, rt.alloc(), BORDER_THEN_ONE, &keeps, 3, Some(report))?);
-    Ok(())
-}
-
-/// The first attempt of either tile is held back until the other comes with its thousandth. So a gate may hold
-/// a tile back for long: a worker that waits without end for one that is far behind fails here.
-#[test]
-fn a_tile_is_held_back_for_long(rt: HostRuntime) -> Result<(), Fail> {
-    for tile in 0..2 {
-        let keeps = [Keep {
-            tile,
-            attempt: 0,
-            until: 999,
-        }];
-        assert!(rt; meets(&rt, rt.alloc(), MANY, &keeps, 4000, None)?, "{tile}");
+fn tiles_that_are_held_back_come_later(rt: HostRuntime) -> Result<(), Fail> {
+    for held in &HELD {
+        assert!(rt; held.is_met(&rt, rt.alloc())?, "{}", held.about);
     }
     Ok(())
 }
