@@ -58,7 +58,7 @@ class Case:
 
     def _tries(self, draw: random.Random) -> list[str]:
         """The attempts written out, tile by tile."""
-        lines = []
+        lines: list[str] = []
         for tile in self._on():
             left, top = tile % self.tiles[0] * self.size[0], tile // self.tiles[0] * self.size[1]
             for _ in range(self.attempts * (1 if lines else self.uneven)):
