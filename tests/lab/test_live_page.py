@@ -18,12 +18,18 @@ from test_live import LiveCase
 READY = "document.readyState === 'complete' && !document.getElementById('film').hidden"
 LEG = "Number(/Leg ([0-9,]+)/.exec(document.getElementById('moment').textContent)[1].replaceAll(',', ''))"
 WORLD, ELEMENTS = EXAMPLES / "regulator-tiles.world", EXAMPLES / "regulator.ulam"
-# The first order from now on leaves the page after half a second.
+# The next order leaves the page after half a second; `answers` counts those that are answered from now on.
 FIRST_IS_LATE = """(() => {
   const fetched = window.fetch;
-  window.fetch = (...words) => {
-    window.fetch = fetched;
-    return new Promise((given) => setTimeout(given, 500)).then(() => fetched(...words));
+  let late = 500;
+  window.answers = 0;
+  window.fetch = async (...words) => {
+    const wait = late;
+    late = 0;
+    await new Promise((given) => setTimeout(given, wait));
+    const answer = await fetched(...words);
+    window.answers += 1;
+    return answer;
   };
 })()"""
 BLUE, ORANGE = "#0072b2", "#e69f00"
@@ -188,10 +194,13 @@ class Others(LivePage):
         self.tool("stamp")
         self.set("drawing", "x = 3, y = 1, rule = B3/S23\n3o!\n")
         self.set("drawing-keys", "o=Resource")
+        # what is said last is of the order that was given last, though the one before it is late
         self.browser.value(FIRST_IS_LATE)
         self.over((14, 2))
         self.over((4, 2))
-        self.browser.wait("document.getElementById('fault').hidden")
+        self.browser.wait("window.answers === 2")
+        time.sleep(0.5)
+        self.assertTrue(self.browser.value("document.getElementById('fault').hidden"), self.text("fault"))
         self.waits(1)
         self.assertEqual(self.acts(), ["1:put:Resource:4,2,3,1"])
         lines = ELEMENTS.read_text().splitlines()
