@@ -125,5 +125,5 @@ def rooms(bench: Bench) -> None:
     for room in rooms_of(attempts):
         has_room(bench, room)
     for verb in ("check", "code", "pack"):
-        has_room(bench, Room([verb, "long"], 0, 1805, 20_000))
+        has_room(bench, Room([verb, "long"], 0, 1268, 20_000))
     has_room(bench, Room(["gen", "5"], GENERATED, 0, 0))
