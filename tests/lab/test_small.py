@@ -100,3 +100,20 @@ class Inputs(SmallCase):
         done = subprocess.run(["bash", "-c", command], capture_output=True, text=True, env=around(), check=False)
         self.assertEqual(done.returncode, 0, done.stderr)
         self.assertEqual(done.stdout, here("film", self.world, self.room / "report", "--frames", "2", "--csv", ELEMENTS).wrote)
+
+
+class Places(SmallCase):
+    """A device or a pipe that is named for what is written takes it, and stays what it is."""
+
+    def test_pipe(self) -> None:
+        pipe, got, report = self.room / "pipe", self.room / "got", self.report()
+        os.mkfifo(pipe)
+        words = ("film", self.world, report, "--frames", "2", "--csv", ELEMENTS)
+        with got.open("wb") as out:
+            reader = subprocess.Popen(["cat", pipe], stdout=out)
+        self.addCleanup(reader.wait)
+        self.addCleanup(reader.kill)
+        self.passes(*words, "-o", pipe)
+        self.assertTrue(pipe.is_fifo())
+        self.assertEqual(reader.wait(60), 0)
+        self.assertEqual(got.read_text(), self.passes(*words))

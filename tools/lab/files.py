@@ -18,12 +18,22 @@ def cause(error: OSError) -> str:
     return (error.strerror or str(error)).lower()
 
 
+def is_written_to(path: Path) -> bool:
+    """Whether a path is a device or a pipe, such as /dev/null, which takes what is written and is never replaced."""
+    return path.exists() and not path.is_file() and not path.is_dir()
+
+
 def write_whole(path: Path, data: str | bytes) -> None:
-    """Writes a file beside its place and then puts it there, so that it is never seen half written."""
+    """Writes a file beside its place and then puts it there, so that it is never seen half written. A device or a pipe is
+    written to as it stands."""
     beside = path.with_name(path.name + PART)
+    whole = data.encode() if isinstance(data, str) else data
     try:
+        if is_written_to(path):
+            path.write_bytes(whole)
+            return
         try:
-            beside.write_bytes(data.encode() if isinstance(data, str) else data)
+            beside.write_bytes(whole)
             os.replace(beside, path)
         except BaseException:
             beside.unlink(missing_ok=True)

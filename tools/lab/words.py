@@ -8,6 +8,9 @@ from typing import Any
 
 from lab.files import read_bytes
 
+# The options that name files to write.
+WRITTEN = ("output", "table", "svg")
+
 
 def take_words_anywhere(parser: argparse.ArgumentParser) -> None:
     """Lets options stand between the words of a list, which argparse does only by this other function."""
@@ -26,7 +29,8 @@ def settle(arguments: argparse.Namespace, room: Path) -> None:
     The lab reads a file several times, and has the program read it, which doesn't get the lab's own open files.
     """
     for name, value in vars(arguments).items():
-        setattr(arguments, name, settled(value, room))
+        if name not in WRITTEN:
+            setattr(arguments, name, settled(value, room))
 
 
 def settled(value: Any, room: Path) -> Any:
