@@ -66,7 +66,7 @@ tile_above f t own n (l ∷ ls) tiles all x i =
     (λ j. let e = All-contains (λ y. t y ≡ l.tile) (f l) x (own l (All-head IsLog l ls all)) (in_contains (f l) x j) in omega (arith, e, first))
     (λ j. let le = tile_above f t own (n + 1) ls rest (All-tail IsLog l ls all) x j in omega (arith, le)) (in_either (f l) (flat_map f ls) x i)
 
-of_other : (a b : Record) → a.tile < b.tile → (is_before a b ≡ true) ⊎ (is_before b a ≡ true)
+pub of_other : (a b : Record) → a.tile < b.tile → (is_before a b ≡ true) ⊎ (is_before b a ≡ true)
 of_other a b lt = go (is_before b a) refl
   where
     go : (t : Bool) → is_before b a ≡ t → (is_before a b ≡ true) ⊎ (is_before b a ≡ true)

@@ -8,7 +8,7 @@ use Rattle.std.proofs.lemmas.Nat.{mod-mul-add}
 use Rattle.std.proofs.lemmas.List.{append_assoc, drop_more, map-append, length-set, get_or-set_same, get_or-set_other}
 use Rattle.std.proofs.lemmas.List.Elements.{All-head, All-tail}
 use Rattle.cell_grid.specs.declared.record.Record.{Record}
-use Rattle.event_journal.specs.Keys.{AreKeys, AreOwn, IsKey, end_key, lists_behind}
+use Rattle.event_journal.specs.Keys.{AreKeys, AreOwn, IsKey, IsOwn, end_key, lists_behind}
 use Rattle.event_journal.specs.Logs.{LogValue, IsLog, AreLogs, is_before, records_of, tile_of}
 use Rattle.event_journal.specs.Merged.{concat, least_from, merged, without}
 use Rattle.event_journal.specs.Tournaments.{IsLeast}
@@ -20,26 +20,27 @@ use Rattle.event_journal.proofs.WalkSteps.{before_order}
 pub logs_own : (ls : List LogValue) → AreLogs ls → All IsLog ls → AreOwn (map records_of ls)
 logs_own ls logs all = record {
   few = let few = logs.most in omega (arith, few, long ls);
-  tiles = λ t lt.
+  each = λ t lt.
       let e : 0 + t ≡ t = omega arith in
-      subst (λ k. All (λ (r : Record). r.tile ≡ k) (get_or (map records_of ls) t [])) e (own 0 ls t logs.tiles all (omega (arith, lt, long ls)));
+      subst (λ k. IsOwn k (get_or (map records_of ls) t [])) e (own 0 ls t logs.tiles all (omega (arith, lt, long ls)));
 }
   where
     long : (ls : List LogValue) → length (map records_of ls) ≡ length ls
     long [] = refl
     long (l ∷ ls) = ap suc (long ls)
 
-    own : (n : ℕ) (ls : List LogValue) (t : ℕ) → map tile_of ls ≡ range_with_len n (length ls) → All IsLog ls → t < length ls → All (λ (r : Record). r.tile ≡ n + t) (get_or (map records_of ls) t [])
+    own : (n : ℕ) (ls : List LogValue) (t : ℕ) → map tile_of ls ≡ range_with_len n (length ls) → All IsLog ls → t < length ls → IsOwn (n + t) (get_or (map records_of ls) t [])
     own n [] t tiles all lt = absurd (omega (arith, lt))
     own n (l ∷ ls) zero tiles all lt =
         let first : l.tile ≡ n + 0 = let e : l.tile ≡ n = cc in omega (arith, e) in
-        subst (λ k. All (λ (r : Record). r.tile ≡ k) l.records) first (All-head IsLog l ls all).records
+        let log = All-head IsLog l ls all in
+        subst (λ k. IsOwn k l.records) first (record { tile = log.records; rising = log.rising })
     own n (l ∷ ls) (suc t) tiles all lt =
         let rest : map tile_of ls ≡ range_with_len (n + 1) (length ls) = cc in
         let e : n + 1 + t ≡ n + suc t = omega arith in
-        subst (λ k. All (λ (r : Record). r.tile ≡ k) (get_or (map records_of ls) t [])) e (own (n + 1) ls t rest (All-tail IsLog l ls all) (omega (arith, lt)))
+        subst (λ k. IsOwn k (get_or (map records_of ls) t [])) e (own (n + 1) ls t rest (All-tail IsLog l ls all) (omega (arith, lt)))
 
-all_empty : (ls : List (List Record)) → ((k : ℕ) → k < length ls → get_or ls k [] ≡ []) → concat ls ≡ []
+pub all_empty : (ls : List (List Record)) → ((k : ℕ) → k < length ls → get_or ls k [] ≡ []) → concat ls ≡ []
 all_empty [] e = refl
 all_empty ([] ∷ ls) e = all_empty ls (λ k lt. e (suc k) (omega (arith, lt)))
 all_empty ((r ∷ rs) ∷ ls) e = absurd (cc (e 0 (omega arith)))
@@ -102,7 +103,7 @@ front ls keys least own are is some =
         let small : k < 64 = omega (arith, lt, few) in
         let sum : least ≡ r.stamp * 64 + k = sym at ∙ key.0 in
         let place : least % 64 ≡ k = ap (λ n. n % 64) sum ∙ mod-mul-add r.stamp 64 k small in
-        let tile : r.tile ≡ k = All-head (λ (s : Record). s.tile ≡ k) r rs (subst (λ xs. All (λ (s : Record). s.tile ≡ k) xs) here (own.tiles k lt)) in
+        let tile : r.tile ≡ k = All-head (λ (s : Record). s.tile ≡ k) r rs (subst (λ xs. IsOwn k xs) here (own.each k lt)).tile in
         let order : least_from is_before None 0 ls ≡ Some (k, r) = least_is is_before before_order ls k r rs (get_some ls k lt ∙ ap (λ xs. Some xs) here) (before k r tile small sum) in
         record {
           first = r;
@@ -117,26 +118,38 @@ front ls keys least own are is some =
             let found = some_get ls j (s ∷ ss) there in
             let inside = found.0 in
             let few = own.few in
-            let own_tile : s.tile ≡ j = All-head (λ (q : Record). q.tile ≡ j) s ss (subst (λ xs. All (λ (q : Record). q.tile ≡ j) xs) found.1 (own.tiles j inside)) in
+            let own_tile : s.tile ≡ j = All-head (λ (q : Record). q.tile ≡ j) s ss (subst (λ xs. IsOwn j xs) found.1 (own.each j inside)).tile in
             let other = subst (λ xs. IsKey j xs (get_or keys j 0)) found.1 (are.each j inside) in
             let other_key = other.0 in
             let same = are.count in
             let le = is.none_less j (omega (arith, inside, same)) in
             lesser_before r s k j tile own_tile small (omega (arith, inside, few)) apart (omega (arith, le, sum, other_key))
 
--- the first record of a list was taken
-pub own_still : (ls : List (List Record)) (k : ℕ) (r : Record) (rs : List Record) → AreOwn ls → k < length ls → get_or ls k [] ≡ r ∷ rs → AreOwn (set ls k rs)
-own_still ls k r rs own lt is = record { few = let few = own.few in let long = length-set ls k rs in omega (arith, few, long); tiles = λ t inside. go t (let long = length-set ls k rs in omega (arith, inside, long)) (t == k) refl }
+-- one list is others of its tile now
+pub own_set : (ls : List (List Record)) (k : ℕ) (rs : List Record) → AreOwn ls → k < length ls → IsOwn k rs → AreOwn (set ls k rs)
+own_set ls k rs own lt mine = record {
+  few = let few = own.few in let long = length-set ls k rs in omega (arith, few, long);
+  each = λ t inside. go t (let long = length-set ls k rs in omega (arith, inside, long)) (t == k) refl;
+}
   where
-    go : (t : ℕ) → t < length ls → (b : Bool) → (t == k) ≡ b → All (λ (s : Record). s.tile ≡ t) (get_or (set ls k rs) t [])
+    go : (t : ℕ) → t < length ls → (b : Bool) → (t == k) ≡ b → IsOwn t (get_or (set ls k rs) t [])
     go t inside true q =
         let e : t ≡ k = eqb-true t k q in
         let here : get_or (set ls k rs) t [] ≡ rs = ap (λ n. get_or (set ls k rs) n []) e ∙ get_or-set_same ls k rs [] lt in
-        let old : get_or ls t [] ≡ r ∷ rs = ap (λ n. get_or ls n []) e ∙ is in
-        subst (λ xs. All (λ (s : Record). s.tile ≡ t) xs) (sym here) (All-tail (λ (s : Record). s.tile ≡ t) r rs (subst (λ xs. All (λ (s : Record). s.tile ≡ t) xs) old (own.tiles t inside)))
+        subst (λ xs. IsOwn t xs) (sym here) (subst (λ n. IsOwn n rs) (sym e) mine)
     go t inside false q =
         let apart : t ≢ k = λ e. absurd (grind (arith, nat_tests, q, e)) in
-        subst (λ xs. All (λ (s : Record). s.tile ≡ t) xs) (sym (get_or-set_other ls k t rs [] apart)) (own.tiles t inside)
+        subst (λ xs. IsOwn t xs) (sym (get_or-set_other ls k t rs [] apart)) (own.each t inside)
+
+-- the first record of a list was taken
+own_still : (ls : List (List Record)) (k : ℕ) (r : Record) (rs : List Record) → AreOwn ls → k < length ls → get_or ls k [] ≡ r ∷ rs → AreOwn (set ls k rs)
+own_still ls k r rs own lt is =
+    let old = subst (λ xs. IsOwn k xs) is (own.each k lt) in
+    let rising = old.rising in
+    own_set ls k rs own lt (record {
+      tile = All-tail (λ (s : Record). s.tile ≡ k) r rs old.tile;
+      rising = λ i j d less inside. rising (suc i) (suc j) d (omega (arith, less)) (omega (arith, inside));
+    })
 
 pub keys_still : (ls : List (List Record)) (keys : List ℕ) (k key : ℕ) (rs : List Record) → AreKeys ls keys → k < length ls → IsKey k rs key → AreKeys (set ls k rs) (set keys k key)
 keys_still ls keys k key rs are lt is = record {
@@ -233,3 +246,17 @@ lefts_more done new left i logs log whole lt is own e so_far =
     ∙ ap (λ l. l ++ rest) (map-append (λ (b : Bor (List Record)). b.now) done (left ∷ []))
     ∙ append_assoc (lists_behind done) (left.now ∷ []) rest ∙ ap (λ l. lists_behind done ++ l) (sym next)
     ∙ so_far
+
+-- whether nothing is left, by the least key
+pub none_over : (ls : List (List Record)) (keys : List ℕ) → AreKeys ls keys → keys ≡ [] → true ≡ (length (merged is_before ls) == 0)
+none_over ls keys are none = ap (λ xs. length xs == 0) (sym (no_lists ls keys are none))
+
+pub over_tells : (ls : List (List Record)) (keys : List ℕ) (least : ℕ) → AreOwn ls → AreKeys ls keys → IsLeast least keys → (least == end_key) ≡ (length (merged is_before ls) == 0)
+over_tells ls keys least own are is = go (least == end_key) refl
+  where
+    go : (b : Bool) → (least == end_key) ≡ b → b ≡ (length (merged is_before ls) == 0)
+    go true q = ap (λ xs. length xs == 0) (sym (nothing_left ls keys are (subst (λ n. IsLeast n keys) (eqb-true least end_key q) is)))
+    go false q =
+        let f = front ls keys least own are is (λ e. absurd (grind (arith, nat_tests, q, e))) in
+        let long = ap length (front_first ls least f) in
+        grind (arith, nat_tests, long)

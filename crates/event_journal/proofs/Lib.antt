@@ -1,5 +1,6 @@
 pub mod Journals
 pub mod Keys
 pub mod Merging
+pub mod Splitting
 pub mod Tournaments
 pub mod WalkSteps

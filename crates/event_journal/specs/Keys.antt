@@ -1,8 +1,8 @@
 -- What is left of the logs, and the keys by which the first records are compared.
-use Rattle.std.specs.Prelude.{ℕ, ◌≡◌, ◌≤◌, ◌<◌, ◌+◌, ◌*◌, ◌^◌, List, [], ◌∷◌, All, length, map, slice_index_or}
+use Rattle.std.specs.Prelude.{ℕ, ◌≡◌, ◌≤◌, ◌<◌, ◌+◌, ◌*◌, ◌^◌, List, [], ◌∷◌, ◌++◌, All, AllPairs, length, map, slice_index_or}
 use denote.Ref.{Bor}
 use Rattle.cell_grid.specs.declared.record.Record.{Record}
-use Rattle.event_journal.specs.Logs.{is_before}
+use Rattle.event_journal.specs.Logs.{RisesTo, is_before}
 use Rattle.event_journal.specs.Merged.{merged}
 use Rattle.feast_base.specs.declared.limits.TheConstants.{MOST_TILES}
 
@@ -23,12 +23,23 @@ abbrev pub IsKey : ℕ → List Record → ℕ → Type 0
 IsKey k [] key = key ≡ end_key
 IsKey k (r ∷ rs) key = (key ≡ r.stamp * MOST_TILES + k) × (key < end_key)
 
--- there are at most 64 lists, and list t has records of tile t alone
+-- records of tile t alone, in the order in which they were made
+pub record IsOwn (t : ℕ) (xs : List Record) : Type 0 where
+  pub tile : All (λ (r : Record). r.tile ≡ t) xs
+  pub rising : AllPairs RisesTo xs
+
+-- there are at most 64 lists, and list t has records of tile t
 pub record AreOwn (ls : List (List Record)) : Type 0 where
   pub few : length ls ≤ MOST_TILES
-  pub tiles : (t : ℕ) → t < length ls → All (λ (r : Record). r.tile ≡ t) (slice_index_or ls t [])
+  pub each : (t : ℕ) → t < length ls → IsOwn t (slice_index_or ls t [])
 
 -- each list has its key
 pub record AreKeys (ls : List (List Record)) (keys : List ℕ) : Type 0 where
   pub count : length keys ≡ length ls
   pub each : (k : ℕ) → k < length ls → IsKey k (slice_index_or ls k []) (slice_index_or keys k 0)
+
+-- a list in two parts: the records with stamps below one, and the others
+pub record IsCut (stamp : ℕ) (xs low high : List Record) : Type 0 where
+  pub parts : xs ≡ low ++ high
+  pub below : All (λ (r : Record). r.stamp < stamp) low
+  pub above : All (λ (r : Record). stamp ≤ r.stamp) high

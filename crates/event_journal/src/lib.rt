@@ -8,6 +8,7 @@ mod abandoned;
 mod journal;
 mod log;
 mod merge;
+mod split;
 mod tournament;
 mod walk;
 

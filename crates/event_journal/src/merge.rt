@@ -1,6 +1,6 @@
 //! What is left of the logs of a journal, and which first record comes first.
-ghost use Rattle.std.specs.Prelude.{◌≡◌, ◌≤◌, ◌<◌, ◌+◌, ◌*◌, IfOk, length, map};
-ghost use Rattle.event_journal.specs.Keys.{AreKeys, AreOwn, IsKey, end_key, lists_behind, merged_behind};
+ghost use Rattle.std.specs.Prelude.{◌≡◌, ◌≤◌, ◌<◌, ◌+◌, ◌*◌, ◌==◌, [], IfOk, length, map, slice_index_or, slice_set};
+ghost use Rattle.event_journal.specs.Keys.{AreKeys, AreOwn, IsKey, IsOwn, end_key, lists_behind, merged_behind};
 ghost use Rattle.event_journal.specs.Logs.{is_before, records_of};
 ghost use Rattle.event_journal.specs.Merged.{merged};
 ghost use Rattle.event_journal.specs.Tournaments.{IsLeast};
@@ -46,6 +46,49 @@ impl<'a> Merge<'a> {
         let lefts = records_of_all(alloc, logs)?;
         let keys = tournament(alloc, lefts.as_slice())?;
         Ok(Merge { lefts, keys })
+    }
+
+    /// How many logs there are.
+    pub(crate) fn logs(&self) -> usize
+        ensures { result ≡ length self.now }
+    {
+        self.lefts.len()
+    }
+
+    /// The records that are left of log `k`.
+    pub(crate) fn left(&self, k: usize) -> &'a [Record]
+        requires { k < length self.now }
+        ensures { result.now ≡ slice_index_or self.now k [] }
+    {
+        self.lefts[k]
+    }
+
+    /// Leaves these records of log `k`.
+    pub(crate) fn leave(&mut self, k: usize, records: &'a [Record])
+        requires inside { k < length self.old }
+        requires own { IsOwn k records.now }
+        ensures { self.new ≡ slice_set self.old k records.now }
+    {
+        leave(self.lefts.as_mut_slice(), &mut self.keys, k, records);
+    }
+
+    /// Whether no record is left.
+    pub(crate) fn is_over(&self) -> bool
+        ensures { result ≡ (length (merged is_before self.now) == 0) }
+    {
+        match self.keys.least() {
+            None => true,
+            Some(least) => least == CLOSED,
+        }
+    }
+
+    /// What holds of the records that are left of each log. The call does nothing: its contract is
+    /// the law.
+    pub(crate) fn laws(&self)
+        ensures { AreOwn self.now }
+    {
+        // The proof takes what holds of the merge from this reading of it.
+        let _ = &self.lefts;
     }
 
     /// Takes the first of the records that are left, in the order of the journal.
@@ -97,6 +140,20 @@ fn tournament(alloc: Global, lefts: &[&[Record]]) -> Result<Tournament, NoMemory
         keys.push(key(k, left))?;
     }
     Tournament::new(alloc, keys.as_slice())
+}
+
+/// Leaves these records of log `k`.
+fn leave<'a>(lefts: &mut [&'a [Record]], keys: &mut Tournament, k: usize, records: &'a [Record])
+    requires inside { k < length lefts.old }
+    requires mine { IsOwn k records.now }
+    requires own { AreOwn (lists_behind lefts.old) }
+    requires keys { AreKeys (lists_behind lefts.old) keys.old }
+    ensures lists { lists_behind lefts.new ≡ slice_set (lists_behind lefts.old) k records.now }
+    ensures own { AreOwn (lists_behind lefts.new) }
+    ensures keys { AreKeys (lists_behind lefts.new) keys.new }
+{
+    keys.set(k, key(k, records));
+    lefts[k] = records;
 }
 
 /// Takes the first of the records that are left.

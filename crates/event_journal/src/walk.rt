@@ -1,5 +1,5 @@
 //! The walk through the records of a journal.
-ghost use Rattle.std.specs.Prelude.{◌≡◌, IfOk, map};
+ghost use Rattle.std.specs.Prelude.{◌≡◌, ◌==◌, ◌++◌, IfOk, length, map};
 ghost use Rattle.std.specs.Iterator.{YieldsFirst, item_count};
 ghost use Rattle.event_journal.specs.Keys.{AreOwn};
 ghost use Rattle.event_journal.specs.Logs.{is_before, records_of};
@@ -8,6 +8,7 @@ ghost use Rattle.event_journal.specs.Walks.{rest_of};
 
 use crate::log::TileLog;
 use crate::merge::Merge;
+use crate::split::split_front;
 use cell_grid::Record;
 use feast_base::NoMemory;
 use std::alloc::Global;
@@ -28,6 +29,23 @@ impl<'a> Walk<'a> {
         Ok(Walk {
             merge: Merge::new(alloc, logs)?,
         })
+    }
+
+    /// Whether all records have been given.
+    pub fn is_over(&self) -> bool
+        ensures { result ≡ (length (rest_of self.now) == 0) }
+    {
+        self.merge.is_over()
+    }
+
+    /// Moves the records that come first to another walk through the same journal, whose own are
+    /// dropped: those with stamps below one, so that each tile gives at most `most`, and some tile
+    /// just as many if it has them. So the two walks, one after the other, give what this one would
+    /// have given. Takes no memory. Nothing is moved to a walk through the logs of more or fewer tiles.
+    pub fn split_front(&mut self, front: &mut Walk<'a>, most: usize)
+        ensures { rest_of self.old ≡ rest_of front.new ++ rest_of self.new }
+    {
+        split_front(&mut self.merge, &mut front.merge, most);
     }
 }
 
