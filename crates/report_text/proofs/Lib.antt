@@ -8,6 +8,7 @@ pub mod LineLengths
 pub mod Lists
 pub mod OnLines
 pub mod Pairs
+pub mod Parts
 pub mod PrintedLines
 pub mod Putting
 pub mod ReadAgain

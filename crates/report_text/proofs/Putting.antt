@@ -5,7 +5,7 @@ use Rattle.std.proofs.lemmas.List.{append-nil}
 use Rattle.feast_base.specs.Outside.{Grows, SinkState}
 use Rattle.feast_base.specs.Loading.{IsCut, IsPut}
 use Rattle.feast_base.specs.declared.sink.SinkFailed.{SinkFailed}
-use Rattle.report_text.specs.Writing.{IsTurned, PutsAll, Streams, heading}
+use Rattle.report_text.specs.Writing.{IsTurned, PutsAll, Streams, StreamsFirst, heading}
 
 grows_none : (w : Option (List ℕ)) → Grows w w []
 grows_none None = refl
@@ -119,3 +119,16 @@ puts_last a b c page text (Err e) h cut = cut_then a b c h.full page text h.spli
 pub puts_cut : {T : Type 0} (a b : SinkState) (r text : List ℕ) (res : Result T SinkFailed) → IsErr res → Streams (heading a []) (heading b r) text res → PutsAll a b text res
 puts_cut a b r text (Ok x) failed cut = absurd (cc failed)
 puts_cut a b r text (Err e) failed cut = cut
+
+-- nothing came, and all is left
+pub first_none : (s : SinkState) (page text : List ℕ) → (full : List ℕ) × (text ≡ full ++ text) × IsTurned s s page page full
+first_none s page text = ([], refl, turned_none s page)
+
+-- the first of two parts came
+pub first_part : {T : Type 0} (a b : SinkState) (p r part left text : List ℕ) (res : Result T SinkFailed) → text ≡ part ++ left → Streams (heading a p) (heading b r) part res → StreamsFirst (heading a p) (heading b r) text left res
+first_part a b p r part left text (Ok x) is h = (part, is, h)
+first_part a b p r part left text (Err e) is h = subst (λ z. IsCut a b z) (append_assoc p part left ∙ ap (λ z. p ++ z) (sym is)) (cut_more a b (p ++ part) left h)
+
+-- a first part of what is left came, as the answer says
+pub underway_first : (a b c : SinkState) (p q r left more text : List ℕ) → IsUnderway a b p q left text → (full : List ℕ) × (left ≡ full ++ more) × IsTurned b c q r full → IsUnderway a c p r more text
+underway_first a b c p q r left more text u h = underway_more a b c p q r left h.0 more text u h.1 h.2

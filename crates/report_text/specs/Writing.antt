@@ -35,3 +35,8 @@ pub record IsTurned (old new : SinkState) (page page' text : List ℕ) : Type 0 
 abbrev pub Streams : {T : Type 0} → Heading → Heading → List ℕ → Result T SinkFailed → Type 0
 Streams old new text (Ok x) = IsTurned old.sink new.sink old.page new.page text
 Streams old new text (Err e) = IsCut old.sink new.sink (old.page ++ text)
+
+-- a first part of a text came behind a page, and the rest of the text is left; or the sink failed and has a first part of all
+abbrev pub StreamsFirst : {T : Type 0} → Heading → Heading → List ℕ → List ℕ → Result T SinkFailed → Type 0
+StreamsFirst old new text left (Ok x) = (front : List ℕ) × (text ≡ front ++ left) × IsTurned old.sink new.sink old.page new.page front
+StreamsFirst old new text left (Err e) = IsCut old.sink new.sink (old.page ++ text)

@@ -5,6 +5,7 @@
 //! number of attempts that were given up and a line for each.
 #![tactic(auto)]
 
+mod abreast;
 mod cursors;
 mod fitting;
 mod forms;
@@ -14,6 +15,7 @@ mod journal_lengths;
 mod law;
 mod line;
 mod page;
+mod part;
 mod placing;
 mod printed;
 mod reader;

@@ -3,21 +3,22 @@ ghost use Rattle.std.specs.Prelude.{◌≡◌, ◌≤◌, ◌-◌, ◌^◌, ◌<
 ghost use Rattle.bit_field.specs.Atom.{empty_atom};
 ghost use Rattle.text_lines.specs.Lines.{ended_line, text_of};
 ghost use Rattle.event_journal.specs.Logs.{abandoned_in, records_in};
-ghost use Rattle.event_journal.specs.Walks.{rest_of};
 ghost use Rattle.report_text.specs.JournalText.{abandoned_fields, count_fields, logs_text, record_fields};
 ghost use Rattle.report_text.specs.Report.{AreNamed, atom_fields, atoms_text, of_logs, report_of, shown_from, shown_one};
 ghost use Rattle.report_text.specs.Writing.{PutsAll, Streams, heading};
 
+use crate::abreast::{Events, put_events};
 use crate::line::{
-    ATOM_END, LONGEST_ABANDONED, LONGEST_COUNT, LONGEST_RECORD, LONGEST_SITE, write_abandoned,
-    write_atom_end, write_count, write_record, write_site,
+    ATOM_END, LONGEST_ABANDONED, LONGEST_COUNT, LONGEST_SITE, write_abandoned, write_atom_end,
+    write_count, write_site,
 };
 use crate::page::{Page, put_bytes, put_last};
 use crate::shown::{count, name_of};
 use bit_field::Atom;
 use cell_grid::Grid;
-use event_journal::{Abandoned, Journal, TileLog, Walk};
+use event_journal::{Abandoned, Journal, TileLog};
 use feast_base::{Name, Sink, SinkFailed};
+use std::thread::Threads;
 
 /// Puts the line of a count, after a word.
 fn put_count<K: Sink>(
@@ -79,19 +80,6 @@ fn put_atoms<K: Sink>(
     Ok(())
 }
 
-/// Puts the lines of the events that a walk has left.
-fn put_events<K: Sink>(sink: &mut K, page: &mut Page, walk: Walk<'_>) -> Result<(), SinkFailed>
-    requires { (K.state sink.old).faults < 2 ^ 64 - 1 }
-    ensures { Streams (heading (K.state sink.old) page.old) (heading (K.state sink.new) page.new) (text_of (map record_fields (rest_of walk.entry))) result }
-{
-    let mut line = [0; LONGEST_RECORD];
-    for entry in walk {
-        let start = write_record(&entry, &mut line);
-        put_bytes(sink, page, &line[start..])?;
-    }
-    Ok(())
-}
-
 /// Puts the lines of abandoned attempts.
 fn put_abandoned<K: Sink>(
     sink: &mut K,
@@ -138,37 +126,39 @@ fn put_grid<K: Sink>(
 
 /// Puts the number of a journal's events and their lines, and then the number of its abandoned
 /// attempts and their lines.
-fn put_journal<K: Sink>(
+fn put_journal<R: Threads + Sync, K: Sink>(
+    rt: &R,
     sink: &mut K,
     page: &mut Page,
     journal: &Journal,
-    walk: Walk<'_>,
+    events: &mut Events<'_>,
 ) -> Result<(), SinkFailed>
     requires room { (K.state sink.old).faults < 2 ^ 64 - 1 }
-    requires all { rest_of walk ≡ records_in journal.now }
+    requires all { events.old ≡ text_of (map record_fields (records_in journal.now)) }
     ensures { Streams (heading (K.state sink.old) page.old) (heading (K.state sink.new) page.new) (logs_text journal.now) result }
 {
     put_count(sink, page, b"journal", journal.len())?;
-    put_events(sink, page, walk)?;
+    put_events(rt, sink, page, events)?;
     put_count(sink, page, b"abandoned", journal.abandoned_len())?;
     put_logs(sink, page, journal.logs())
 }
 
-/// Puts the report of a run, its events by a walk through all of them.
-pub(crate) fn put_report<K: Sink>(
+/// Puts the report of a run. `events` are those of its journal.
+pub(crate) fn put_report<R: Threads + Sync, K: Sink>(
+    rt: &R,
     sink: &mut K,
     grid: &Grid,
     journal: &Journal,
     names: &[Name],
-    walk: Walk<'_>,
+    events: &mut Events<'_>,
 ) -> Result<(), SinkFailed>
     requires room { (K.state sink.old).faults < 2 ^ 64 - 1 }
     requires named { AreNamed names.now grid.now.atoms }
-    requires all { rest_of walk ≡ records_in journal.now }
+    requires all { events.old ≡ text_of (map record_fields (records_in journal.now)) }
     ensures { PutsAll (K.state sink.old) (K.state sink.new) (report_of names.now (of_logs grid.now journal.now)) result }
 {
     let mut page = Page::new();
     put_grid(sink, &mut page, grid, names)?;
-    put_journal(sink, &mut page, journal, walk)?;
+    put_journal(rt, sink, &mut page, journal, events)?;
     put_last(sink, page)
 }

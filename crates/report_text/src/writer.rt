@@ -4,6 +4,7 @@ ghost use Rattle.feast_base.specs.Appending.{Appends};
 ghost use Rattle.report_text.specs.Report.{AreNamed, atoms_text, of_logs, report, report_of};
 ghost use Rattle.report_text.specs.Writing.{Writes};
 
+use crate::abreast::Events;
 use crate::grid_lengths::grid_len;
 use crate::journal_lengths::entries_text_len;
 use crate::printed::print_entries;
@@ -14,6 +15,7 @@ use cell_grid::{Grid, Record};
 use event_journal::{Abandoned, Journal};
 use feast_base::{Name, NoMemory, Sink};
 use std::alloc::Global;
+use std::thread::Threads;
 use text_lines::{Field, push_line};
 
 /// Appends the text that shows a grid.
@@ -61,9 +63,14 @@ pub fn printed_report(
 /// name: type numbers count the names from 1. All memory is allocated before the first put, and the
 /// pieces that are put have 4,096 bytes each except the last, which has 1 to 4,096.
 ///
+/// More than 20,000 events are printed side by side, by as many threads as there are processors, up
+/// to eight, as far as there are threads, into 4 MiB that are taken for it. Fewer are printed in this
+/// thread alone.
+///
 /// `Sink` only if the sink failed in this call; it then has a first part of the report. `NoMemory`
-/// if there was none for the walk through the events; then nothing was put.
-pub fn write_report<K: Sink>(
+/// if there was none for what the events are printed in; then nothing was put.
+pub fn write_report<R: Threads + Sync, K: Sink>(
+    rt: &R,
     alloc: Global,
     grid: &Grid,
     journal: &Journal,
@@ -74,7 +81,7 @@ pub fn write_report<K: Sink>(
     requires room { (K.state sink.old).faults < 2 ^ 64 - 1 }
     ensures { Writes (K.state sink.old) (K.state sink.new) (report_of names.now (of_logs grid.now journal.now)) result }
 {
-    let walk = journal.walk(alloc)?;
-    put_report(sink, grid, journal, names, walk)?;
+    let mut events = Events::new(rt, alloc, journal)?;
+    put_report(rt, sink, grid, journal, names, &mut events)?;
     Ok(())
 }

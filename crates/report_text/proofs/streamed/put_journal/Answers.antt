@@ -1,7 +1,6 @@
 use Rattle.std.proofs.Common.{◌≡◌, ◌++◌, ap, append_assoc, codes, length, map, sym, ◌∙◌}
 use Rattle.text_lines.specs.Lines.{ended_line, text_of}
 use Rattle.event_journal.specs.Logs.{abandoned_in, records_in}
-use Rattle.event_journal.specs.Walks.{rest_of}
 use Rattle.report_text.specs.JournalText.{abandoned_fields, count_fields, logs_text, record_fields}
 use Rattle.report_text.specs.Writing.{Streams, heading}
 use Rattle.report_text.proofs.Putting.{underway_cut, underway_last, underway_more, underway_none}
@@ -35,8 +34,8 @@ returns-in_err-put_events g c =
     append_assoc (ended_line (count_fields (codes "journal") (length (records_in journal)))) records (second ++ abandoned)
     ∙ ap (λ n. ended_line (count_fields (codes "journal") n) ++ (records ++ (second ++ abandoned))) (sym c.len.ensures.value) in
     let one = underway_more _ _ (g.K.Sink.state c.put_count.new.sink) _ _ c.put_count.new.page text first (records ++ (second ++ abandoned)) text begun begins c.in_ok-put_count.ensures in
-    let events = text_of (map record_fields (rest_of c.args.walk)) in
-    let walked : records ++ (second ++ abandoned) ≡ events ++ (second ++ abandoned) = ap (λ xs. text_of (map record_fields xs) ++ (second ++ abandoned)) (sym c.requires.all) in
+    let events = c.args.events.now in
+    let walked : records ++ (second ++ abandoned) ≡ events ++ (second ++ abandoned) = ap (λ z. z ++ (second ++ abandoned)) (sym c.requires.all) in
     underway_cut _ (g.K.Sink.state c.put_count.new.sink) (g.K.Sink.state c.put_events.new.sink) _ c.put_count.new.page _ (records ++ (second ++ abandoned)) events (second ++ abandoned) text
     c.from_residual-in_err-put_events.result c.from_residual-in_err-put_events.ensures.0 one walked c.in_err-put_events.ensures
 
@@ -53,8 +52,8 @@ returns-in_err-put_count-2 g c =
     append_assoc (ended_line (count_fields (codes "journal") (length (records_in journal)))) records (second ++ abandoned)
     ∙ ap (λ n. ended_line (count_fields (codes "journal") n) ++ (records ++ (second ++ abandoned))) (sym c.len.ensures.value) in
     let one = underway_more _ _ (g.K.Sink.state c.put_count.new.sink) _ _ c.put_count.new.page text first (records ++ (second ++ abandoned)) text begun begins c.in_ok-put_count.ensures in
-    let events = text_of (map record_fields (rest_of c.args.walk)) in
-    let walked : records ++ (second ++ abandoned) ≡ events ++ (second ++ abandoned) = ap (λ xs. text_of (map record_fields xs) ++ (second ++ abandoned)) (sym c.requires.all) in
+    let events = c.args.events.now in
+    let walked : records ++ (second ++ abandoned) ≡ events ++ (second ++ abandoned) = ap (λ z. z ++ (second ++ abandoned)) (sym c.requires.all) in
     let two = underway_more _ (g.K.Sink.state c.put_count.new.sink) (g.K.Sink.state c.put_events.new.sink) _ c.put_count.new.page c.put_events.new.page (records ++ (second ++ abandoned)) events (second ++ abandoned) text one walked c.in_ok-put_events.ensures in
     let third = ended_line (count_fields (codes "abandoned") c.abandoned_len.result) in
     let counted : second ++ abandoned ≡ third ++ abandoned = ap (λ n. ended_line (count_fields (codes "abandoned") n) ++ abandoned) (sym c.abandoned_len.ensures.value) in
@@ -74,8 +73,8 @@ returns g c =
     append_assoc (ended_line (count_fields (codes "journal") (length (records_in journal)))) records (second ++ abandoned)
     ∙ ap (λ n. ended_line (count_fields (codes "journal") n) ++ (records ++ (second ++ abandoned))) (sym c.len.ensures.value) in
     let one = underway_more _ _ (g.K.Sink.state c.put_count.new.sink) _ _ c.put_count.new.page text first (records ++ (second ++ abandoned)) text begun begins c.in_ok-put_count.ensures in
-    let events = text_of (map record_fields (rest_of c.args.walk)) in
-    let walked : records ++ (second ++ abandoned) ≡ events ++ (second ++ abandoned) = ap (λ xs. text_of (map record_fields xs) ++ (second ++ abandoned)) (sym c.requires.all) in
+    let events = c.args.events.now in
+    let walked : records ++ (second ++ abandoned) ≡ events ++ (second ++ abandoned) = ap (λ z. z ++ (second ++ abandoned)) (sym c.requires.all) in
     let two = underway_more _ (g.K.Sink.state c.put_count.new.sink) (g.K.Sink.state c.put_events.new.sink) _ c.put_count.new.page c.put_events.new.page (records ++ (second ++ abandoned)) events (second ++ abandoned) text one walked c.in_ok-put_events.ensures in
     let third = ended_line (count_fields (codes "abandoned") c.abandoned_len.result) in
     let counted : second ++ abandoned ≡ third ++ abandoned = ap (λ n. ended_line (count_fields (codes "abandoned") n) ++ abandoned) (sym c.abandoned_len.ensures.value) in

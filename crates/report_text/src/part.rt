@@ -1,0 +1,108 @@
+//! A part of a journal's events, printed into memory of its own.
+ghost use Rattle.std.specs.Prelude.{◌≡◌, ◌+◌, ◌-◌, ◌^◌, ◌<◌, ◌≤◌, ◌++◌, length, vec_capacity, vec_len};
+ghost use Rattle.report_text.specs.JournalText.{rest_text};
+ghost use Rattle.report_text.specs.Writing.{Streams, heading};
+
+use crate::line::{LONGEST_RECORD, write_record};
+use crate::page::{Page, put_bytes};
+use event_journal::{Journal, Walk};
+use feast_base::{NoMemory, Sink, SinkFailed};
+use std::alloc::Global;
+use std::marker::Model;
+
+/// Events whose lines are not put yet: the first of them are printed, and the walk has the others.
+/// Contracts see the text of all their lines.
+#[derive(Drop)]
+pub(crate) struct Part<'a> {
+    printed: Vec<u8>,
+    walk: Walk<'a>,
+}
+
+impl<'a> Model for Part<'a> {
+    ghost use Rattle.std.specs.Prelude.{ℕ, ◌++◌, List};
+    ghost use Rattle.report_text.specs.JournalText.{rest_text};
+
+    ghost Value = { List ℕ };
+
+    ghost view = { λ p. p.printed.items ++ rest_text p.walk };
+}
+
+impl<'a> Part<'a> {
+    /// A part of a journal, with room for so many printed bytes. `NoMemory` if there is none for it.
+    pub(crate) fn new(
+        alloc: Global,
+        journal: &'a Journal,
+        bytes: usize,
+    ) -> Result<Part<'a>, NoMemory> {
+        Ok(Part {
+            printed: Vec::with_capacity(alloc, bytes)?,
+            walk: journal.walk(alloc)?,
+        })
+    }
+
+    /// Takes over the events that come first in a walk, at most `most` of each tile, and drops its
+    /// own.
+    pub(crate) fn fill(&mut self, walk: &mut Walk<'a>, most: usize)
+        ensures { rest_text walk.old ≡ self.new ++ rest_text walk.new }
+    {
+        self.printed.clear();
+        walk.split_front(&mut self.walk, most);
+    }
+
+    /// Prints its events, as far as there is room.
+    pub(crate) fn print(&mut self)
+        ensures { self.new ≡ self.old }
+    {
+        print_lines(&mut self.printed, &mut self.walk);
+    }
+
+    /// Puts the lines of its events.
+    pub(crate) fn put<K: Sink>(&mut self, sink: &mut K, page: &mut Page) -> Result<(), SinkFailed>
+        requires { (K.state sink.old).faults < 2 ^ 64 - 1 }
+        ensures { Streams (heading (K.state sink.old) page.old) (heading (K.state sink.new) page.new) self.old result }
+    {
+        put_bytes(sink, page, self.printed.as_slice())?;
+        put_walk(sink, page, &mut self.walk)
+    }
+}
+
+/// Appends bytes for which there is room.
+#[inline(always)]
+fn append(out: &mut Vec<u8>, bytes: &[u8])
+    requires { vec_len out.old + length bytes.now ≤ vec_capacity out.old }
+    ensures { out.new.items ≡ out.old.items ++ bytes.now }
+{
+    let _ = out.extend_from_slice(bytes);
+}
+
+/// Appends the lines of the events that a walk has left, until none is left or there may be no room
+/// for one more.
+fn print_lines(out: &mut Vec<u8>, walk: &mut Walk<'_>)
+    ensures { out.new.items ++ rest_text walk.new ≡ out.old.items ++ rest_text walk.old }
+{
+    let mut line = [0; LONGEST_RECORD];
+    while out.capacity() - out.len() >= LONGEST_RECORD {
+        let Some(entry) = walk.next() else {
+            return;
+        };
+        let start = write_record(&entry, &mut line);
+        append(out, &line[start..]);
+    }
+}
+
+/// Puts the lines of the events that a walk has left.
+pub(crate) fn put_walk<K: Sink>(
+    sink: &mut K,
+    page: &mut Page,
+    walk: &mut Walk<'_>,
+) -> Result<(), SinkFailed>
+    requires { (K.state sink.old).faults < 2 ^ 64 - 1 }
+    ensures { Streams (heading (K.state sink.old) page.old) (heading (K.state sink.new) page.new) (rest_text walk.old) result }
+{
+    let mut line = [0; LONGEST_RECORD];
+    while let Some(entry) = walk.next() {
+        let start = write_record(&entry, &mut line);
+        put_bytes(sink, page, &line[start..])?;
+    }
+    Ok(())
+}
