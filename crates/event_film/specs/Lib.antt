@@ -1,2 +1,4 @@
 pub mod Films
+pub mod Marks
+pub mod Packed
 pub mod Rewinding

@@ -6,8 +6,11 @@
 #![tactic(auto)]
 
 mod film;
+mod frame;
 mod kept;
 mod law;
+mod marks;
+mod packing;
 mod rewinding;
 
 pub use film::Film;
