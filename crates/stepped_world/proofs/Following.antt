@@ -20,7 +20,7 @@ use Rattle.tile_core.specs.Values.{TileWith, TileValue, atoms_of}
 use Rattle.tile_core.specs.Underway.{tile_at, IsUnderway}
 use Rattle.tile_core.specs.Steps.{rules_of, StepsIn, WearsOut, Renews, first_phase, tile_with_edge, tile_after_try, tile_after_give, is_over, steps_in}
 use Rattle.tile_core.proofs.Falls.{steps_fall}
-use Rattle.stepped_world.specs.Machine.{Machine, Doing, Done, step, steps, finish_tile, finish}
+use Rattle.stepped_world.specs.Machine.{Machine, Doing, Done, step, step_in, steps, finish_tile, finish}
 use Rattle.stepped_world.specs.Matching.{doing_in, IsEdgeIn, Matches}
 use Rattle.serial_order.specs.Scene.{on_map}
 use Rattle.event_journal.specs.Serial.{Course}
@@ -97,6 +97,25 @@ module _ {B : Type 0} (after : B → WindowValue → ℕ → WindowValue) (m : M
       go : (o : Option (TileWith B)) → slice_get xs t ≡ o → stands_still o ≡ true → Follows after m (on_board xs a) (on_board xs a) (rest_of t)
       go None is q = absurd (none_inside xs t lt is)
       go (Some x) is q = rests_there xs a t x is q
+
+  passed_over : (xs : List (TileWith B)) (a : PlainBoardValue) (t : ℕ) (x : TileWith B) → slice_get xs t ≡ Some x → is_still x.core.phase ≡ true → Follows after m (on_board xs a) (on_board xs a) (step_of t)
+  passed_over xs a t x is h = record {
+    underway = λ k u. u;
+    like = λ k s u l. ⊎_elim
+        (λ (z : IsLike (on_map m k) xs a s). let there = z.matches.tiles_are t x is in
+        inl (subst (IsLike (on_map m k) xs a) (sym (ap (step_in m k.meaning t s) (still_phase x.core x.core.phase (s.tile t).doing there.doing h))) z))
+        (λ w. inr w) l;
+    still = λ v e. e;
+    sizes = refl;
+  }
+
+  -- a step of a tile that stands still does nothing
+  pub still_step : (xs : List (TileWith B)) (a : PlainBoardValue) (t : ℕ) → t < length xs → stands_still (slice_get xs t) ≡ true → Follows after m (on_board xs a) (on_board xs a) (step_of t)
+  still_step xs a t lt h = go (slice_get xs t) refl h
+    where
+      go : (o : Option (TileWith B)) → slice_get xs t ≡ o → stands_still o ≡ true → Follows after m (on_board xs a) (on_board xs a) (step_of t)
+      go None is q = absurd (none_inside xs t lt is)
+      go (Some x) is q = passed_over xs a t x is q
 
   module _ (tiles : List (TileWith B)) (t : ℕ) (x y : TileWith B) (a b c : PlainBoardValue) (plane : IsPlane m) (is : slice_get tiles t ≡ Some x) (same : b.edges ≡ a.edges) (d : Advances after m t x y b c) where
     there : t < length tiles
