@@ -1,14 +1,15 @@
 -- The laws of the plane.
-use Rattle.std.proofs.Common.{ℕ, ◌≡◌, ◌≢◌, ◌+◌, ◌-◌, ◌*◌, ◌/◌, ◌%◌, ◌<◌, ◌≤◌, Bool, true, false, ◌&&◌, ◌==◌, List, length, get_or, map, refl, sym, ap, ◌∙◌, subst, arith, ◌⊎◌, inl, inr, ⊎_elim, Some, lt-ltb, ltb-true}
+use Rattle.std.proofs.Common.{ℕ, ◌≡◌, ◌≢◌, ◌+◌, ◌-◌, ◌*◌, ◌/◌, ◌%◌, ◌<◌, ◌≤◌, Bool, true, false, not, ◌&&◌, ◌==◌, List, length, get_or, map, refl, sym, ap, ◌∙◌, subst, arith, ◌⊎◌, inl, inr, ⊎_elim, Some, lt-ltb, ltb-true}
 use Rattle.std.specs.Prelude.{All, ◌||◌, filter, Contains, slice_get, if◌then◌else◌}
 use Rattle.std.specs.List.{range_with_len}
 use Rattle.std.specs.List.Sorted.{IsStrictlyIncreasing}
 use Rattle.std.proofs.lemmas.Bool.Decides.{nat_tests}
 use Rattle.std.proofs.lemmas.Nat.{rows}
-use Rattle.tile_map.specs.Plane.{Site, MapValue, IsMap, site, tiles_of, in_plane, is_live, sites_of, is_inside, is_around, is_owned, owner_of, site_in, is_reached, is_held, in_window, apart}
+use Rattle.tile_map.specs.Plane.{Site, MapValue, IsMap, site, tiles_of, in_plane, is_on, is_whole, is_live, sites_of, is_inside, is_around, is_owned, owner_of, site_in, is_reached, is_held, in_window, apart}
 use Rattle.tile_map.specs.Edges.{pairs_of, pair_at, low_end, high_end, shared_of, edges_at, needs_of, is_needed, reaches, has_end, other_end}
 use Rattle.tile_map.specs.Laws.{Joins, Shares, HasOwners, HasWindows, HasEdges, HasRegisters, HasNeeds, IsPlane}
 use Rattle.list_laws.proofs.Filters.{filter_twice, filter_short}
+use Rattle.list_laws.proofs.Entries.{all_get}
 use Rattle.list_laws.proofs.Tests.{both, together}
 use Rattle.tile_map.proofs.Spans.{le_test, times_more, held_span, held_parts, held_whole, live_plane, on_low}
 use Rattle.std.proofs.lemmas.List.Kept.{IsStrictlyIncreasing-filter}
@@ -301,9 +302,26 @@ around_few m n t es same k lt is = omega (arith, ap length is, edges_at-few m (s
 pub owner_low : (m : MapValue) → IsMap m → (s : Site) → in_plane m s ≡ true → owner_of m s < tiles_of m
 owner_low m k s h = (stands m k s h).tile
 
--- a position of a rectangle is above the plane's lower border
-pub site_in_low : (m : MapValue) → IsMap m → (t k : ℕ) → t < tiles_of m → k < m.w * m.h → t / m.tx * m.h + k / m.w < m.ty * m.h
-site_in_low m valid t k lt small =
-    let y = row_low m valid t lt in
-    let r : k / m.w < m.h = grind (arith, rows, valid.sizes.w_low) in
-    omega (arith, r, times_more (t / m.tx + 1) m.ty m.h (omega (arith, y)))
+-- where no tile is off, that of each site is on
+pub whole_on : (m : MapValue) → IsMap m → is_whole m ≡ true → (s : Site) → in_plane m s ≡ true → is_on m (owner_of m s) ≡ true
+whole_on m k whole s h =
+    let low = owner_low m k s h in
+    together _ _ (lt-ltb _ _ low) (all_get not m.off (owner_of m s) false whole (omega (arith, low, k.marks)))
+
+-- what is known of a position of a rectangle
+pub record SitePlace (m : MapValue) (t k : ℕ) : Type 0 where
+  pub owned : is_owned m t (site_in m t k) ≡ true
+  pub x : (site_in m t k).x < m.tx * m.w
+  pub y : (site_in m t k).y < m.ty * m.h
+
+pub site_place : (m : MapValue) → IsMap m → (t k : ℕ) → t < tiles_of m → k < m.w * m.h → SitePlace m t k
+site_place m valid t k lt small =
+    let column = column_low m valid t lt in
+    let row = row_low m valid t lt in
+    let r : (k / m.w < m.h) × (k % m.w < m.w) = grind (arith, rows, valid.sizes.w_low) in
+    let inside : (a size j : ℕ) → j < size → is_inside size a (a * size + j) ≡ true = λ a size j lt. together _ _ (le_test (a * size) (a * size + j) (omega arith)) (lt-ltb (a * size + j) ((a + 1) * size) (omega (arith, lt))) in
+    record {
+      owned = together _ _ (lt-ltb _ _ lt) (together _ _ (inside (t % m.tx) m.w (k % m.w) r.1) (inside (t / m.tx) m.h (k / m.w) r.0));
+      x = omega (arith, r.1, times_more (t % m.tx + 1) m.tx m.w (omega (arith, column)));
+      y = omega (arith, r.0, times_more (t / m.tx + 1) m.ty m.h (omega (arith, row)));
+    }

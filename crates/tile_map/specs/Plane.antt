@@ -1,6 +1,6 @@
 -- The plane: tx by ty tiles of w by h sites each, some of them off, their rectangles, and what a tile owns and holds.
 use Rattle.std.specs.Prelude.{ℕ, ◌≡◌, ◌≤◌, ◌+◌, ◌-◌, ◌*◌, ◌/◌, ◌%◌, List, Bool, false, not, ◌&&◌, nat_le, nat_lt, length, map, flat_map, replicate, slice_index_or}
-use Rattle.std.specs.List.{range_with_len}
+use Rattle.std.specs.List.{range_with_len, list_all}
 use Rattle.tile_map.specs.declared.limits.TheConstants.{LEAST_SIDE, MOST_ACROSS, MOST_SIDE}
 
 -- a site: x grows east, y grows south
@@ -50,6 +50,10 @@ tiles_of m = m.tx * m.ty
 -- whether a tile is one of the plane's, and not off
 abbrev pub is_on : MapValue → ℕ → Bool
 is_on m t = nat_lt t (tiles_of m) && not (slice_index_or m.off t false)
+
+-- whether no tile is off
+abbrev pub is_whole : MapValue → Bool
+is_whole m = list_all not m.off
 
 -- whether the plane has the site
 abbrev pub in_plane : MapValue → Site → Bool

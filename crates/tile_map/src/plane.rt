@@ -1,7 +1,8 @@
 //! The plane: its tiles, which of them are on, and what a tile owns and holds.
 
-ghost use Rattle.std.specs.Prelude.{◌≡◌, ◌+◌, ◌*◌, ◌<◌, ◌≤◌, IsTrue, IfOk};
-ghost use Rattle.tile_map.specs.Plane.{MapValue, IsMap, plane_of, site, tiles_of, is_on, is_live, owner_of, is_owned, is_held, site_in};
+ghost use Rattle.std.specs.Prelude.{◌≡◌, ◌+◌, ◌*◌, ◌/◌, ◌%◌, ◌<◌, ◌≤◌, not, IsTrue, IfOk};
+ghost use Rattle.std.specs.List.{list_all};
+ghost use Rattle.tile_map.specs.Plane.{MapValue, IsMap, plane_of, site, tiles_of, is_on, is_whole, is_live, owner_of, is_owned, is_held};
 ghost use Rattle.tile_map.specs.Neighbours.{are_joined};
 ghost use Rattle.tile_map.specs.Spans.{left_of, right_of, top_of, bottom_of};
 ghost use Rattle.tile_map.specs.Edges.{is_held_at, window_site, reaches};
@@ -24,16 +25,18 @@ pub struct Plane {
     w: u32,
     h: u32,
     off: Vec<bool>,
+    whole: bool,
 }
 
 impl Model for Plane {
-    ghost use Rattle.tile_map.specs.Plane.{MapValue, IsMap, plane_of};
+    ghost use Rattle.std.specs.Prelude.{◌≡◌};
+    ghost use Rattle.tile_map.specs.Plane.{MapValue, IsMap, plane_of, is_whole};
 
     ghost Value = { MapValue };
 
     ghost view = { λ p. plane_of p.tx p.ty p.w p.h p.off.items };
 
-    ghost invariant = { λ p. IsMap (plane_of p.tx p.ty p.w p.h p.off.items) };
+    ghost invariant = { λ p. IsMap (plane_of p.tx p.ty p.w p.h p.off.items) × (p.whole ≡ is_whole (plane_of p.tx p.ty p.w p.h p.off.items)) };
 }
 
 impl Plane {
@@ -43,7 +46,15 @@ impl Plane {
         requires { IsMap (plane_of tx ty w h off.items) }
         ensures { result ≡ plane_of tx ty w h off.items }
     {
-        Plane { tx, ty, w, h, off }
+        let whole = are_on(off.as_slice());
+        Plane {
+            tx,
+            ty,
+            w,
+            h,
+            off,
+            whole,
+        }
     }
 
     /// The same numbers once more.
@@ -102,11 +113,28 @@ impl Plane {
         tile < self.tiles() && !self.off[tile as usize]
     }
 
+    /// Whether no tile is off.
+    pub(crate) fn is_whole(&self) -> bool
+        ensures test { result ≡ is_whole self.now }
+        ensures valid { IsMap self.now }
+    {
+        self.whole
+    }
+
     /// Whether the plane has the site and its tile is on.
     pub(crate) fn is_live(&self, x: u32, y: u32) -> bool
         ensures { result ≡ is_live self.now (site x y) }
     {
-        x < self.tx * self.w && y < self.ty * self.h && self.is_on(self.owner(x, y))
+        x < self.tx * self.w && y < self.ty * self.h && self.is_owner_on(x, y)
+    }
+
+    /// Whether the tile of a site of the plane is on. The tile need not be found where none is off.
+    fn is_owner_on(&self, x: u32, y: u32) -> bool
+        requires x { x < self.now.tx * self.now.w }
+        requires y { y < self.now.ty * self.now.h }
+        ensures { result ≡ is_on self.now (owner_of self.now (site x y)) }
+    {
+        self.is_whole() || self.is_on(self.owner(x, y))
     }
 
     /// The tile whose rectangle has the site, which is one of the plane.
@@ -131,18 +159,16 @@ impl Plane {
             && self.rows(tile).contains(y)
     }
 
-    /// The site at a position of the tile's rectangle, in row order.
-    pub(crate) fn site_of(&self, tile: u32, centre: u32) -> (u32, u32)
-        requires tile { tile < tiles_of self.now }
-        requires centre { centre < self.now.w * self.now.h }
-        ensures value { site result.0 result.1 ≡ site_in self.now tile centre }
-        ensures owned { IsTrue (is_owned self.now tile (site result.0 result.1)) }
-        ensures x { result.0 < self.now.tx * self.now.w }
-        ensures y { result.1 < self.now.ty * self.now.h }
+    /// The column and the row of a position in a tile's rectangle, in row order.
+    pub(crate) fn within(&self, centre: u32) -> (u32, u32)
+        requires { centre < self.now.w * self.now.h }
+        ensures column { result.0 ≡ centre % self.now.w }
+        ensures row { result.1 ≡ centre / self.now.w }
+        ensures x { result.0 < self.now.w }
+        ensures y { result.1 < self.now.h }
+        ensures valid { IsMap self.now }
     {
-        let x = tile % self.tx * self.w + centre % self.w;
-        let y = tile / self.tx * self.h + centre / self.w;
-        (x, y)
+        (centre % self.w, centre / self.w)
     }
 
     /// Whether the first is the lower of two neighbouring tiles that are on; diagonal neighbours
@@ -281,4 +307,11 @@ impl Plane {
     {
         Span::around(tile / self.tx, self.h, self.ty)
     }
+}
+
+/// Whether none of the marks says that its tile is off.
+fn are_on(off: &[bool]) -> bool
+    ensures { result ≡ list_all not off.now }
+{
+    off.iter().all(|mark| !*mark)
 }
