@@ -57,8 +57,21 @@ impl TileStream {
         ensures after { (stream i : ℕ) → self.old ≡ tile_state stream (2 * i) → self.new ≡ tile_state stream (2 * (i + 1)) }
         ensures bound { result.centre < sites }
     {
-        let centre = (self.word() % sites) as u32;
+        let centre = rest_of(self.word(), sites) as u32;
         let seed = self.word();
         Attempt { centre, seed }
+    }
+}
+
+/// What is left of a word by a division. No division is needed by a power of two.
+#[inline]
+fn rest_of(word: u64, by: u64) -> u64
+    requires { 1 ≤ by }
+    ensures { result ≡ word % by }
+{
+    if by.is_power_of_two() {
+        word & (by - 1)
+    } else {
+        word % by
     }
 }

@@ -168,7 +168,7 @@ impl Plane {
         ensures y { result.1 < self.now.h }
         ensures valid { IsMap self.now }
     {
-        (centre % self.w, centre / self.w)
+        split(centre, self.w)
     }
 
     /// Whether the first is the lower of two neighbouring tiles that are on; diagonal neighbours
@@ -314,4 +314,21 @@ fn are_on(off: &[bool]) -> bool
     ensures { result ≡ list_all not off.now }
 {
     off.iter().all(|mark| !*mark)
+}
+
+/// The column and the row of a place in rows of `width` places. Where the width is a power of two
+/// that a tile may have, it is a number that the compiler knows, and it needs no division.
+#[inline]
+fn split(place: u32, width: u32) -> (u32, u32)
+    requires { 1 ≤ width }
+    ensures column { result.0 ≡ place % width }
+    ensures row { result.1 ≡ place / width }
+{
+    match width {
+        8 => (place % 8, place / 8),
+        16 => (place % 16, place / 16),
+        32 => (place % 32, place / 32),
+        64 => (place % 64, place / 64),
+        _ => (place % width, place / width),
+    }
 }
