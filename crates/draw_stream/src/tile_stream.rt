@@ -69,7 +69,7 @@ fn rest_of(word: u64, by: u64) -> u64
     requires { 1 ≤ by }
     ensures { result ≡ word % by }
 {
-    if by.is_power_of_two() {
+    if by & (by - 1) == 0 {
         word & (by - 1)
     } else {
         word % by

@@ -11,3 +11,4 @@ pub mod PlaneLaws
 pub mod Registers
 pub mod Sharing
 pub mod Spans
+pub mod Zones

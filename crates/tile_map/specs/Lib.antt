@@ -4,3 +4,4 @@ pub mod Edges
 pub mod Laws
 pub mod Spans
 pub mod Tables
+pub mod Zones

@@ -10,6 +10,7 @@ mod crossing;
 mod edges;
 mod limits;
 mod map;
+mod needed;
 mod needs;
 mod plane;
 mod shared;

@@ -31,6 +31,17 @@ impl Needs {
         }
     }
 
+    /// The same edges once more.
+    pub(crate) fn copy(&self) -> Needs
+        ensures { result ≡ self.now }
+    {
+        let mut copy = Needs::new();
+        for edge in self.edges.as_slice() {
+            copy.push(*edge);
+        }
+        copy
+    }
+
     /// Appends an edge.
     pub(crate) fn push(&mut self, edge: u32)
         requires { length self.old < MOST_NEEDS }

@@ -3,7 +3,8 @@
 ghost use Rattle.std.specs.Prelude.{◌≡◌, ◌+◌, ◌-◌, ◌*◌, ◌<◌, ◌≤◌, ◌≤ℤ◌, pos, min, max, ◌&&◌, nat_le, nat_lt, IfSome};
 ghost use Rattle.window_sites.specs.Sites.{shift};
 ghost use Rattle.tile_map.specs.Spans.{interior_low, interior_high, gap, is_within, place_within};
-ghost use Rattle.tile_map.specs.declared.limits.TheConstants.{MOST_ACROSS, MOST_SIDE};
+ghost use Rattle.tile_map.specs.Zones.{zone_of, place_of};
+ghost use Rattle.tile_map.specs.declared.limits.TheConstants.{MOST_ACROSS, MOST_SIDE, ZONES_ACROSS};
 ghost use Rattle.window_sites.specs.declared.window.TheConstants.{MOST_COLUMNS};
 
 /// The coordinates from `first` up to `end` and without it.
@@ -85,6 +86,36 @@ impl Span {
         ensures { result ≡ (nat_le self.first at && nat_lt at self.end) }
     {
         self.first <= at && at < self.end
+    }
+
+    /// The zone of one of the span's places: each of the first eight and of the last eight places is
+    /// one, and all between are one.
+    pub(crate) fn zone(self, at: u32) -> u32
+        requires first { self.first ≤ at }
+        requires end { at < self.end }
+        ensures value { result ≡ zone_of self.first self.end at }
+        ensures few { result < ZONES_ACROSS }
+    {
+        let before = at - self.first;
+        if before < 8 {
+            before
+        } else {
+            16 - (self.end - 1 - at).min(8)
+        }
+    }
+
+    /// A place of a zone of the span, or any place where it has none of the zone.
+    pub(crate) fn place_in(self, zone: u32) -> u32
+        requires wide { self.first + 8 ≤ self.end }
+        requires zone { zone < ZONES_ACROSS }
+        ensures value { result ≡ place_of self.first self.end zone }
+        ensures end { result < self.end }
+    {
+        if zone <= 8 {
+            self.first + zone.min(self.end - 1 - self.first)
+        } else {
+            self.end - 1 - (16 - zone)
+        }
     }
 
     /// How far a coordinate is from the nearest of the span.

@@ -1,6 +1,6 @@
-use Rattle.std.proofs.Common.{sym, ◌∙◌}
+use Rattle.std.proofs.Common.{arith}
 use Rattle.draw_stream.proofs.Powers.{rest_by_mask}
 use Rattle.draw_stream.proofs.tile_stream.rest_of.Goals as goal
 
-pub returns-then-is_power_of_two : goal.returns-then-is_power_of_two
-returns-then-is_power_of_two c = rest_by_mask c.args.word c.args.by (sym c.is_power_of_two.ensures ∙ c.if-is_power_of_two.true)
+pub returns-then-by-eq0 : goal.returns-then-by-eq0
+returns-then-by-eq0 c = rest_by_mask c.args.word c.args.by (omega (arith, c.requires)) (omega (arith, c.if-by-eq0.true))

@@ -1,6 +1,7 @@
 use Rattle.std.proofs.Common.{ℕ, ◌≤◌, List, length, map, arith, ap, sym, subst, ◌∙◌}
 use Rattle.std.specs.List.{range_with_len}
 use Rattle.tile_map.specs.Edges.{edges_among}
+use Rattle.tile_map.specs.Zones.{zone_needs}
 use Rattle.tile_map.proofs.Pairs.{pairs_near, pairs_bounded, edges_at-few}
 use Rattle.tile_map.proofs.map.Map.of_plane.Goals as goal
 
@@ -22,17 +23,19 @@ by_tile-requires-clause-few c = λ t lt.
 pub shared_sites-requires : goal.shared_sites-requires
 shared_sites-requires c = c.as_slice-2.ensures.value ∙ c.in_ok-ends.ensures ∙ sym (pairs_near c.args.plane c.tiles.ensures.valid)
 
-pub invariant_of-result : goal.invariant_of-result
-invariant_of-result c =
+pub invariant_of-map : goal.invariant_of-map
+invariant_of-map c =
     let m = c.args.plane in
     let valid = c.tiles.ensures.valid in
     let ends = c.in_ok-ends.ensures ∙ sym (pairs_near m valid) in
     let same = c.as_slice.ensures.value ∙ ends in
-    let count = c.tiles.ensures.count in
-    record {
-      valid = valid;
-      pairs = ends;
-      lists = c.in_ok-around.ensures ∙ (λ i. map (edges_among (same i) (count i)) (range_with_len 0 (count i)));
-      areas_are = c.in_ok-areas.ensures;
-      shared = c.in_ok-shared.ensures;
-    }
+    let count = c.tiles.ensures.count in (
+      record {
+        valid = valid;
+        pairs = ends;
+        lists = c.in_ok-around.ensures ∙ (λ i. map (edges_among (same i) (count i)) (range_with_len 0 (count i)));
+        areas_are = c.in_ok-areas.ensures;
+        shared = c.in_ok-shared.ensures;
+      },
+      c.new.ensures.items ∙ ap (λ (ns : List (List ℕ)). map (zone_needs m) (range_with_len 0 (length ns))) (sym c.new.ensures.items),
+    )

@@ -8,21 +8,21 @@ pub returns-clause-count : goal.returns-clause-count
 returns-clause-count c =
     let m = c.args.self.now in
     let v = c.index.result.now in
-    let is = table_read m c.self.inside.plane c.self.inside.shared.items c.args.edge v c.self.view_is c.self.invariant.shared c.requires c.index.ensures in
-    c.count.ensures ∙ count_read m (subst IsMap c.self.view_is c.self.invariant.valid) c.args.edge v c.requires is
+    let is = table_read m c.self.inside.plane c.self.inside.shared.items c.args.edge v c.self.view_is c.self.invariant.0.shared c.requires c.index.ensures in
+    c.count.ensures ∙ count_read m (subst IsMap c.self.view_is c.self.invariant.0.valid) c.args.edge v c.requires is
 
 pub returns-clause-bound : goal.returns-clause-bound
 returns-clause-bound c =
     let m = c.args.self.now in
     let v = c.index.result.now in
-    let valid = subst IsMap c.self.view_is c.self.invariant.valid in
-    let is = table_read m c.self.inside.plane c.self.inside.shared.items c.args.edge v c.self.view_is c.self.invariant.shared c.requires c.index.ensures in
+    let valid = subst IsMap c.self.view_is c.self.invariant.0.valid in
+    let is = table_read m c.self.inside.plane c.self.inside.shared.items c.args.edge v c.self.view_is c.self.invariant.0.shared c.requires c.index.ensures in
     omega (arith, c.count.ensures, count_read m valid c.args.edge v c.requires is, shared_bounded m valid c.args.edge c.requires)
 
 pub returns-clause-few : goal.returns-clause-few
 returns-clause-few c =
     let m = c.args.self.now in
     let v = c.index.result.now in
-    let valid = subst IsMap c.self.view_is c.self.invariant.valid in
-    let is = table_read m c.self.inside.plane c.self.inside.shared.items c.args.edge v c.self.view_is c.self.invariant.shared c.requires c.index.ensures in
+    let valid = subst IsMap c.self.view_is c.self.invariant.0.valid in
+    let is = table_read m c.self.inside.plane c.self.inside.shared.items c.args.edge v c.self.view_is c.self.invariant.0.shared c.requires c.index.ensures in
     omega (arith, c.count.ensures, count_read m valid c.args.edge v c.requires is, shared_few m valid c.args.edge c.requires)

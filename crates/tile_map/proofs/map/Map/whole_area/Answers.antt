@@ -8,6 +8,6 @@ pub returns : goal.returns
 returns c =
     let m = c.args.self.now in
     let v = c.index.result.now in
-    let valid = subst IsMap c.self.view_is c.self.invariant.valid in
-    let is = table_read m c.self.inside.plane c.self.inside.shared.items c.args.edge v c.self.view_is c.self.invariant.shared c.requires c.index.ensures in
+    let valid = subst IsMap c.self.view_is c.self.invariant.0.valid in
+    let is = table_read m c.self.inside.plane c.self.inside.shared.items c.args.edge v c.self.view_is c.self.invariant.0.shared c.requires c.index.ensures in
     shared_area m valid c.args.edge v c.whole_area.result c.requires is c.whole_area.ensures
