@@ -1,4 +1,5 @@
 """Files that are read in one piece, and written whole or not at all."""
+import errno
 import gzip
 import os
 import zlib
@@ -11,6 +12,8 @@ from lab.errors import LabError
 
 GZIP_MAGIC = b"\x1f\x8b"
 PART = ".part"
+PROCESSES = Path("/proc")
+MOST_LINKS = 40  # as many as Linux follows
 
 
 def cause(error: OSError) -> str:
@@ -18,28 +21,49 @@ def cause(error: OSError) -> str:
     return (error.strerror or str(error)).lower()
 
 
-def is_written_to(path: Path) -> bool:
-    """Whether a path is a device or a pipe, such as /dev/null, which takes what is written and is never replaced."""
-    return path.exists() and not path.is_file() and not path.is_dir()
+def shown_name(path: Path) -> str:
+    """The name of a file as a text, with a mark in the place of each byte that is no part of one."""
+    return os.fsencode(path.resolve().name).decode(errors="replace")
+
+
+def place_of(path: Path) -> Path:
+    """The place that a path leads to, past its links. One below /proc leads no further: a link there stands for what a
+    process has open, and not for a name."""
+    place = path
+    for _ in range(MOST_LINKS + 1):
+        place = Path(os.path.realpath(place.parent), place.name)
+        if place.is_relative_to(PROCESSES) or not place.is_symlink():
+            return place
+        place = place.parent / place.readlink()
+    raise OSError(errno.ELOOP, os.strerror(errno.ELOOP), str(path))
+
+
+def is_written_to(place: Path) -> bool:
+    """Whether a place is an open file, a device or a pipe, such as /dev/null, which takes what is written and is never
+    replaced."""
+    return place.is_relative_to(PROCESSES) or (place.exists() and not place.is_file() and not place.is_dir())
 
 
 def write_whole(path: Path, data: str | bytes) -> None:
-    """Writes a file beside its place and then puts it there, so that it is never seen half written. A device or a pipe is
-    written to as it stands."""
-    beside = path.with_name(path.name + PART)
-    whole = data.encode() if isinstance(data, str) else data
+    """Writes a file beside its place and then puts it there, so that it is never seen half written. An open file, a device
+    or a pipe is written to as it stands; a link stays, and what it leads to is written."""
     try:
-        if is_written_to(path):
-            path.write_bytes(whole)
+        whole = data.encode() if isinstance(data, str) else data
+        place = place_of(path)
+        if is_written_to(place):
+            place.write_bytes(whole)
             return
+        beside = place.parent / (place.name + PART)
         try:
             beside.write_bytes(whole)
-            os.replace(beside, path)
+            os.replace(beside, place)
         except BaseException:
             beside.unlink(missing_ok=True)
             raise
     except OSError as error:
         raise LabError(f"{path}: can't be written: {cause(error)}") from error
+    except UnicodeEncodeError as error:
+        raise LabError(f"{path}: can't be written: the text for it has a name that is no text in UTF-8") from error
 
 
 def read_bytes(path: Path) -> bytes:

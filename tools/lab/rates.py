@@ -16,7 +16,7 @@ from pathlib import Path
 from lab.chain_folder import Folder
 from lab.drift import of_legs, plans, tiles_of
 from lab.errors import LabError
-from lab.files import write_whole
+from lab.files import shown_name, write_whole
 from lab.heat import heat_map
 from lab.report import Report
 from lab.words import take_words_anywhere
@@ -113,7 +113,7 @@ def run(arguments: argparse.Namespace) -> int:
         panels = {"events": rates.events}
         if any(rates.abandoned):
             panels["abandoned attempts"] = rates.abandoned
-        write_whole(arguments.svg, heat_map(rates.world, rates.live(), panels, world.resolve().name))
+        write_whole(arguments.svg, heat_map(rates.world, rates.live(), panels, shown_name(world)))
     out = csv.writer(sys.stdout, lineterminator="\n")
     out.writerows(site_rows(rates) if arguments.by == "site" else tile_rows(rates))
     return 0
