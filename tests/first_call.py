@@ -23,7 +23,7 @@ TOP = pathlib.Path(__file__).resolve().parent.parent
 sys.dont_write_bytecode = True
 
 from checks import flat  # noqa: E402
-from first_call_parts import Crates, Estimates, Lines, Sessions  # noqa: E402
+from first_call_parts import Crates, Ends, Estimates, Lines, Sessions  # noqa: E402
 
 # (calls here are to build their own program)
 os.environ.pop("FEAST_PROGRAM", None)
@@ -367,7 +367,7 @@ def left_over(top: pathlib.Path) -> list[str]:
 
 def checks(_: object) -> Iterator[unittest.TestCase]:
     """The tests of the first call, and those of its parts."""
-    for kind in (FirstCall, Crates, Estimates, Lines, Sessions):
+    for kind in (FirstCall, Crates, Ends, Estimates, Lines, Sessions):
         yield from flat(unittest.defaultTestLoader.loadTestsFromTestCase(kind))
 
 

@@ -4,10 +4,12 @@ from __future__ import annotations
 import itertools
 import os
 import pathlib
+import signal
 import sys
 import tempfile
 import time
 import unittest
+from contextlib import suppress
 from unittest import mock
 
 TOP = pathlib.Path(__file__).resolve().parent.parent
@@ -60,6 +62,47 @@ class Sessions(unittest.TestCase):
         shared = pathlib.Path(f"/proc/{child.pid}/autogroup")
         if shared.exists():
             self.assertRegex(shared.read_text(), f"nice {GIVING_WAY}")
+
+
+class Ends(unittest.TestCase):
+    """What is left of commands that are ended."""
+
+    def left_by(self, ending: str) -> Child:
+        """A command that begins another one, which would stay for ten minutes and is there now, and then does something."""
+        words = ["sh", "-c", f"sleep 600 & {ending}"]
+        child = Child(words, TOP, sys.stderr.buffer)
+        self.addCleanup(child.tell, signal.SIGKILL)
+        latest = time.monotonic() + 600
+        while len(sleepers(child.pid)) != 1 and time.monotonic() < latest:
+            time.sleep(0.02)
+        self.assertEqual(len(sleepers(child.pid)), 1)
+        return child
+
+    def test_what_a_command_began_is_ended(self) -> None:
+        for ending, is_over in (("wait", False), ("exit 3", True), ("kill -KILL $$", True)):
+            with self.subTest(ending):
+                child = self.left_by(ending)
+                if is_over:
+                    child.wait(600)
+                end([child])
+                # (one that is ended is gone a moment later)
+                latest = time.monotonic() + 30
+                while sleepers(child.pid) and time.monotonic() < latest:
+                    time.sleep(0.02)
+                self.assertEqual(sleepers(child.pid), [])
+                end([child])
+
+
+def sleepers(session: int) -> list[str]:
+    """The commands `sleep` of a session that are under way."""
+    found = []
+    for stat in pathlib.Path("/proc").glob("[0-9]*/stat"):
+        with suppress(OSError):
+            name, _, rest = stat.read_text(errors="replace").rpartition(")")
+            state, _, _, at = rest.split()[:4]
+            if name.endswith("(sleep") and int(at) == session and state != "Z":
+                found.append(str(stat.parent))
+    return found
 
 
 class Estimates(unittest.TestCase):

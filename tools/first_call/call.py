@@ -41,6 +41,7 @@ class FirstCall:
         if self.is_told_to_end:
             raise KeyboardInterrupt
         if self.preview and (answer := self.preview.answer()):
+            end([self.preview])
             self.preview = None
             self.teller.show(answer)
 

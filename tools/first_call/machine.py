@@ -38,11 +38,11 @@ class Child(subprocess.Popen[bytes]):
 
 
 def end(children: Iterable[Child]) -> None:
-    """Ends commands and all that they started, in peace if that serves."""
-    under_way = [child for child in children if child.poll() is None]
-    for child in under_way:
+    """Ends commands and all that they started, in peace if that serves; of one that has ended by itself, what it left."""
+    begun = list(children)
+    for child in begun:
         child.tell(signal.SIGTERM)
-    for child in under_way:
+    for child in begun:
         with suppress(subprocess.TimeoutExpired):
             child.wait(PATIENCE)
         child.tell(signal.SIGKILL)
