@@ -7,6 +7,8 @@ import re
 import subprocess
 import sys
 
+from children import called
+
 Words = list[str | pathlib.Path]
 
 # Calls a program from a process that has little memory of its own, since what a process had before it began the
@@ -40,14 +42,12 @@ class Failed(Exception):
 def measured(words: Words, to: str | pathlib.Path = os.devnull) -> Used:
     """One call, whose output goes to a file."""
     with open(to, "wb") as out:
-        call = [sys.executable, "-S", "-E", "-c", CALL, *map(str, words)]
-        said = subprocess.run(
-            call, stdout=out, stderr=subprocess.PIPE, stdin=subprocess.DEVNULL, text=True, errors="replace"
-        )
-    if said.returncode != 0:
-        *_, why = said.stderr.splitlines() or ["it was killed"]
+        done = called([sys.executable, "-S", "-E", "-c", CALL, *words], out=out)
+    said = done.stderr.decode(errors="replace").splitlines()
+    if done.returncode != 0:
+        *_, why = said or ["it was killed"]
         raise Failed(f"{words[0]} can't be called: {why}")
-    *told, last = said.stderr.splitlines()
+    *told, last = said
     seconds, kilobytes, status = last.split()
     return Used(float(seconds), int(kilobytes) / 1024, int(status), "\n".join(told))
 

@@ -4,22 +4,26 @@
     python3 bench/plain.py --program PROGRAM  the same beside another build
     python3 bench/plain.py --source FILE      the same of another plain program
 
-It ends at the first difference, and keeps that world. See README.md beside this file.
+It ends at the first difference, or at a call that fails or takes too long, and keeps that world. See README.md beside this file.
 """
 
 import argparse
 import dataclasses
-import os
 import pathlib
 import random
+import shutil
 import subprocess
 import sys
 import tempfile
 
 sys.path.insert(0, str(pathlib.Path(__file__).resolve().parent))
 sys.dont_write_bytecode = True
-from whole import HERE, PROGRAM, build_plain  # noqa: E402
+from children import called, end_in_order  # noqa: E402
+from whole import HERE, build_plain, program_of  # noqa: E402
 from worlds import SORTERS, WANDERERS, Mix  # noqa: E402
+
+# seconds that a call may take
+TIMEOUT = 300
 
 
 @dataclasses.dataclass(frozen=True)
@@ -111,81 +115,99 @@ THREADED = [
 ]
 
 
+class Wrong(Exception):
+    """What is wrong with a report, or with a call that was to write one."""
+
+
 @dataclasses.dataclass(frozen=True)
 class Bench:
-    """Both programs, and the folder of their files."""
+    """Both programs, the folder of their files, and the seconds that a call may take."""
 
     program: pathlib.Path
     plain: pathlib.Path
     folder: pathlib.Path
+    timeout: float
 
     @property
-    def elements(self) -> pathlib.Path:
-        """The file of the elements."""
-        return self.folder / "elements"
+    def files(self) -> tuple[pathlib.Path, ...]:
+        """The files of a world, its elements, and a report of it that threads made."""
+        return self.folder / "world", self.folder / "elements", self.folder / "report"
 
-    def made(self, case: Case, seed: int) -> pathlib.Path:
-        """The file of a case's world; that of its elements is made too."""
-        self.elements.write_text(case.mix.text)
-        path = self.folder / "world"
-        path.write_text(case.text(seed))
-        return path
+    def make(self, case: Case, seed: int) -> None:
+        """Makes a case's world and elements."""
+        world, elements, report = self.files
+        world.write_text(case.text(seed))
+        elements.write_text(case.mix.text)
+        report.unlink(missing_ok=True)
 
-    def same(self, form: str, case: Case, seed: int) -> None:
-        """Stops unless both programs write the same report."""
-        world = self.made(case, seed)
-        ours = called([self.program, form, world, self.elements])
-        theirs = called([self.plain, form, world])
-        if ours != theirs:
-            self.stop(f"{form} {case} with seed {seed}: the reports differ", world)
+    def written(self, *words: str | pathlib.Path) -> bytes:
+        """What a program writes. Wrong unless its status is 0, in time."""
+        try:
+            done = called(words, timeout=self.timeout)
+        except (OSError, subprocess.TimeoutExpired) as fault:
+            raise Wrong(str(fault)) from fault
+        if done.returncode != 0:
+            said = (done.stdout[:200] + done.stderr[:500]).decode(errors="replace")
+            raise Wrong(f"{words[0]} {words[1]} ended with {done.returncode}: {said}")
+        return done.stdout
 
-    def audited(self, case: Case, seed: int) -> int:
-        """Stops unless a threaded report audits to `yes`; how many attempts it abandoned."""
-        world = self.made(case, seed)
-        report = self.folder / "report"
-        report.write_bytes(called([self.plain, "run", world]))
-        said = called([self.program, "audit", world, report, self.elements]).decode().strip()
+    def compare(self, form: str, case: Case, seed: int) -> None:
+        """Wrong unless both programs write the same report."""
+        self.make(case, seed)
+        world, elements, _ = self.files
+        if self.written(self.program, form, world, elements) != self.written(self.plain, form, world):
+            raise Wrong(f"{form} {case} with seed {seed}: the reports differ")
+
+    def abandoned(self, case: Case, seed: int) -> int:
+        """How many attempts a threaded report abandoned. Wrong unless it audits to `yes`."""
+        self.make(case, seed)
+        world, elements, report = self.files
+        report.write_bytes(self.written(self.plain, "run", world))
+        said = self.written(self.program, "audit", world, report, elements).decode(errors="replace").strip()
         if said != "yes":
-            self.stop(f"run {case} with seed {seed}: the audit says {said}", world, report)
+            raise Wrong(f"run {case} with seed {seed}: the audit says {said}")
         last = next(line for line in report.read_bytes().splitlines() if line.startswith(b"abandoned "))
         return int(last.split()[1])
 
-    def stop(self, fault: str, *files: pathlib.Path) -> None:
-        """Ends with a fault, and puts the files where they stay."""
+    def keep(self) -> pathlib.Path:
+        """Puts the files where they stay, and returns the folder."""
         kept = pathlib.Path(tempfile.mkdtemp(prefix="plain-"))
-        for path in (*files, self.elements):
-            path.rename(kept / path.name)
-        sys.exit(f"{fault}; its files are in {kept}")
+        for path in self.files:
+            if path.exists():
+                shutil.move(path, kept)
+        return kept
 
 
-def called(words: list[str | pathlib.Path]) -> bytes:
-    """What a program writes; ends unless its status is 0."""
-    done = subprocess.run(words, capture_output=True)
-    if done.returncode != 0:
-        sys.exit(f"{words[0]} {words[1]} ended with {done.returncode}: {(done.stdout[:200] + done.stderr[:500]).decode()}")
-    return done.stdout
+def compare_all(bench: Bench, seeds: int, threaded: int) -> None:
+    """Compares all reports, and tells how many there were. Wrong at the first that is."""
+    for seed in range(seeds):
+        for form, cases in (("run", ALONE), ("step", STEPPED)):
+            for case in cases:
+                bench.compare(form, case, seed)
+    print(f"{seeds * (len(ALONE) + len(STEPPED))} reports of one order are the same byte for byte", flush=True)
+    abandoned = [bench.abandoned(THREADED[i % len(THREADED)], i) for i in range(threaded)]
+    some = sum(count > 0 for count in abandoned)
+    print(f"{len(abandoned)} threaded reports audit to yes; {some} of them have abandoned attempts, {sum(abandoned)} in all")
 
 
 def main() -> None:
+    """The command."""
     parser = argparse.ArgumentParser(description="Whether the plain program with tiles does what the program does.")
     parser.add_argument("--program", type=pathlib.Path, metavar="PROGRAM", help="another build of the program")
     parser.add_argument("--source", type=pathlib.Path, default=HERE / "plain.rs", metavar="FILE", help="another plain program")
     parser.add_argument("--seeds", type=int, default=3, metavar="N", help="seeds of each stepped world (3)")
     parser.add_argument("--threaded", type=int, default=100, metavar="N", help="threaded reports (100)")
+    parser.add_argument("--timeout", type=float, default=TIMEOUT, metavar="N", help=f"seconds that a call may take ({TIMEOUT})")
     given = parser.parse_args()
-    if not given.program:
-        subprocess.run([HERE.parent / "feast", "check", os.devnull], check=True)
+    end_in_order()
+    program = program_of(given.program)
     with tempfile.TemporaryDirectory() as name:
         folder = pathlib.Path(name)
-        bench = Bench((given.program or PROGRAM).resolve(), build_plain(folder, given.source), folder)
-        for seed in range(given.seeds):
-            for form, cases in (("run", ALONE), ("step", STEPPED)):
-                for case in cases:
-                    bench.same(form, case, seed)
-        print(f"{given.seeds * (len(ALONE) + len(STEPPED))} reports of one order are the same byte for byte", flush=True)
-        abandoned = [bench.audited(THREADED[i % len(THREADED)], i) for i in range(given.threaded)]
-    some = sum(count > 0 for count in abandoned)
-    print(f"{len(abandoned)} threaded reports audit to yes; {some} of them have abandoned attempts, {sum(abandoned)} in all")
+        bench = Bench(program, build_plain(folder, given.source), folder, given.timeout)
+        try:
+            compare_all(bench, given.seeds, given.threaded)
+        except Wrong as fault:
+            sys.exit(f"{fault}; its files are in {bench.keep()}")
 
 
 if __name__ == "__main__":

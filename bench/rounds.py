@@ -19,10 +19,12 @@ from dataclasses import dataclass, field
 from pathlib import Path
 
 TOP = Path(__file__).resolve().parent.parent
-sys.path.insert(0, str(TOP / "tests"))
+sys.path[:0] = [str(TOP / part) for part in ("tools", "tests", "bench")]
 sys.dont_write_bytecode = True
+from children import called, end_in_order  # noqa: E402
 from edit_table import Crate, Node  # noqa: E402
 from edits import edits_of, pairs  # noqa: E402
+from first_call.crates import listed  # noqa: E402
 
 KIT = Path(shutil.which("rattle") or "/opt/rattle/bin/rattle").resolve().parent.parent
 PARTS = ("src", "specs", "proofs")
@@ -34,7 +36,7 @@ RING = re.compile(r"#\[cycle\((\w+)\)\]\s*(?:#\[[^\n]*\s*)*(?:pub(?:\([^)]*\))?\
 
 
 class Fault(Exception):
-    """Why edits can't be made together."""
+    """Why edits can't be tried, or can't be made together."""
 
 
 @dataclass(frozen=True)
@@ -77,26 +79,30 @@ class Checks:
             if self.seed:
                 shutil.copytree(self.seed, folder / "kept", symlinks=True)
                 words += ["--incremental", "kept"]
-            before = resource.getrusage(resource.RUSAGE_CHILDREN).ru_utime
-            done = subprocess.run(words, cwd=folder, stdin=subprocess.DEVNULL, stdout=subprocess.PIPE,
-                                  stderr=subprocess.STDOUT, text=True, errors="replace", check=False)
-        self.took.append(resource.getrusage(resource.RUSAGE_CHILDREN).ru_utime - before)
+            before = spent()
+            done = called(words, folder, err=subprocess.STDOUT)
+        self.took.append(spent() - before)
         print(f"{self.took[-1]:7.1f} s {self.crate} {name}", file=sys.stderr, flush=True)
-        return done.returncode, done.stdout
+        return done.returncode, done.stdout.decode(errors="replace")
 
 
-def uses() -> dict[str, list[str]]:
-    """The libraries that each crate uses, by crates.txt."""
-    lines = [line.partition("#")[0].strip() for line in (TOP / "crates.txt").read_text().splitlines()]
-    return {name.split()[0]: below.split() for name, _, below in (line.partition(":") for line in lines if line)}
+def spent() -> float:
+    """The seconds for which processes had a processor that this one has waited for."""
+    used = resource.getrusage(resource.RUSAGE_CHILDREN)
+    return used.ru_utime + used.ru_stime
 
 
 def words_of(crate: str) -> list[str]:
-    """The words of a check of a crate, over the libraries as they were built last."""
-    used, every = uses(), [crate]
+    """The words of a check of a crate, over the libraries as they were built last. Fault if there is no such crate, or one
+    of the libraries isn't built."""
+    used, every = listed(TOP), [crate]
+    if crate not in used:
+        raise Fault(f"crates.txt has no crate {crate}")
     for name in every:
         every += [it for it in used[name] if it in used and it not in every]
     rlib = {name: TOP / "crates" / name / "out/rlib" for name in used}
+    if missing := [name for name in every[1:] if not (rlib[name] / f"{name}.rlib").is_file()]:
+        raise Fault(f"{crate} is checked over libraries that aren't built: {', '.join(missing)}; check {crate} first")
     main = "src/main.rt" if (TOP / "crates" / crate / "src/main.rt").is_file() else "src/lib.rt"
     words = ["--crate-name", crate, main, "-L", f"dependency={KIT}/rlibs"]
     for name in ["std", *used[crate]]:
@@ -107,10 +113,18 @@ def words_of(crate: str) -> list[str]:
     return [*words, *logic, "--jobs", "1"]
 
 
+def kept_by(crate: str) -> Path:
+    """The folder of what the last check of a crate kept. Fault if there is none."""
+    folder = TOP / "crates" / crate / "out/incremental"
+    if not folder.is_dir():
+        raise Fault(f"no check of {crate} has kept anything: check it first, or begin from nothing with --whole")
+    return folder
+
+
 def path_of(node: Node) -> str:
     """A function's path below its crate: its module, its type with a trait, and its name."""
     module = [] if node.file in ("lib.rt", "main.rt") else [node.file.removesuffix(".rt")]
-    owner = [rf"{node.owner.name}{node.owner.trait}"] if node.owner.name else []
+    owner = [f"{node.owner.name}{node.owner.trait}"] if node.owner.name else []
     return "::".join([*module, *owner, node.name])
 
 
@@ -229,9 +243,12 @@ def main() -> int:
     parser.add_argument("--whole", action="store_true", help="from nothing, and not over what the last check kept")
     parser.add_argument("--only", action="store_true", help="check only the edited functions and what they call")
     given = parser.parse_args()
+    end_in_order()
+    try:
+        checks = Checks(given.crate, words_of(given.crate), None if given.whole else kept_by(given.crate))
+    except Fault as fault:
+        parser.error(str(fault))
     crate = Crate(given.crate)
-    kept = None if given.whole else TOP / "crates" / given.crate / "out/incremental"
-    checks = Checks(given.crate, words_of(given.crate), kept)
     if checks.check("as it stands", {}, [])[0] != 0:
         sys.exit(f"{given.crate} is not proved as it stands")
     found = tried(crate, checks, read_edits(crate), given.only)

@@ -8,6 +8,7 @@ See README.md beside this file.
 from __future__ import annotations
 
 import argparse
+import os
 import pathlib
 import subprocess
 import sys
@@ -18,22 +19,44 @@ from typing import NamedTuple
 sys.path.insert(0, str(pathlib.Path(__file__).resolve().parent))
 sys.dont_write_bytecode = True
 from calls import Words  # noqa: E402
+from children import called  # noqa: E402
 from worlds import ATTEMPTS, ELEMENTS, world  # noqa: E402
 
 HERE = pathlib.Path(__file__).resolve().parent
 CRATE = HERE.parent / "crates/feast"
 PROGRAM = CRATE / "out/feast"
+# a call of the program that ends well, and does next to nothing
+EASY = ["check", os.devnull]
 
 
 def build(crate: pathlib.Path) -> None:
-    """Proves and builds the program of a crate, as far as that is still to be done."""
-    subprocess.run(["rt", "run"], cwd=crate, stdin=subprocess.DEVNULL, capture_output=True)
+    """Proves and builds the program of a crate, as far as that is still to be done, and calls it once with words that it
+    takes. Ends if that fails; the toolchain tells why."""
+    ends_well(["rt", "run", *(["--", *EASY] if crate == CRATE else [])], crate)
+
+
+def program_of(named: pathlib.Path | None = None) -> pathlib.Path:
+    """A program that is named, or else that of ./feast, built as far as that is still to be done. Ends if it can't be built."""
+    if named is None:
+        # (with FEAST_PROGRAM, ./feast would run another program, and build none)
+        ends_well(["env", "-u", "FEAST_PROGRAM", HERE.parent / "feast", *EASY], HERE.parent)
+    return (named or PROGRAM).resolve()
+
+
+def ends_well(words: Words, folder: pathlib.Path) -> None:
+    """Makes a call in a folder, which tells what it does. Ends unless its status is 0."""
+    try:
+        status = called(words, folder, sys.stderr.buffer, sys.stderr.buffer).returncode
+    except OSError as why:
+        sys.exit(f"{words[0]} can't be called: {why}")
+    if status != 0:
+        sys.exit(f"{' '.join(map(str, words))} ended with {status}, in {folder}")
 
 
 def build_plain(folder: pathlib.Path, source: pathlib.Path = HERE / "flat.rs") -> pathlib.Path:
     """Builds a plain program, that of one tile unless another is named, and returns its path."""
     plain = folder / source.stem
-    subprocess.run(["rustc", "--edition", "2021", "-O", "-C", "target-cpu=x86-64-v2", source, "-o", plain], check=True)
+    ends_well(["rustc", "--edition", "2021", "-O", "-C", "target-cpu=x86-64-v2", source, "-o", plain], pathlib.Path.cwd())
     return plain
 
 

@@ -23,7 +23,7 @@ class Child(subprocess.Popen[bytes]):
     """A command in a session of its own, which takes no input. Its errors go where its output goes, unless a file is given
     for them."""
 
-    def __init__(self, words: Sequence[str], folder: Path, out: IO[bytes], err: IO[bytes] | int = subprocess.STDOUT) -> None:
+    def __init__(self, words: Sequence[str], folder: Path, out: IO[bytes] | int, err: IO[bytes] | int = subprocess.STDOUT) -> None:
         super().__init__(words, cwd=folder, stdin=subprocess.DEVNULL, stdout=out, stderr=err, start_new_session=True)
 
     def give_way(self) -> None:
