@@ -43,10 +43,17 @@ mod tile;
 #[path = "plain/world.rs"]
 mod world;
 
+const USAGE: &str = "the words are: run|step WORLD";
+
 fn main() {
     let words: Vec<String> = std::env::args().skip(1).collect();
-    let [form, path, ..] = &words[..] else { panic!("run|step WORLD") };
+    let [form, path, ..] = &words[..] else { panic!("{USAGE}") };
+    let is_stepped = match form.as_str() {
+        "run" => false,
+        "step" => true,
+        _ => panic!("{USAGE}"),
+    };
     let mut world = world::World::read(&std::fs::read(path).expect("a world that can be read"));
-    let logs = world.run(form == "step");
+    let logs = world.run(is_stepped);
     report::put(&world, &logs).expect("standard output");
 }

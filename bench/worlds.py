@@ -90,8 +90,8 @@ class Example:
         known = [line.split() for line in (EXAMPLES / f"{self.name}.world").read_text().splitlines()]
         columns, rows = next((int(line[1]), int(line[2])) for line in known if line[:1] == ["size"])
         lines = ["feast 1", f"tiles {tiles} {tiles}", f"size {side} {side}", "seed 7", f"attempts {attempts // tiles**2}"]
-        for top in range(0, tiles * side, rows):
-            for left in range(0, tiles * side, columns):
+        for top in range(0, tiles * side - rows + 1, rows):
+            for left in range(0, tiles * side - columns + 1, columns):
                 atoms = (line for line in known if line[:1] == ["atom"])
                 lines += [f"atom {left + int(x)} {top + int(y)} {' '.join(atom)}" for _, x, y, *atom in atoms]
         return "\n".join(lines) + "\n"
