@@ -6,10 +6,15 @@ import shutil
 from typing import Callable, Iterator
 
 from calls import Failed, Used, Words, in_turn, made
-from check import source_files
-from worlds import HORDE, LIFE, SIDE, SORTERS, WALKER, WANDERERS, Mix, lines_of_tries, world
+from check import CLASSES, FILES, source_files
+from reports import events_of, placed, start_of
+from worlds import ATTEMPTS, HORDE, LIFE, SIDE, SORTERS, WALKER, WANDERERS, Mix, lines_of_tries, world
 
 ORDER = "order seed 9\n"
+
+
+# the digits that a figure is shown with, behind the point
+DIGITS = 2
 
 
 @dataclasses.dataclass(frozen=True)
@@ -20,7 +25,8 @@ class Aim:
     at_most: bool = True
 
     def shown(self, figure: float) -> str:
-        """The aim, and whether the figure reaches it."""
+        """The aim, and whether the figure reaches it as it is shown."""
+        figure = round(figure, DIGITS)
         reached = figure <= self.bound if self.at_most else figure >= self.bound
         return f"{'at most' if self.at_most else 'at least'} {self.bound:g}: {'reached' if reached else 'missed'}"
 
@@ -42,7 +48,7 @@ class Line:
 
     def shown(self) -> str:
         """The line as a row of a table."""
-        figure = "" if self.figure is None else f"{self.figure:.2f} {self.unit}"
+        figure = "" if self.figure is None else f"{self.figure:.{DIGITS}f} {self.unit}"
         aim = "" if self.aim is None or self.figure is None else self.aim.shown(self.figure)
         return f"| {self.work} | {self.used} | {self.beside} | {figure} | {aim} |"
 
@@ -78,20 +84,38 @@ class Bench:
         """The elements of worlds."""
         return self.file("elements", mix.text)
 
+    def absolute(self, bound: float) -> Aim | None:
+        """What seconds or megabytes are to be at most; only where all attempts are made can that be judged."""
+        return Aim(bound) if self.attempts == ATTEMPTS else None
+
+    def text(self, words: Words) -> bytes:
+        """What a call writes."""
+        made(words, self.folder / "text")
+        return (self.folder / "text").read_bytes()
+
     def same(self, ours: Words, theirs: Words) -> None:
         """Fails unless both programs write the same report."""
-        for words, name in ((ours, "ours"), (theirs, "theirs")):
-            made(words, self.folder / name)
-        if (self.folder / "ours").read_bytes() != (self.folder / "theirs").read_bytes():
+        if self.text(ours) != self.text(theirs):
             raise Failed(f"the reports of {ours[0]} and {theirs[0]} differ")
 
-    def audited(self, where: pathlib.Path, theirs: Words, elements: pathlib.Path) -> None:
-        """Fails unless the report that the plain program's threads make audits to `yes`."""
-        report, verdict = self.folder / "theirs", self.folder / "verdict"
-        made(theirs, report)
-        made([self.program, "audit", where, report, elements], verdict)
-        if verdict.read_text() != "yes\n":
-            raise Failed(f"the audit of the plain program's report says {verdict.read_text().strip()}")
+    def wrote(self, words: Words, wanted: bytes) -> None:
+        """Fails unless a call writes this text."""
+        if (text := self.text(words)) != wanted:
+            raise Failed(f"{shown(words)} writes {text[:60]!r}.., {len(text)} bytes, and not {wanted[:60]!r}.., {len(wanted)} bytes")
+
+    def audited(self, words: Words, elements: pathlib.Path) -> pathlib.Path:
+        """The report that a call makes of a world, its third word. Fails unless it audits to `yes`."""
+        report = self.folder / "report"
+        made(words, report)
+        said = self.text([self.program, "audit", words[2], report, elements])
+        if said != b"yes\n":
+            raise Failed(f"the audit of what {shown(words)} writes says {said[:200].decode(errors='replace').strip()}")
+        return report
+
+
+def shown(words: Words) -> str:
+    """A call as it is told: the program and the form."""
+    return " ".join(map(str, words[:2]))
 
 
 def beside(name: str, used: Used) -> str:
@@ -129,7 +153,8 @@ def compared(bench: Bench, tiles: int, mix: Mix, work: str, aims: Aims) -> Itera
         "alone": [bench.program, "run", alone, elements],
     }
     bench.same(calls["alone"], [bench.plain, "run", alone])
-    bench.audited(many, calls["plain"], elements)
+    for name in ("ours", "plain"):
+        bench.audited(calls[name], elements)
     used = in_turn(calls, bench.rounds)
     ours = used["ours"]
     yield Line(work, ours.shown(), beside("plain.rs", used["plain"]), ours.seconds / used["plain"].seconds, "times its time", aims.price)
@@ -139,7 +164,7 @@ def compared(bench: Bench, tiles: int, mix: Mix, work: str, aims: Aims) -> Itera
 
 def many_tiles(bench: Bench) -> Iterator[Line]:
     """Threaded runs with one site in four taken."""
-    for tiles, aims in ((2, Aims(Aim(1.1), at_least(1.5))), (8, Aims(Aim(1.1), at_least(1.2), Aim(60)))):
+    for tiles, aims in ((2, Aims(Aim(1.1), at_least(1.5))), (8, Aims(Aim(1.1), at_least(1.2), bench.absolute(60)))):
         yield from compared(bench, tiles, WANDERERS, f"run, {tiles} by {tiles} tiles", aims)
 
 
@@ -147,7 +172,8 @@ def small_tiles(bench: Bench) -> Iterator[Line]:
     """A threaded run of smaller tiles, beside the plain program with tiles."""
     elements, where = bench.elements(), bench.world(4, side=16)
     calls: dict[str, Words] = {"ours": [bench.program, "run", where, elements], "plain": [bench.plain, "run", where]}
-    bench.audited(where, calls["plain"], elements)
+    for words in calls.values():
+        bench.audited(words, elements)
     used = in_turn(calls, bench.rounds)
     ratio = used["ours"].seconds / used["plain"].seconds
     work = "run, 4 by 4 tiles of 16 by 16 sites"
@@ -161,6 +187,8 @@ def examples(bench: Bench) -> Iterator[Line]:
         many = bench.file("world-2", example.repeated(2, 32, bench.attempts))
         alone = bench.file("world-1", example.repeated(1, 64, bench.attempts))
         calls: dict[str, Words] = {"ours": [bench.program, "run", many, elements], "alone": [bench.program, "run", alone, elements]}
+        for words in calls.values():
+            bench.audited(words, elements)
         used = in_turn(calls, bench.rounds)
         rate = used["alone"].seconds / used["ours"].seconds
         work = f"run, {example.name}, 2 by 2 tiles of 32 by 32 sites"
@@ -180,6 +208,8 @@ def workers(bench: Bench) -> Iterator[Line]:
     for tiles in (2, 8):
         busy: Words = [bench.program, "run", bench.world(tiles), elements]
         idle: Words = [bench.program, "run", bench.idle_world(tiles), elements]
+        for words in (busy, idle):
+            bench.audited(words, elements)
         on_one: Words = [taskset, "-c", str(bench.processors[0])]
         calls = {"busy": busy, "idle": idle, "busy on one": [*on_one, *busy], "idle on one": [*on_one, *idle]}
         used = in_turn(calls, bench.rounds)
@@ -209,21 +239,25 @@ def stepped(bench: Bench) -> Iterator[Line]:
 def audits(bench: Bench) -> Iterator[Line]:
     """An audit of 64 tiles of 8 by 8 sites without atoms, whose tiles made their attempts one after another."""
     where, elements = bench.file("tries", lines_of_tries(8, attempts=bench.attempts)), bench.file("walker", WALKER)
-    report = bench.folder / "report"
-    made([bench.program, "step", where, elements], report)
+    report = bench.audited([bench.program, "step", where, elements], elements)
     used = in_turn({"audit": [bench.program, "audit", where, report, elements]}, bench.rounds)["audit"]
-    yield Line("audit, 64 tiles", used.shown(), "", used.seconds, "s", Aim(0.6))
+    yield Line("audit, 64 tiles", used.shown(), "", used.seconds, "s", bench.absolute(0.6))
 
 
 def rewinds(bench: Bench) -> Iterator[Line]:
     """A rewind of a report of four tiles to its start, and to its first 1,000 records."""
-    where, elements, report = bench.world(2), bench.elements(), bench.folder / "report"
-    made([bench.program, "step", where, elements], report)
+    where, elements = bench.world(2), bench.elements()
+    report = bench.audited([bench.program, "step", where, elements], elements)
+    begun = bench.folder / "begun"
+    begun.write_bytes(events_of(report.read_bytes(), 1000))
+    wanted = {"0": start_of(where.read_text()), "1000": bench.text([bench.program, "replay", where, begun, elements])}
     calls: dict[str, Words] = {
-        f"rewind to record {count}": [bench.program, "rewind", where, report, count, elements] for count in ("0", "1000")
+        f"rewind to record {count}": [bench.program, "rewind", where, report, count, elements] for count in wanted
     }
+    for words, text in zip(calls.values(), wanted.values()):
+        bench.wrote(words, text)
     for work, used in in_turn(calls, bench.rounds).items():
-        aims = (Aim(0.5), Aim(150)) if work == "rewind to record 0" else (None, None)
+        aims = (bench.absolute(0.5), bench.absolute(150)) if work == "rewind to record 0" else (None, None)
         yield Line(work, used.shown(), "", used.seconds, "s", aims[0])
         yield Line(f"{work}, memory", used.shown(), "", used.megabytes, "MB", aims[1])
 
@@ -232,8 +266,13 @@ def others(bench: Bench) -> Iterator[Line]:
     """Element files of 1 MB, and a report that is read again, of four tiles stepped."""
     files = source_files(bench.folder)
     calls: dict[str, Words] = {f"{form}, 1 MB in {len(files)} files": [bench.program, form, *files] for form in ("check", "code")}
-    where, elements, report = bench.world(2), bench.elements(), bench.folder / "report"
-    made([bench.program, "step", where, elements], report)
+    for words in calls.values():
+        told = bench.text(words).splitlines()
+        if sum(line.startswith(b"element ") for line in told) != FILES * CLASSES:
+            raise Failed(f"{shown(words)} doesn't tell of {FILES * CLASSES} elements")
+    where, elements = bench.world(2), bench.elements()
+    report = bench.audited([bench.program, "step", where, elements], elements)
+    bench.wrote([bench.program, "replay", where, report, elements], placed(report.read_bytes()))
     calls |= {
         "replay": [bench.program, "replay", where, report, elements],
         "audit, four tiles": [bench.program, "audit", where, report, elements],
