@@ -9,7 +9,7 @@ In crates/*/src and crates/*/specs, comments and texts apart, the numbers of NUM
 that they are, and elsewhere as often as EXCEPTIONS says, no more and no less. `--list` shows where.
 
 tools/lab/limits.py has limits by the names and with the numbers of the table, each once, and none that no other file
-uses. No other Python file gives one of these names a number, but for those of APART.
+uses. No other Python file gives one of these names a value, but for those of APART.
 """
 from __future__ import annotations
 
@@ -63,6 +63,8 @@ NO_LIMITS = {
 LITERAL = re.compile(r"(?<![\w'])(0x[0-9a-fA-F_]+|0o[0-7_]+|0b[01_]+|[0-9][0-9_]*)(?:[iu](?:8|16|32|64|128|size))?(?![\w'])")
 IMPORT = re.compile(r"^from lab\.limits import (\([^)]*\)|[^\n]*)", re.MULTILINE)
 MODULE = TOP / "tools/lab/limits.py"
+# The folders that have Python, beside the scripts at the top.
+PYTHON = ("tools", "tests", "bench", "editors")
 # The Python that is written apart from the rest, and so has limits of its own.
 APART = {"tests/models/plane.py", "tests/hostile/reading.py", "tests/hostile/base_model.py"}
 
@@ -201,25 +203,44 @@ def module() -> list[tuple[str, object]]:
     """The names that the module of Python gives to values, each with its value."""
     found: list[tuple[str, object]] = []
     for statement in ast.parse(MODULE.read_text()).body:
-        if isinstance(statement, ast.Assign):
+        if isinstance(statement, (ast.Assign, ast.AnnAssign)):
             value = statement.value.value if isinstance(statement.value, ast.Constant) else None
-            found += [(ast.unparse(target), value) for target in statement.targets]
+            targets = statement.targets if isinstance(statement, ast.Assign) else [statement.target]
+            found += [(ast.unparse(target), value) for target in targets]
     return found
 
 
-def given(path: pathlib.Path) -> set[str]:
-    """The names that a Python file gives to numbers at its left margin."""
-    pairs = re.findall(r"^([A-Z][A-Z0-9_, ]*) = ([\d_, ]+)$", path.read_text(), re.MULTILINE)
-    return {name for names, _ in pairs for name in names.split(", ")}
+def python_files() -> Iterator[pathlib.Path]:
+    """The files of Python but for the module: those that end so, and the scripts that say so in their first line."""
+    below = [path for folder in PYTHON for path in sorted((TOP / folder).rglob("*"))]
+    for path in [*sorted(TOP.iterdir()), *below]:
+        if path.is_file() and path != MODULE and (path.suffix == ".py" or is_script(path)):
+            yield path
+
+
+def is_script(path: pathlib.Path) -> bool:
+    """Whether the first line of a file has it run by Python."""
+    with path.open("rb") as file:
+        return file.read(2) == b"#!" and b"python" in file.readline()
+
+
+def given(text: str) -> set[str]:
+    """The names that a text in Python gives to values, anywhere in it and whatever these are."""
+    targets: list[ast.expr] = []
+    for node in ast.walk(ast.parse(text)):
+        if isinstance(node, ast.Assign):
+            targets += node.targets
+        elif isinstance(node, (ast.AnnAssign, ast.AugAssign, ast.NamedExpr)):
+            targets.append(node.target)
+    return {name.id for target in targets for name in ast.walk(target) if isinstance(name, ast.Name)}
 
 
 def python_faults(limits: list[Limit]) -> Iterator[str]:
     """What the module of Python has otherwise than the table, or twice, or for nobody; and what stands beside it."""
     numbers = {limit.name: limit.number for limit in limits}
     mine = module()
-    scripts = [path for folder in ("tools", "tests", "bench") for path in sorted((TOP / folder).rglob("*.py")) if path != MODULE]
-    texts = [path.read_text() for path in scripts]
-    used = {word for text in texts for names in IMPORT.findall(text) for word in re.findall(r"\w+", names)}
+    texts = {str(path.relative_to(TOP)): path.read_text() for path in python_files()}
+    used = {word for text in texts.values() for names in IMPORT.findall(text) for word in re.findall(r"\w+", names)}
     for name, value in mine:
         if numbers.get(name) != value:
             yield f"tools/lab/limits.py: `{name}` is {value}, and in docs/formats.md {numbers.get(name)}"
@@ -227,7 +248,7 @@ def python_faults(limits: list[Limit]) -> Iterator[str]:
             yield f"tools/lab/limits.py: `{name}` stands there several times"
         if name not in used:
             yield f"tools/lab/limits.py: `{name}` is used nowhere"
-    own = {str(path.relative_to(TOP)): sorted(given(path) & set(numbers)) for path in scripts}
+    own = {path: sorted(given(text) & set(numbers)) for path, text in texts.items()}
     for path, names in own.items():
         if names and path not in APART:
             yield f"{path}: {', '.join(names)}: tools/lab/limits.py has the limits"
