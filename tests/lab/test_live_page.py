@@ -92,19 +92,32 @@ class Regulator(LivePage):
                                  f"exec {program()} \"$@\"\n")
         slow.chmod(0o755)
         live = self.living(self.chain, WORLD, ELEMENTS, instead=slow)
+        leg, atoms = self.plays_and_pauses(live)
+        self.takes_acts(leg)
+        self.forks(live, leg, atoms)
+        self.is_killed(live)
+        self.goes_on(leg)
+        for chain in (self.chain, self.room / "chain-fork1"):
+            self.assertEqual(self.passes("chain", "--audit", chain), "yes\n")
+        self.film_shows(leg)
+
+    def plays_and_pauses(self, live: Living) -> tuple[int, films.Plane]:
+        """Some legs, and the leg at which the page rests with its atoms, which it shows."""
         self.shows(live)
         self.assertEqual(self.text("play"), "Play")
         self.browser.press(" ")
         self.browser.wait(f"{LEG} >= 3")
         self.press_button("play")
         self.browser.wait("document.getElementById('play').textContent === 'Play'")
-        leg = live.shot()["leg"]
+        leg: int = live.shot()["leg"]
         self.browser.wait(f"{LEG} === {leg}")
         atoms = films.plane_of((self.chain / f"{leg:04}.atoms").read_text().splitlines()[2:])
         self.shown_plane(atoms)
         self.picture("live-pause")
+        return leg, atoms
 
-        # a brush, a rectangle, damage, and one act taken back
+    def takes_acts(self, leg: int) -> None:
+        """A brush, a rectangle, damage, and one act taken back."""
         self.tool("paint")
         self.set("element", "Regulator")
         self.over((1, 1), (5, 1))
@@ -127,7 +140,8 @@ class Regulator(LivePage):
         self.waits(3)
         self.picture("live-hands")
 
-        # a fork, and one leg
+    def forks(self, live: Living, leg: int, atoms: films.Plane) -> None:
+        """A fork, and one leg, which begins with what the acts made of the atoms."""
         self.press_button("fork")
         self.browser.wait("document.getElementById('said').textContent.includes('is copied to chain-fork1')")
         self.press_button("leg")
@@ -139,7 +153,8 @@ class Regulator(LivePage):
         before = {site for site in atoms if site[0] < 8 and site[1] >= 8}
         self.assertTrue({site for site in begun if site[0] < 8 and site[1] >= 8} <= before)
 
-        # killed in the midst of a leg
+    def is_killed(self, live: Living) -> None:
+        """The chain is killed in the midst of a leg, and the page says so."""
         (self.room / "now").touch()
         self.press_button("play")
         while not (self.room / "there").exists():
@@ -147,6 +162,9 @@ class Regulator(LivePage):
         live.ends(signal.SIGKILL)
         (self.room / "now").unlink()
         self.browser.wait("document.getElementById('fault').textContent.includes('has ended')")
+
+    def goes_on(self, leg: int) -> None:
+        """The chain goes on after the last leg that it ended."""
         again = self.living(self.chain, WORLD, ELEMENTS)
         self.shows(again)
         self.browser.wait(f"{LEG} === {leg + 1}")
@@ -157,10 +175,6 @@ class Regulator(LivePage):
         self.assertEqual(self.browser.value("document.getElementById('fault').hidden"), True)
         self.picture("live-again")
         self.assertEqual(again.ends(signal.SIGINT)[0], 0)
-
-        for chain in (self.chain, self.room / "chain-fork1"):
-            self.assertEqual(self.passes("chain", "--audit", chain), "yes\n")
-        self.film_shows(leg)
 
     def film_shows(self, leg: int) -> None:
         """The film of the chain shows the acts in their frame."""

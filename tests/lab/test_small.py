@@ -142,7 +142,7 @@ class Places(SmallCase):
     def reader(self, source: Path | int, got: Path) -> Iterator[None]:
         """Copies what comes out of a pipe or a device to a file, for as long as something has it open, or a minute."""
         with got.open("wb") as out:
-            words = ["cat"] if isinstance(source, int) else ["cat", source]
+            words = ["cat", *([] if isinstance(source, int) else [str(source)])]
             reads = subprocess.Popen(words, stdin=source if isinstance(source, int) else None, stdout=out, stderr=subprocess.DEVNULL)
         try:
             yield
