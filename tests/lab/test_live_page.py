@@ -32,6 +32,18 @@ FIRST_IS_LATE = """(() => {
     return answer;
   };
 })()"""
+# The page fails once to show what an order has come to; `failed` says whether it has.
+SHOW_FAILS = """(() => {
+  const { show } = LivePage.prototype;
+  window.failed = false;
+  LivePage.prototype.show = function () {
+    if (!window.failed && new Error().stack.includes('.give')) {
+      window.failed = true;
+      throw new Error('not this time');
+    }
+    show.call(this);
+  };
+})()"""
 BLUE, ORANGE = "#0072b2", "#e69f00"
 
 
@@ -231,6 +243,18 @@ class Others(LivePage):
         self.assertEqual(self.counts(), {"Regulator": 4, "Resource": 3, "Guest": 0})
         offered = self.browser.value("[...document.getElementById('element').options].map((it) => it.value)")
         self.assertEqual(offered, ["Regulator", "Resource", "Guest"])
+
+    def test_orders_after_a_failure(self) -> None:
+        """An order after which the page can't show the chain is told of, and those behind it are given."""
+        live = self.living("--step", self.chain, WORLD, ELEMENTS)
+        self.shows(live)
+        self.browser.value(SHOW_FAILS)
+        self.press_button("fork")
+        self.browser.wait("window.failed")
+        self.browser.wait("document.getElementById('fault').textContent === 'The page could not show the chain: not this time.'")
+        self.press_button("leg")
+        self.browser.wait(f"{LEG} === 1")
+        self.assertTrue(self.browser.value("document.getElementById('fault').hidden"))
 
     def test_members(self) -> None:
         """An element is painted with values of its members, and a click shows them."""

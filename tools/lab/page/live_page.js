@@ -37,7 +37,8 @@ class LivePage extends Page {
   /** Gives an order when those before it are answered. The sites that it is of are marked until it is answered itself. */
   order(order, sites = []) {
     this.sent.add(sites);
-    this.before = this.before.then(() => this.give(order, sites));
+    this.before = this.before.then(() => this.give(order, sites))
+      .catch((cause) => this.say('fault', `The page could not show the chain: ${cause.message}.`));
   }
 
   /** Gives an order; what comes of it, or why it is refused, is said in the page. */
@@ -49,8 +50,9 @@ class LivePage extends Page {
       if (said !== '' && answer.ok) this.say('said', said);
     } catch (cause) {
       this.say('fault', 'The chain does not answer: ./lab live has ended.');
+    } finally {
+      this.sent.delete(sites);
     }
-    this.sent.delete(sites);
     this.show();
   }
 
