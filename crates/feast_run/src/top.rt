@@ -32,7 +32,12 @@ fn put_text<K: Sink>(sink: &mut K, text: &[u8]) -> Result<(), WriteFault>
 }
 
 /// Writes an output: a text in one piece, a report in pieces.
-fn write<K: Sink>(alloc: Global, sink: &mut K, output: &Output) -> Result<(), WriteFault>
+fn write<R: Threads + Sync, K: Sink>(
+    rt: &R,
+    alloc: Global,
+    sink: &mut K,
+    output: &Output,
+) -> Result<(), WriteFault>
     requires room { (K.state sink.old).faults < 2 ^ 64 - 1 }
     requires writable { IsWritable output.now }
     ensures { Writes (K.state sink.old) (K.state sink.new) (output_text output.now) result }
@@ -41,6 +46,7 @@ fn write<K: Sink>(alloc: Global, sink: &mut K, output: &Output) -> Result<(), Wr
         Output::Text(text) => put_text(sink, text.as_slice()),
         Output::Report(finished) => {
             write_report(
+                rt,
                 alloc,
                 &finished.grid,
                 &finished.journal,
@@ -52,12 +58,12 @@ fn write<K: Sink>(alloc: Global, sink: &mut K, output: &Output) -> Result<(), Wr
 }
 
 /// Writes a reply, and answers its status if it is put whole.
-fn put<K: Sink>(alloc: Global, sink: &mut K, reply: &Reply) -> Status
+fn put<R: Threads + Sync, K: Sink>(rt: &R, alloc: Global, sink: &mut K, reply: &Reply) -> Status
     requires room { (K.state sink.old).faults < 2 ^ 64 - 1 }
     requires writable { IsWritable reply.now.output }
     ensures { PutWith reply.now (change K.state sink.old sink.new) result }
 {
-    match write(alloc, sink, &reply.output) {
+    match write(rt, alloc, sink, &reply.output) {
         Ok(()) => reply.status,
         Err(WriteFault::Sink) => Status::SinkFault,
         Err(WriteFault::NoMemory) => Status::NoMemory,
@@ -78,7 +84,7 @@ fn call<R: Threads + Sync, F: Shelf, K: Sink, G: Gate>(
     ensures ends { Ends (form_of_words words.now) (change F.state shelf.old shelf.new) (change K.state sink.old sink.new) result }
 {
     match reply_to_words(rt, alloc, shelf, words, gate) {
-        Ok(reply) => put(alloc, sink, &reply),
+        Ok(reply) => put(rt, alloc, sink, &reply),
         Err(NoMemory) => Status::NoMemory,
     }
 }
@@ -133,7 +139,8 @@ fn call<R: Threads + Sync, F: Shelf, K: Sink, G: Gate>(
 ///
 /// The shelf appends to its failed names only a file word whose load failed. On `run` and `runpack`
 /// each worker calls the gate before each attempt, with the tile's number and the attempt's, and if
-/// its tile is far ahead of another it rests there. The other forms call no gate and start no thread.
+/// its tile is far ahead of another it rests there. The other forms call no gate, and start no thread
+/// but to print the events of a report that has more than 20,000 of them.
 pub fn feast<R: Threads + Sync, F: Shelf, K: Sink, G: Gate>(
     rt: &R,
     alloc: Global,

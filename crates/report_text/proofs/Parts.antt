@@ -1,5 +1,5 @@
 -- Parts of a text that are put one after another.
-use Rattle.std.proofs.Common.{ℕ, ◌≡◌, ◌+◌, ◌<◌, List, [], ◌∷◌, ◌++◌, drop, get_or, length, set, sym, ap, arith, ◌∙◌}
+use Rattle.std.proofs.Common.{ℕ, ◌≡◌, ◌+◌, ◌<◌, List, [], ◌++◌, drop, get_or, length, set, sym, ap, arith, ◌∙◌}
 use Rattle.std.proofs.lemmas.List.{at_drop_more, drop-set-lt}
 use lib.Seq.{drop-drop}
 use Rattle.event_journal.specs.Merged.{concat}
