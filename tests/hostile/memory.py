@@ -161,11 +161,18 @@ def amplified(bench: Bench) -> None:
 
 
 def ordinary(bench: Bench) -> Iterator[Job]:
-    """Jobs with an element file of every form of the language, and with what they write."""
+    """Jobs with an element file of every form of the language, one of them with a report that threads print, and with
+    what they write."""
     file = element(ELEMENT)
     plane = world(b"feast 1\ntiles 2 2\nsize 8 8\nseed 7\nattempts 4\natom 7 7 Counter " + STATE + b"\norder seed 9\n")
-    for words, files in ((["check", "e"], [file]), (["code", "e"], [file]), (["step", "w", "e"], [plane, file])):
-        job = Job(f"{words[0]} of an ordinary file", words, files, None)
+    many = world(b"feast 1\ntiles 1 1\nsize 8 8\nseed 7\nattempts 20001\n")
+    for name, words, files in (
+        ("check of", ["check", "e"], [file]),
+        ("code of", ["code", "e"], [file]),
+        ("step of", ["step", "w", "e"], [plane, file]),
+        ("many events of", ["step", "w", "e"], [many, file]),
+    ):
+        job = Job(f"{name} an ordinary file", words, files, None)
         lay(bench, job)
         answer = bench.call(job.words)
         bench.expect(job.name, answer, DONE, None)

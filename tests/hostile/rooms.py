@@ -3,7 +3,8 @@
 A call has all its memory when it writes its answer: a pipe that is full keeps it there, and the system tells the most
 address space that it has had. That must be what the formula says, to a tenth, so room that is asked for twice is seen.
 In a tenth more than the formula says the call ends well, and in a quarter less it ends for want of memory and has
-put nothing. Runs of several tiles are left out, since each of their threads has a stack.
+put nothing. Runs of several tiles are left out, since each of their threads has a stack; and all is done on one
+processor, where no threads print a report.
 """
 from __future__ import annotations
 
@@ -113,6 +114,16 @@ def rooms_of(attempts: int) -> Iterator[Room]:
 
 
 def rooms(bench: Bench) -> None:
+    """The rooms of calls, on one processor."""
+    processors = os.sched_getaffinity(0)
+    os.sched_setaffinity(0, {min(processors)})
+    try:
+        rooms_here(bench)
+    finally:
+        os.sched_setaffinity(0, processors)
+
+
+def rooms_here(bench: Bench) -> None:
     """Each of these calls, and those that write code."""
     bench.write("e", WALKER)
     bench.write("c", PACKED)

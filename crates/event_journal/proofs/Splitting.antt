@@ -1,5 +1,5 @@
 -- Lists of records that are cut at a stamp, each in two parts.
-use Rattle.std.proofs.Common.{ℕ, suc, ◌≡◌, ◌≢◌, ◌≤◌, ◌<◌, ◌+◌, ◌==◌, Bool, true, false, List, [], ◌∷◌, ◌++◌, All, length, take, drop, get_or, set, refl, sym, ap, subst, arith, ◌∙◌, ◌⊎◌, inl, inr, ⊎_elim, lt-ltb, ltb-true, eqb-true}
+use Rattle.std.proofs.Common.{ℕ, suc, ◌≡◌, ◌≢◌, ◌≤◌, ◌<◌, ◌+◌, ◌==◌, Bool, true, false, List, [], ◌∷◌, ◌++◌, All, length, take, drop, get_or, set, refl, sym, ap, subst, arith, ◌∙◌, inl, inr, ⊎_elim, lt-ltb, ltb-true, eqb-true}
 use Rattle.std.specs.Prelude.{AllPairs, nat_lt}
 use Rattle.std.specs.List.Sorted.{IsNonDecreasingBy, IsPartitionPoint}
 use Rattle.std.proofs.lemmas.Bool.Decides.{nat_tests}
@@ -8,6 +8,7 @@ use Rattle.std.proofs.lemmas.List.Elements.{All-contains}
 use Rattle.std.proofs.lemmas.List.Sorted.{Contains-permutation, IsPermutation-sym}
 use lib.Seq.{get_or-drop, get_or-take}
 use Rattle.list_laws.proofs.Members.{In, contains_in, flat_in, get_in, in_contains, in_either, in_flat, in_get, in_left, in_right}
+use Rattle.list_laws.proofs.Numbers.{same_or_more}
 use Rattle.cell_grid.specs.declared.record.Record.{Record}
 use Rattle.event_journal.specs.Keys.{AreOwn, IsCut, IsOwn}
 use Rattle.event_journal.specs.Logs.{RisesTo, is_before}
@@ -17,13 +18,10 @@ use Rattle.event_journal.proofs.Keys.{all_empty}
 use Rattle.event_journal.proofs.Merging.{AllRise, AreApart, RisesBy, merged_permutes, merged_rises, none_left, one_order}
 use Rattle.event_journal.proofs.WalkSteps.{before_order}
 
-same_or_less : (i j : ℕ) → i ≤ j → (i ≡ j) ⊎ (i < j)
-same_or_less i j le = grind arith
-
 -- what the search for a stamp asks
 pub stamps_rise : (xs : List Record) → AllPairs RisesTo xs → IsNonDecreasingBy (λ (r : Record). r.stamp) xs
 stamps_rise xs up i j d le lt = ⊎_elim {C = (get_or xs i d).stamp ≤ (get_or xs j d).stamp}
-    (λ (e : i ≡ j). let same = ap (λ k. (get_or xs k d).stamp) e in omega (arith, same)) (λ (l : i < j). let r = up i j d l lt in omega (arith, r.1)) (same_or_less i j le)
+    (λ (e : j ≡ i). let same = ap (λ k. (get_or xs k d).stamp) e in omega (arith, same)) (λ (l : i + 1 ≤ j). let r = up i j d (omega (arith, l)) lt in omega (arith, r.1)) (same_or_more i j le)
 
 -- and what it finds
 pub cut_at : (stamp : ℕ) (xs low high : List Record) (n : ℕ) → n ≤ length xs
@@ -153,7 +151,7 @@ split_more stamp k ls low high a b so_far lt cut =
         subst (λ n. IsCut stamp (get_or ls n []) (get_or (set low k a) n []) (get_or (set high k b) n [])) (sym e) here
     go j less false q =
         let apart : j ≢ k = λ e. absurd (grind (arith, nat_tests, q, e)) in
-        let before : j < k = ⊎_elim {C = j < k} (λ (e : j ≡ k). absurd (apart e)) (λ (l : j < k). l) (same_or_less j k (omega (arith, less))) in
+        let before : j < k = ⊎_elim {C = j < k} (λ (e : k ≡ j). absurd (apart (sym e))) (λ (l : j + 1 ≤ k). omega (arith, l)) (same_or_more j k (omega (arith, less))) in
         rw (get_or-set_other low k j a [] apart, get_or-set_other high k j b [] apart) (so_far.done j before)
 
 -- the next list is as it was
@@ -222,7 +220,7 @@ closed_more k ls old so_far lt = record {
     go j less true q = let e : j ≡ k = eqb-true j k q in ap (λ n. get_or (set ls k []) n []) e ∙ get_or-set_same ls k [] [] lt
     go j less false q =
         let apart : j ≢ k = λ e. absurd (grind (arith, nat_tests, q, e)) in
-        let before : j < k = ⊎_elim {C = j < k} (λ (e : j ≡ k). absurd (apart e)) (λ (l : j < k). l) (same_or_less j k (omega (arith, less))) in
+        let before : j < k = ⊎_elim {C = j < k} (λ (e : k ≡ j). absurd (apart (sym e))) (λ (l : j + 1 ≤ k). omega (arith, l)) (same_or_more j k (omega (arith, less))) in
         get_or-set_other ls k j [] [] apart ∙ so_far.none j before
 
 pub closed_merged : (k : ℕ) (ls old : List (List Record)) → AreClosed k ls old → length ls ≤ k → merged is_before ls ≡ []

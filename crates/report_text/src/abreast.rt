@@ -19,7 +19,7 @@ use std::thread::{Threads, available_parallelism, for_each_mut};
 const FEW: u64 = 20_000;
 
 /// How many parts are printed side by side at most.
-const MOST_PARTS: usize = 8;
+const PARTS: usize = 8;
 
 /// How many bytes all parts together have room for.
 const ROOM: usize = 1 << 22;
@@ -64,7 +64,7 @@ fn part_count<R: Threads>(rt: &R, journal: &Journal) -> usize {
         return 0;
     }
     match available_parallelism(rt) {
-        Ok(processors) if processors.get() > 1 => processors.get().min(MOST_PARTS),
+        Ok(processors) if processors.get() > 1 => processors.get().min(PARTS),
         _ => 0,
     }
 }
