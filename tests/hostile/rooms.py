@@ -110,7 +110,7 @@ def rooms_of(attempts: int) -> Iterator[Room]:
     for world, count in (("one", whole), ("many", parts)):
         yield Room(["audit", world, f"{world}.report", "e"], 0, 140, count)
         yield Room(["replay", world, f"{world}.report", "e"], 0, 94, count)
-        yield Room(["rewind", world, f"{world}.report", "10", "e"], 0, 765, count)
+        yield Room(["rewind", world, f"{world}.report", "10", "e"], 0, 725, count)
 
 
 def rooms(bench: Bench) -> None:

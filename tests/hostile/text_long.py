@@ -18,8 +18,8 @@ MILLION = 1_000_000
 BASE = 96 << 20
 TIMES = 12
 
-# What `rewind` keeps of each event besides.
-KEPT = 720
+# What `rewind` keeps of each event besides, if all sites of its window are occupied.
+KEPT = 680
 
 STEP = ["step", "w", "e"]
 RUN = ["run", "w", "e"]

@@ -1,5 +1,6 @@
 //! The order of a stepped run.
-ghost use Rattle.std.specs.Prelude.{◌≡◌, ◌+◌, ◌*◌, ◌<◌, ◌≤◌, ◌++◌, ◌∷◌, [], All, IfOk, OnOk, length};
+ghost use Rattle.std.specs.Prelude.{◌≡◌, ◌+◌, ◌*◌, ◌%◌, ◌<◌, ◌≤◌, ◌++◌, ◌∷◌, [], All, IfOk, length};
+ghost use Rattle.std.specs.Vec.{vec_capacity, vec_len};
 ghost use Rattle.tile_map.specs.Plane.{tiles_of};
 ghost use Rattle.world_text.specs.Values.{world_value, order_value};
 ghost use Rattle.world_runs.specs.Orders.{IsOrder, attempts_in, drawn_order, order_in};
@@ -23,13 +24,29 @@ fn attempts_of(plan: &AttemptPlan, tiles: u32) -> u32
     sum
 }
 
-/// Two more tiles of an order.
-fn push_two(order: &mut Vec<u32>, one: u32, other: u32) -> Result<(), NoMemory>
-    ensures { OnOk result (order.new.items ≡ order.old.items ++ one ∷ other ∷ []) }
+/// Two more tiles of an order, for which there is room.
+fn push_two(order: &mut Vec<u32>, one: u32, other: u32)
+    requires room { vec_len order.old + 2 ≤ vec_capacity order.old }
+    ensures items { order.new.items ≡ order.old.items ++ one ∷ other ∷ [] }
+    ensures len { vec_len order.new ≡ vec_len order.old + 2 }
+    ensures capacity { vec_capacity order.new ≡ vec_capacity order.old }
 {
-    order.push(one)?;
-    order.push(other)?;
-    Ok(())
+    order.push_reserved(one);
+    order.push_reserved(other);
+}
+
+/// The remainder of a word modulo a number. If that is a power of two, as the number of tiles mostly
+/// is, it takes no division.
+#[inline]
+fn remainder(word: u64, modulus: u64) -> u64
+    requires { 1 ≤ modulus }
+    ensures { result ≡ word % modulus }
+{
+    if modulus.is_power_of_two() {
+        word & (modulus - 1)
+    } else {
+        word % modulus
+    }
 }
 
 /// The tiles that a seed draws: each word of its generator names one, by its remainder modulo the
@@ -41,10 +58,11 @@ fn draw_order(alloc: Global, seed: u64, tiles: u32, pairs: u32) -> Result<Vec<u3
 {
     let sites = u64::from(tiles);
     let mut stream = TileStream::new(seed, 0);
-    let mut order = Vec::new(alloc);
+    let mut order = Vec::with_capacity(alloc, 2 * pairs as usize)?;
     for pair in 0..pairs {
         let words = stream.attempt(sites);
-        push_two(&mut order, words.centre, (words.seed % sites) as u32)?;
+        let other = remainder(words.seed, sites) as u32;
+        push_two(&mut order, words.centre, other);
     }
     Ok(order)
 }

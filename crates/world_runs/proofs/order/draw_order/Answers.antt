@@ -10,7 +10,9 @@ use Rattle.world_runs.proofs.order.draw_order.Goals as goal
 pub loop-pair-init : goal.loop-pair-init
 loop-pair-init c = record {
   stream = c.new-stream.ensures ∙ ap (λ s. tile_state s 0) (ap (λ n. n % 2 ^ 64) (omega arith) ∙ mod-eq_of_lt c.ranges.seed.fits);
-  order = c.new-order.ensures.items ∙ sym (drawn_none c.args.seed c.args.tiles);
+  order = c.in_ok-order.ensures.items ∙ sym (drawn_none c.args.seed c.args.tiles);
+  len = c.in_ok-order.ensures.len;
+  room = c.in_ok-order.ensures.capacity;
 }
 
 pub loop-pair-preserved : goal.loop-pair-preserved
@@ -19,10 +21,12 @@ loop-pair-preserved c =
     let sites = c.from-sites.ensures in
     record {
       stream = c.attempt-words.ensures.after c.args.seed c.loop-pair.pair c.loop-pair.invariant.stream;
-      order = c.in_ok-push_two.ensures ∙ (ap (λ xs. xs ++ c.attempt-words.result.centre ∷ c.attempt-words.result.seed % c.from-sites.result ∷ []) c.loop-pair.invariant.order
-          ∙ sym (drawn_two c.args.seed c.args.tiles c.loop-pair.pair c.attempt-words.result.centre (c.attempt-words.result.seed % c.from-sites.result)
+      order = c.push_two.ensures.items ∙ (ap (λ xs. xs ++ c.attempt-words.result.centre ∷ c.remainder-other.result ∷ []) c.loop-pair.invariant.order
+          ∙ sym (drawn_two c.args.seed c.args.tiles c.loop-pair.pair c.attempt-words.result.centre (c.remainder-other.result)
           (ap (λ (a : Attempt). a.centre) p ∙ ap (λ n. tile_word c.args.seed (2 * c.loop-pair.pair) % n) sites)
-          (ap (λ n. c.attempt-words.result.seed % n) sites ∙ ap (λ (a : Attempt). a.seed % c.args.tiles) p)));
+          (c.remainder-other.ensures ∙ ap (λ n. c.attempt-words.result.seed % n) sites ∙ ap (λ (a : Attempt). a.seed % c.args.tiles) p)));
+      len = omega (arith, c.push_two.ensures.len, c.loop-pair.invariant.len);
+      room = omega (arith, c.push_two.ensures.capacity, c.loop-pair.invariant.room);
     }
 
 pub attempt-words-requires : goal.attempt-words-requires
