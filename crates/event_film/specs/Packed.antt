@@ -1,6 +1,6 @@
 -- Events whose windows are kept without their empty sites. All lists begin with the last event, and its atoms with that of the
 -- first site.
-use Rattle.std.specs.Prelude.{ℕ, ◌≡◌, ◌≤◌, ◌+◌, ◌*◌, List, [], ◌∷◌, All, Bool, true, false, drop, length, map, filter}
+use Rattle.std.specs.Prelude.{ℕ, ◌≡◌, ◌≤◌, ◌+◌, ◌*◌, List, [], ◌∷◌, All, drop, length, map, filter}
 use Rattle.bit_field.specs.Atom.{AtomValue, empty_atom}
 use Rattle.window_sites.specs.Window.{IsWindow, WindowValue}
 use Rattle.event_film.specs.Marks.{is_occupied, marked, unpacked}
@@ -34,11 +34,10 @@ pub record ArePacked (frames : List Frame) (atoms : List AtomValue) : Type 0 whe
   pub few : All (λ (f : Frame). marked f.occupied ≤ 41) frames
   pub windows : All (λ (k : Kept). IsWindow k.window) (events_in frames atoms)
 
--- a site's atom is taken off some atoms: the first of them, if the site is occupied and there is one, and otherwise none
-abbrev pub TakesAtom : Bool → List AtomValue → AtomValue → List AtomValue → Type 0
-TakesAtom false old a new = (a ≡ empty_atom) × (new ≡ old)
-TakesAtom true [] a new = (a ≡ empty_atom) × (new ≡ [])
-TakesAtom true (b ∷ old) a new = (a ≡ b) × (new ≡ old)
+-- the first atom is taken off, or the empty one if there is none
+abbrev pub TakesAtom : List AtomValue → AtomValue → List AtomValue → Type 0
+TakesAtom [] a new = (a ≡ empty_atom) × (new ≡ [])
+TakesAtom (b ∷ old) a new = (a ≡ b) × (new ≡ old)
 
 -- these frames and atoms are packed, and there is room for so many events more
 pub record HasRoom (most_frames most_atoms spare : ℕ) (frames : List Frame) (atoms : List AtomValue) : Type 0 where

@@ -11,17 +11,20 @@ pub(crate) struct Marks {
 }
 
 impl Model for Marks {
-    ghost use Rattle.std.specs.Prelude.{Bool, List};
+    ghost use Rattle.std.specs.Prelude.{Bool, List, ◌<◌, ◌^◌};
     ghost use Rattle.event_film.specs.Marks.{marks_in};
 
     ghost Value = { List Bool };
 
     ghost view = { λ m. marks_in 41 m.bits };
+
+    ghost invariant = { λ m. m.bits < 2 ^ 41 };
 }
 
 impl Marks {
     /// The marks whose bits these are; the lowest bit is the mark of site 0.
     pub(crate) fn from_bits(bits: u64) -> Marks
+        requires { bits < 2 ^ 41 }
         ensures { result ≡ marks_in 41 bits }
     {
         Marks { bits }
@@ -29,7 +32,8 @@ impl Marks {
 
     /// The bits of the marks; the lowest is the mark of site 0.
     pub(crate) fn bits(&self) -> u64
-        ensures { marks_in 41 result ≡ self.now }
+        ensures marks { marks_in 41 result ≡ self.now }
+        ensures few { result < 2 ^ 41 }
     {
         self.bits
     }

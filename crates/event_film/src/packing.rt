@@ -50,18 +50,47 @@ pub(crate) fn pack(x: u32, y: u32, window: &Window, atoms: &mut Vec<Atom>) -> Fr
     }
 }
 
-/// The atom of a site: the uppermost of these, which is taken off, if the site is occupied, and
-/// otherwise the empty one.
-fn take_atom(atoms: &mut Vec<Atom>, occupied: bool) -> Atom
-    ensures takes { TakesAtom occupied (reverse atoms.old.items) result (reverse atoms.new.items) }
+/// Takes the uppermost atom off; the empty one if there is none.
+fn take_atom(atoms: &mut Vec<Atom>) -> Atom
+    ensures takes { TakesAtom (reverse atoms.old.items) result (reverse atoms.new.items) }
     ensures capacity { vec_capacity atoms.new ≡ vec_capacity atoms.old }
 {
-    if occupied {
-        if let Some(atom) = atoms.pop() {
-            return atom;
-        }
+    match atoms.pop() {
+        Some(atom) => atom,
+        None => Atom::new(0, 0),
     }
-    Atom::new(0, 0)
+}
+
+/// The atoms of the sites of a window, those of the occupied ones taken off.
+fn take_sites(occupied: &Marks, atoms: &mut Vec<Atom>) -> [Atom; 41]
+    ensures sites { result ≡ unpacked occupied.now (reverse atoms.old.items) }
+    ensures atoms { reverse atoms.new.items ≡ drop (marked occupied.now) (reverse atoms.old.items) }
+    ensures capacity { vec_capacity atoms.new ≡ vec_capacity atoms.old }
+{
+    let mut sites = [Atom::new(0, 0); 41];
+    let mut n = 0;
+    let mut left = occupied.bits();
+    while left != 0 {
+        let skip = left.trailing_zeros();
+        n += skip as usize;
+        sites[n] = take_atom(atoms);
+        n += 1;
+        left = (left >> skip) / 2;
+    }
+    sites
+}
+
+/// The marks by site.
+fn marks_by_site(marks: &Marks) -> [bool; 41]
+    ensures { result ≡ marks.now }
+{
+    let mut sites = [false; 41];
+    let mut left = marks.bits();
+    for n in 0..41 {
+        sites[n] = left % 2 == 1;
+        left /= 2;
+    }
+    sites
 }
 
 /// Takes the atoms of a frame off; the event of the frame.
@@ -71,19 +100,10 @@ pub(crate) fn unpack(frame: &Frame, atoms: &mut Vec<Atom>) -> Kept
     ensures atoms { reverse atoms.new.items ≡ drop (marked frame.now.occupied) (reverse atoms.old.items) }
     ensures capacity { vec_capacity atoms.new ≡ vec_capacity atoms.old }
 {
-    let mut sites = [Atom::new(0, 0); 41];
-    let mut live = [false; 41];
-    let mut occupied_left = frame.occupied.bits();
-    let mut live_left = frame.live.bits();
-    for n in 0..41 {
-        sites[n] = take_atom(atoms, occupied_left % 2 == 1);
-        live[n] = live_left % 2 == 1;
-        occupied_left /= 2;
-        live_left /= 2;
-    }
+    let sites = take_sites(&frame.occupied, atoms);
     Kept {
         x: frame.x,
         y: frame.y,
-        window: Window::new(sites, live),
+        window: Window::new(sites, marks_by_site(&frame.live)),
     }
 }
