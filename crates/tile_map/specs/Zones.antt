@@ -2,7 +2,7 @@
 use Rattle.std.specs.Prelude.{ℕ, ◌≡◌, ◌+◌, ◌-◌, ◌/◌, ◌%◌, min, nat_le, nat_lt, if◌then◌else◌, List, length, map}
 use Rattle.std.specs.List.{range_with_len}
 use Rattle.tile_map.specs.declared.span.Area.{Area}
-use Rattle.tile_map.specs.declared.limits.TheConstants.{ZONES_ACROSS, ZONES}
+use Rattle.tile_map.specs.declared.span.TheConstants.{ZONES_ACROSS, ZONES}
 use Rattle.tile_map.specs.Plane.{Site, MapValue, site}
 use Rattle.tile_map.specs.Edges.{needs_of}
 use Rattle.tile_map.specs.Tables.{own_of}

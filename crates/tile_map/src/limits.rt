@@ -24,13 +24,6 @@ pub const MOST_SHARED: u32 = 576;
 /// The most edges of a tile, so also the most that an event needs.
 pub const MOST_NEEDS: usize = 8;
 
-/// The zones of a row, and those of a column, of a tile: its first eight places, its last eight, and
-/// one for all between.
-pub(crate) const ZONES_ACROSS: u32 = 17;
-
-/// The zones of a tile.
-pub(crate) const ZONES: u32 = 289;
-
 // What follows for the limits that crates below have, and for those of a tile.
 const _: () = prove!(MOST_TILES as u32 == MOST_ACROSS * MOST_ACROSS);
 
@@ -41,5 +34,3 @@ const _: () = prove!(MOST_COLUMNS as u32 == MOST_ACROSS * MOST_SIDE);
 const _: () = prove!(MOST_REACH == MOST_SIDE + 8);
 
 const _: () = prove!(MOST_SHARED == 8 * MOST_REACH);
-
-const _: () = prove!(ZONES == ZONES_ACROSS * ZONES_ACROSS);

@@ -5,11 +5,12 @@ ghost use Rattle.tile_map.specs.Plane.{site, tiles_of, is_on, is_live, is_owned}
 ghost use Rattle.tile_map.specs.Edges.{pairs_of, other_end, edges_at, reaches, needs_of};
 ghost use Rattle.tile_map.specs.Tables.{own_of};
 ghost use Rattle.tile_map.specs.Zones.{zone_site};
-ghost use Rattle.tile_map.specs.declared.limits.TheConstants.{MOST_NEEDS, ZONES};
+ghost use Rattle.tile_map.specs.declared.limits.TheConstants.{MOST_NEEDS};
+ghost use Rattle.tile_map.specs.declared.span.TheConstants.{ZONES};
 
-use crate::limits::{ZONES, ZONES_ACROSS};
 use crate::map::Map;
 use crate::needs::Needs;
+use crate::span::{ZONES, ZONES_ACROSS};
 use feast_base::NoMemory;
 
 impl Map {

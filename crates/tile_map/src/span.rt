@@ -4,8 +4,18 @@ ghost use Rattle.std.specs.Prelude.{◌≡◌, ◌+◌, ◌-◌, ◌*◌, ◌<�
 ghost use Rattle.window_sites.specs.Sites.{shift};
 ghost use Rattle.tile_map.specs.Spans.{interior_low, interior_high, gap, is_within, place_within};
 ghost use Rattle.tile_map.specs.Zones.{zone_of, place_of};
-ghost use Rattle.tile_map.specs.declared.limits.TheConstants.{MOST_ACROSS, MOST_SIDE, ZONES_ACROSS};
+ghost use Rattle.tile_map.specs.declared.limits.TheConstants.{MOST_ACROSS, MOST_SIDE};
+ghost use Rattle.tile_map.specs.declared.span.TheConstants.{ZONES_ACROSS};
 ghost use Rattle.window_sites.specs.declared.window.TheConstants.{MOST_COLUMNS};
+
+/// The zones of a row, and those of a column, of a tile: its first eight places, its last eight, and
+/// one for all between.
+pub(crate) const ZONES_ACROSS: u32 = 17;
+
+/// The zones of a tile.
+pub(crate) const ZONES: u32 = 289;
+
+const _: () = prove!(ZONES == ZONES_ACROSS * ZONES_ACROSS);
 
 /// The coordinates from `first` up to `end` and without it.
 #[derive(Clone, Copy)]
