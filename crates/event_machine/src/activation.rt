@@ -39,7 +39,7 @@ impl Model for Activation {
 
 impl Activation {
     /// Pushes an operand.
-    #[inline(always)]
+    #[inline]
     pub fn push(&mut self, x: Datum)
         requires { length self.old.stack < MOST_OPERANDS + 1 }
         ensures { self.new ≡ record self.old { stack = x ∷ self.old.stack } }
@@ -48,7 +48,7 @@ impl Activation {
     }
 
     /// Pops an operand, if there is one.
-    #[inline(always)]
+    #[inline]
     pub fn any(&mut self) -> Option<Datum>
         ensures takes { (go : Datum → List Datum → Led Held) → on_top self.old.stack go ≡ with_any result self.new.stack go }
         ensures found { MatchOption result (self.old.stack ≡ []) (λ x. self.old.stack ≡ x ∷ self.new.stack) }
@@ -59,7 +59,7 @@ impl Activation {
     }
 
     /// Pops an operand, if it is a number.
-    #[inline(always)]
+    #[inline]
     pub fn number(&mut self) -> Option<Number>
         ensures takes { (go : ℤ → List Datum → Led Held) → on_number self.old.stack go ≡ with_one result self.new.stack go }
         ensures leads { (go : ℤ → List Datum → Led State) → on_test self.old.stack go ≡ with_lead result self.new.stack go }
@@ -73,7 +73,7 @@ impl Activation {
     }
 
     /// Pops an operand, if it is an atom.
-    #[inline(always)]
+    #[inline]
     pub fn atom(&mut self) -> Option<Atom>
         ensures takes { (go : AtomValue → List Datum → Led Held) → on_atom self.old.stack go ≡ with_atom result self.new.stack go }
         ensures kept { self.new ≡ record self.old { stack = self.new.stack } }
@@ -86,7 +86,7 @@ impl Activation {
     }
 
     /// Pops two operands, if they are numbers. The second one was on top.
-    #[inline(always)]
+    #[inline]
     pub fn two(&mut self) -> Option<(Number, Number)>
         ensures takes { (go : ℤ → ℤ → List Datum → Led Held) → on_numbers self.old.stack go ≡ with_two result self.new.stack go }
         ensures kept { self.new ≡ record self.old { stack = self.new.stack } }
@@ -98,7 +98,7 @@ impl Activation {
     }
 
     /// The atom at the centre, if it is of the acting type.
-    #[inline(always)]
+    #[inline]
     pub fn own(&self, kind: u16) -> Option<Atom>
         ensures { result ≡ own_of kind self.now.window }
     {
@@ -111,7 +111,7 @@ impl Activation {
     }
 
     /// The value of a slot, if there is such a slot.
-    #[inline(always)]
+    #[inline]
     pub fn slot(&self, s: u8) -> Option<Datum>
         ensures { result ≡ slice_get self.now.slots s }
     {
@@ -122,7 +122,7 @@ impl Activation {
     }
 
     /// The atom in a slot, if the slot holds one.
-    #[inline(always)]
+    #[inline]
     pub fn slot_atom(&self, s: u8) -> Option<Atom>
         ensures { result ≡ atom_in (slice_get self.now.slots s) }
     {
@@ -133,7 +133,7 @@ impl Activation {
     }
 
     /// Sets a slot, if there is such a slot.
-    #[inline(always)]
+    #[inline]
     pub fn set_slot(&mut self, s: u8, x: Datum)
         ensures { self.new ≡ record self.old { slots = slice_set self.old.slots s x } }
     {

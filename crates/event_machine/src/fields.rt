@@ -14,7 +14,7 @@ use datum::{Datum, Number};
 use sat_math::{Kind, NumType};
 
 /// Pushes a field of the atom at the centre. Failure 6.
-#[inline(always)]
+#[inline]
 pub fn load_field(running: &mut Activation, kind: u16, first: u8, width: u8, of: Kind) -> Leads
     requires fits { FieldFits first (num_type of width) 1 }
     requires room { length running.old.stack ≤ MOST_OPERANDS }
@@ -31,7 +31,7 @@ pub fn load_field(running: &mut Activation, kind: u16, first: u8, width: u8, of:
 }
 
 /// Pops a number into a field of the atom at the centre. Failure 6.
-#[inline(always)]
+#[inline]
 pub fn store_field(running: &mut Activation, kind: u16, first: u8, width: u8, of: Kind) -> Leads
     requires { FieldFits first (num_type of width) 1 }
     ensures { Works (work kind (SetField first (num_type of width)) running.old) running.new result }
@@ -50,7 +50,7 @@ pub fn store_field(running: &mut Activation, kind: u16, first: u8, width: u8, of
 }
 
 /// Pushes a field of the atom in a slot.
-#[inline(always)]
+#[inline]
 pub fn load_part(running: &mut Activation, s: u8, first: u8, width: u8, of: Kind) -> Leads
     requires fits { FieldFits first (num_type of width) 1 }
     requires room { length running.old.stack ≤ MOST_OPERANDS }
@@ -67,7 +67,7 @@ pub fn load_part(running: &mut Activation, s: u8, first: u8, width: u8, of: Kind
 }
 
 /// The atom with a field set, unless it is of type 0.
-#[inline(always)]
+#[inline]
 fn with_part(atom: Atom, first: u8, of: NumType, v: Number) -> Atom
     requires { FieldFits first of 1 }
     ensures { result ≡ with_part atom first of.width (kept_bits of v) }
@@ -80,7 +80,7 @@ fn with_part(atom: Atom, first: u8, of: NumType, v: Number) -> Atom
 }
 
 /// Pops a number into a field of the atom in a slot.
-#[inline(always)]
+#[inline]
 pub fn store_part(running: &mut Activation, s: u8, first: u8, width: u8, of: Kind) -> Leads
     requires { FieldFits first (num_type of width) 1 }
     ensures { (kind : ℕ) → Works (work kind (SetPart s first (num_type of width)) running.old) running.new result }
@@ -99,7 +99,7 @@ pub fn store_part(running: &mut Activation, s: u8, first: u8, width: u8, of: Kin
 }
 
 /// The first bit of an element of an array.
-#[inline(always)]
+#[inline]
 #[tactic(auto, using(crate::proofs::Fits::element_fits))]
 fn element(first: u8, of: NumType, n: u8, i: u8) -> u8
     requires fits { FieldFits first of n }
@@ -111,7 +111,7 @@ fn element(first: u8, of: NumType, n: u8, i: u8) -> u8
 }
 
 /// Pops an index and pushes that element of an array of the atom at the centre. Failures 6, 7.
-#[inline(always)]
+#[inline]
 pub fn load_field_at(
     running: &mut Activation,
     kind: u16,
@@ -142,7 +142,7 @@ pub fn load_field_at(
 
 /// Pops a number, then an index, and writes that element of an array of the atom at the centre.
 /// Failures 6, 7.
-#[inline(always)]
+#[inline]
 pub fn store_field_at(
     running: &mut Activation,
     kind: u16,
@@ -173,7 +173,7 @@ pub fn store_field_at(
 }
 
 /// Pops an index and pushes that element of an array of the atom in a slot. Failure 7.
-#[inline(always)]
+#[inline]
 pub fn load_part_at(running: &mut Activation, s: u8, first: u8, width: u8, of: Kind, n: u8) -> Leads
     requires fits { FieldFits first (num_type of width) n }
     requires room { length running.old.stack ≤ MOST_OPERANDS }
@@ -197,7 +197,7 @@ pub fn load_part_at(running: &mut Activation, s: u8, first: u8, width: u8, of: K
 
 /// Pops a number, then an index, and writes that element of an array of the atom in a slot.
 /// Failure 7.
-#[inline(always)]
+#[inline]
 pub fn store_part_at(
     running: &mut Activation,
     s: u8,

@@ -19,7 +19,7 @@ use sat_math::{Arith, NumType};
 use stack_code::{BinaryOp, UnaryOp};
 
 /// The low 64 bits of a number.
-#[inline(always)]
+#[inline]
 pub fn low64(v: i128) -> u64
     ensures { result ≡ low64 v }
 {
@@ -27,7 +27,7 @@ pub fn low64(v: i128) -> u64
 }
 
 /// A word as a number.
-#[inline(always)]
+#[inline]
 #[tactic(auto, using(crate::proofs::Fits::small_number))]
 pub fn of_word(n: u64) -> Number
     ensures { result ≡ pos n }
@@ -36,7 +36,7 @@ pub fn of_word(n: u64) -> Number
 }
 
 /// 1 for true and 0 for false.
-#[inline(always)]
+#[inline]
 pub fn of_bool(b: bool) -> Number
     ensures { result ≡ of_bool b }
 {
@@ -44,7 +44,7 @@ pub fn of_bool(b: bool) -> Number
 }
 
 /// The quotient, or `None` if the divisor is 0.
-#[inline(always)]
+#[inline]
 #[tactic(auto, using(crate::proofs::Fits::saturated_number))]
 fn quotient(how: Arith, a: i128, b: i128) -> Option<Number>
     requires left { IsNumber a }
@@ -58,7 +58,7 @@ fn quotient(how: Arith, a: i128, b: i128) -> Option<Number>
 }
 
 /// The remainder, or `None` if the divisor is 0.
-#[inline(always)]
+#[inline]
 #[tactic(auto, using(crate::proofs::Fits::saturated_number))]
 fn remainder(how: Arith, a: i128, b: i128) -> Option<Number>
     requires left { IsNumber a }
@@ -72,7 +72,7 @@ fn remainder(how: Arith, a: i128, b: i128) -> Option<Number>
 }
 
 /// The bits shifted left by a count; the low `width` bits are kept. A negative count gives 0.
-#[inline(always)]
+#[inline]
 fn shifted_up(width: u8, a: i128, b: i128) -> Number
     requires fits { IsTrue (type_fits (num_type Bits width)) }
     requires count { IsNumber b }
@@ -86,7 +86,7 @@ fn shifted_up(width: u8, a: i128, b: i128) -> Number
 }
 
 /// The bits shifted right by a count. A negative count gives 0.
-#[inline(always)]
+#[inline]
 fn shifted_down(a: i128, b: i128) -> Number
     requires { IsNumber b }
     ensures { Some result ≡ shifted_down a b }
@@ -99,7 +99,7 @@ fn shifted_down(a: i128, b: i128) -> Number
 }
 
 /// The result of an operator on two numbers, or `None` for a division by 0.
-#[inline(always)]
+#[inline]
 #[tactic(auto, using(crate::proofs::Fits::saturated_number))]
 pub fn apply_two(op: BinaryOp, a: Number, b: Number) -> Option<Number>
     requires { BinaryFits op }
@@ -122,7 +122,7 @@ pub fn apply_two(op: BinaryOp, a: Number, b: Number) -> Option<Number>
 }
 
 /// The result of an operator on one number.
-#[inline(always)]
+#[inline]
 #[tactic(auto, using(crate::proofs::Fits::saturated_number, crate::proofs::Fits::in_range_number, crate::proofs::Fits::type_is))]
 pub fn apply_one(op: UnaryOp, a: Number) -> Number
     requires { UnaryFits op }
@@ -138,7 +138,7 @@ pub fn apply_one(op: UnaryOp, a: Number) -> Number
 }
 
 /// The low `width` bits of the complement.
-#[inline(always)]
+#[inline]
 #[tactic(auto, using(crate::proofs::Fits::type_is))]
 fn flip(width: u8, a: i128) -> Number
     requires { IsTrue (type_fits (num_type Bits width)) }
@@ -148,7 +148,7 @@ fn flip(width: u8, a: i128) -> Number
 }
 
 /// The site with this number, if there is one.
-#[inline(always)]
+#[inline]
 pub fn site(v: Number) -> Option<u8>
     ensures within { IfSome result (λ n. n ≤ 40) }
     ensures place { (go : ℕ → Led Held) → at_site v go ≡ with_place 4 result go }
@@ -158,7 +158,7 @@ pub fn site(v: Number) -> Option<u8>
 }
 
 /// The number as an index, if it is in range for an array of this length.
-#[inline(always)]
+#[inline]
 pub fn index(v: Number, n: u8) -> Option<u8>
     ensures within { IfSome result (λ i. i < n) }
     ensures place { (go : ℕ → Led Held) → at_index v n go ≡ with_place 7 result go }
@@ -172,7 +172,7 @@ pub fn index(v: Number, n: u8) -> Option<u8>
 }
 
 /// The number as the bound of a random number, if it is above 0.
-#[inline(always)]
+#[inline]
 pub fn bound(v: Number) -> Option<u64>
     ensures some { IfSome result (λ n. 0 < n) }
     ensures place { (go : ℕ → Led Held) → at_bound v go ≡ with_place 5 result go }
@@ -182,7 +182,7 @@ pub fn bound(v: Number) -> Option<u64>
 }
 
 /// A field of an atom as a number of its type.
-#[inline(always)]
+#[inline]
 #[tactic(auto, using(crate::proofs::Fits::field_is, crate::proofs::Fits::in_range_number))]
 pub fn read_field(atom: &Atom, first: u8, of: NumType) -> Number
     requires { FieldFits first of 1 }
@@ -193,7 +193,7 @@ pub fn read_field(atom: &Atom, first: u8, of: NumType) -> Number
 }
 
 /// The atom with a field set to a number, converted to the type of the field.
-#[inline(always)]
+#[inline]
 #[tactic(auto, using(crate::proofs::Fits::field_is))]
 pub fn write_field(atom: Atom, first: u8, of: NumType, v: Number) -> Atom
     requires { FieldFits first of 1 }

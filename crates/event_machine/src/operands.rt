@@ -63,7 +63,7 @@ impl OperandStack {
     }
 
     /// Pushes an operand.
-    #[inline(always)]
+    #[inline]
     pub fn push(&mut self, x: Datum)
         requires { length self.old < MOST_OPERANDS + 1 }
         ensures { self.new ≡ x ∷ self.old }
@@ -72,7 +72,7 @@ impl OperandStack {
     }
 
     /// Pops an operand, if there is one.
-    #[inline(always)]
+    #[inline]
     pub fn take(&mut self) -> Option<Datum>
         ensures { MatchOption result ((self.old ≡ []) × (self.new ≡ [])) (λ x. self.old ≡ x ∷ self.new) }
     {

@@ -19,7 +19,7 @@ use sat_math::{Kind, NumType};
 use stack_code::{BinaryOp, UnaryOp};
 
 /// Pushes a datum.
-#[inline(always)]
+#[inline]
 pub fn give(running: &mut Activation, x: Datum) -> Leads
     requires { length running.old.stack ≤ MOST_OPERANDS }
     ensures { (kind : ℕ) → Works (work kind (Give x) running.old) running.new result }
@@ -29,7 +29,7 @@ pub fn give(running: &mut Activation, x: Datum) -> Leads
 }
 
 /// Applies an operator to one number.
-#[inline(always)]
+#[inline]
 pub fn one(running: &mut Activation, op: UnaryOp) -> Leads
     requires fits { UnaryFits op }
     requires room { length running.old.stack ≤ MOST_OPERANDS }
@@ -45,7 +45,7 @@ pub fn one(running: &mut Activation, op: UnaryOp) -> Leads
 }
 
 /// Converts a number to a type.
-#[inline(always)]
+#[inline]
 pub fn fit(running: &mut Activation, of: Kind, width: u8) -> Leads
     requires fits { IsTrue (type_fits (num_type of width)) }
     requires room { length running.old.stack ≤ MOST_OPERANDS }
@@ -55,7 +55,7 @@ pub fn fit(running: &mut Activation, of: Kind, width: u8) -> Leads
 }
 
 /// Applies an operator to two numbers. Failure 3 for a division by 0.
-#[inline(always)]
+#[inline]
 pub fn two(running: &mut Activation, op: BinaryOp) -> Leads
     requires fits { BinaryFits op }
     requires room { length running.old.stack ≤ MOST_OPERANDS }
@@ -74,7 +74,7 @@ pub fn two(running: &mut Activation, op: BinaryOp) -> Leads
 }
 
 /// Pushes the value of a slot.
-#[inline(always)]
+#[inline]
 pub fn load(running: &mut Activation, s: u8) -> Leads
     requires { length running.old.stack ≤ MOST_OPERANDS }
     ensures { (kind : ℕ) → Works (work kind (Load s) running.old) running.new result }
@@ -89,7 +89,7 @@ pub fn load(running: &mut Activation, s: u8) -> Leads
 }
 
 /// Pops an operand into a slot.
-#[inline(always)]
+#[inline]
 pub fn store(running: &mut Activation, s: u8) -> Leads
     ensures { (kind : ℕ) → Works (work kind (Store s) running.old) running.new result }
 {
@@ -103,7 +103,7 @@ pub fn store(running: &mut Activation, s: u8) -> Leads
 }
 
 /// Pops two sites and swaps their atoms. Failure 4.
-#[inline(always)]
+#[inline]
 pub fn exchange(running: &mut Activation) -> Leads
     ensures { (kind : ℕ) → Works (work kind Exchange running.old) running.new result }
 {
@@ -123,7 +123,7 @@ pub fn exchange(running: &mut Activation) -> Leads
 }
 
 /// Pops an operand.
-#[inline(always)]
+#[inline]
 pub fn drop_top(running: &mut Activation) -> Leads
     ensures { (kind : ℕ) → Works (work kind Drop running.old) running.new result }
 {
@@ -134,7 +134,7 @@ pub fn drop_top(running: &mut Activation) -> Leads
 }
 
 /// Pushes the atom at the centre. Failure 6.
-#[inline(always)]
+#[inline]
 pub fn own(running: &mut Activation, kind: u16) -> Leads
     requires { length running.old.stack ≤ MOST_OPERANDS }
     ensures { Works (work kind Own running.old) running.new result }
@@ -149,7 +149,7 @@ pub fn own(running: &mut Activation, kind: u16) -> Leads
 }
 
 /// Pops a site and pushes its atom. Failure 4.
-#[inline(always)]
+#[inline]
 pub fn load_site(running: &mut Activation) -> Leads
     requires { length running.old.stack ≤ MOST_OPERANDS }
     ensures { (kind : ℕ) → Works (work kind Site running.old) running.new result }
@@ -168,7 +168,7 @@ pub fn load_site(running: &mut Activation) -> Leads
 }
 
 /// Pops an atom, then a site, and puts the atom there. Failure 4.
-#[inline(always)]
+#[inline]
 pub fn store_site(running: &mut Activation) -> Leads
     ensures { (kind : ℕ) → Works (work kind SetSite running.old) running.new result }
 {
@@ -188,7 +188,7 @@ pub fn store_site(running: &mut Activation) -> Leads
 }
 
 /// Pops a site and pushes whether it is live. Failure 4.
-#[inline(always)]
+#[inline]
 pub fn is_live(running: &mut Activation) -> Leads
     requires { length running.old.stack ≤ MOST_OPERANDS }
     ensures { (kind : ℕ) → Works (work kind (Ask live_at) running.old) running.new result }
@@ -207,7 +207,7 @@ pub fn is_live(running: &mut Activation) -> Leads
 }
 
 /// Pops a site and pushes whether its atom is of type 0. Failure 4.
-#[inline(always)]
+#[inline]
 pub fn is_empty(running: &mut Activation) -> Leads
     requires { length running.old.stack ≤ MOST_OPERANDS }
     ensures { (kind : ℕ) → Works (work kind (Ask is_empty_at) running.old) running.new result }
@@ -226,7 +226,7 @@ pub fn is_empty(running: &mut Activation) -> Leads
 }
 
 /// Pops a bound and pushes the next random word modulo it. Failure 5.
-#[inline(always)]
+#[inline]
 pub fn create(running: &mut Activation) -> Leads
     requires { length running.old.stack ≤ MOST_OPERANDS }
     ensures { (kind : ℕ) → Works (work kind (Draw pos) running.old) running.new result }
@@ -245,7 +245,7 @@ pub fn create(running: &mut Activation) -> Leads
 }
 
 /// Pops a bound and pushes whether the next random word modulo it is 0. Failure 5.
-#[inline(always)]
+#[inline]
 pub fn one_in(running: &mut Activation) -> Leads
     requires { length running.old.stack ≤ MOST_OPERANDS }
     ensures { (kind : ℕ) → Works (work kind (Draw one_in) running.old) running.new result }
@@ -264,7 +264,7 @@ pub fn one_in(running: &mut Activation) -> Leads
 }
 
 /// Pops an atom and pushes whether it is of a type.
-#[inline(always)]
+#[inline]
 pub fn same(running: &mut Activation, k: u16) -> Leads
     requires { length running.old.stack ≤ MOST_OPERANDS }
     ensures { (kind : ℕ) → Works (work kind (Same k) running.old) running.new result }
@@ -279,7 +279,7 @@ pub fn same(running: &mut Activation, k: u16) -> Leads
 }
 
 /// Pops a number and pushes it twice.
-#[inline(always)]
+#[inline]
 pub fn double(running: &mut Activation) -> Leads
     requires { length running.old.stack ≤ MOST_OPERANDS }
     ensures { (kind : ℕ) → Works (work kind Double running.old) running.new result }
