@@ -125,6 +125,12 @@ module _ {L : Type 0} (noted : L → L → Type 0) (c : CodeValue) (s now new : 
   pub never_lacks : StepsTo (step c now) new Lack → ⊥
   never_lacks h = subst (NextLed c r.shapes now) (lacks_is (step c now) new h) (step_next c r.shapes r.fine now r.typed)
 
+-- the same, and the step that comes next is counted and noted already
+pub record Ahead {L : Type 0} (noted : L → L → Type 0) (c : CodeValue) (s now : State) (n m : Counted L) : Type 0 where
+  pub before : Counted L
+  pub running : Running noted c s now n before
+  pub tick : IsTick noted before m
+
 -- the machine can do its next step
 pub ready : {L : Type 0} (noted : L → L → Type 0) (c : CodeValue) (s now : State) (n m : Counted L) → Running noted c s now n m → Ready c now
 ready noted c s now n m r =
@@ -133,5 +139,6 @@ ready noted c s now n m r =
       room = stack_most c r.shapes now t;
       args = λ i at. (t.fine.places now.place i t.low t.high at).args;
       functions = λ f g at. let x = r.fine.each f g at in (x.params, x.few);
+      within = omega (arith, t.high, t.fine.within);
       place = omega (arith, t.high, t.fine.within, r.short);
     }

@@ -90,6 +90,7 @@ pub record Ready (c : CodeValue) (s : State) : Type 0 where
   pub room : length s.held.stack ≤ MOST_OPERANDS
   pub args : (i : Instr) → slice_get c.instrs s.place ≡ Some i → args_fit i ≡ true
   pub functions : (f : ℕ) (g : FunctionValue) → slice_get c.functions f ≡ Some g → (g.params ≤ length g.slots) × (length g.slots ≤ MOST_SLOTS)
+  pub within : s.place < length c.instrs
   pub place : s.place < MOST_INSTRS
 
 -- the datum in a list, if there is one

@@ -231,10 +231,7 @@ impl Machine {
         requires instrs { instrs.now ≡ code.now.instrs }
         ensures { StepsTo (step code.now self.old) self.new result }
     {
-        match instrs.get(self.place) {
-            None => Leads::Lack,
-            Some(i) => self.perform(code, i),
-        }
+        self.perform(code, &instrs[self.place])
     }
 
     /// Begins an event.
@@ -251,18 +248,25 @@ impl Machine {
         }
     }
 
-    /// Runs valid code from its start.
+    /// Runs valid code from its start. Each step is counted before it is done, in a variable that a
+    /// loop can keep in a register.
     fn run<L: Ledger>(&mut self, code: &Code, steps: &mut Steps<L>) -> Ended
         requires { Started code.now self.old }
         ensures { Ran L.noted code.now (counting self.old steps.old) (counting self.new steps.new) result }
     {
         let instrs = code.instrs();
+        let mut count = steps.tick_after(steps.count());
         loop {
-            steps.tick();
             match self.step(code, instrs) {
-                Leads::On => {}
-                Leads::Fail(n) => return Ended::Failed(n),
-                Leads::Done => return Ended::Done,
+                Leads::On => count = steps.tick_after(count),
+                Leads::Fail(n) => {
+                    steps.set_count(count);
+                    return Ended::Failed(n);
+                }
+                Leads::Done => {
+                    steps.set_count(count);
+                    return Ended::Done;
+                }
                 Leads::Lack => unreachable!(),
             }
         }

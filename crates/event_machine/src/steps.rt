@@ -97,6 +97,30 @@ impl<L: Ledger> Steps<L> {
         self.ledger.note();
     }
 
+    /// The number of steps.
+    pub(crate) fn count(&self) -> u64
+        ensures { result ≡ self.now.count }
+    {
+        self.count
+    }
+
+    /// Notes one step more and returns the number of steps with it, where `count` is the number
+    /// before it. The number kept here stays as it is.
+    pub(crate) fn tick_after(&mut self, count: u64) -> u64
+        ensures count { result ≡ next_count count }
+        ensures noted { L.noted self.old.ledger self.new.ledger }
+    {
+        self.ledger.note();
+        count.saturating_add(1)
+    }
+
+    /// Sets the number of steps.
+    pub(crate) fn set_count(&mut self, count: u64)
+        ensures { self.new ≡ record self.old { count = count } }
+    {
+        self.count = count;
+    }
+
     /// The ledger.
     pub fn into_ledger(self) -> L
         ensures { result ≡ self.ledger }
