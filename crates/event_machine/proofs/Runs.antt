@@ -1,17 +1,19 @@
 -- What a run that is over says of the whole event.
-use Rattle.std.proofs.Common.{◌≡◌, ℕ, zero, suc, ◌+◌, ◌-◌, ◌*◌, ◌^◌, ◌≤◌, length, Option, Some, None, refl, sym, ap, ◌∙◌, subst, arith}
+use Rattle.std.proofs.Common.{◌≡◌, ℕ, zero, suc, ◌+◌, ◌-◌, ◌*◌, ◌^◌, ◌≤◌, length, List, [], ◌∷◌, Option, Some, None, refl, sym, ap, ◌∙◌, subst, arith}
 use Rattle.std.specs.Prelude.{Bool, true, slice_get, min, if◌then◌else◌}
 use Rattle.datum.specs.Failures.{IsFailure}
 use Rattle.bit_field.specs.Atom.{empty_atom}
 use Rattle.window_sites.specs.Window.{WindowValue, live_at, put_at, without_centre}
-use Rattle.stack_code.specs.Machine.{CodeValue, FunctionValue, State, start_with, start, Led, Goes, Ends, Fails, Lacks, step, iter, count, one_more, ending, runs}
+use Rattle.stack_code.specs.Machine.{CodeValue, FunctionValue, State, start_with, start, Led, Goes, Ends, Fails, Lacks, step, step_on, and_then, iter, count, one_more, ending, runs}
+use Rattle.stack_code.specs.declared.instr.Instr.{Instr}
+use Rattle.stack_code.specs.declared.instr.Instr.TheVariants.{ReturnVoid}
 use Rattle.stack_code.specs.Laws.{IsOver}
 use Rattle.stack_code.specs.Valid.{valid}
 use Rattle.stack_code.proofs.Bound.{starts, runs_well}
 use Rattle.stack_code.proofs.Kept.{Kept, KeptState, iter_kept, emptied_kept}
 use Rattle.event_machine.specs.Counting.{Counted}
-use Rattle.event_machine.specs.Ticks.{Ticks}
-use Rattle.event_machine.specs.Works.{counting, Ran, FunctionsFit, window_after}
+use Rattle.event_machine.specs.Ticks.{IsTick, Ticks}
+use Rattle.event_machine.specs.Works.{counting, Ran, FunctionsFit, window_after, Idles}
 use Rattle.event_machine.specs.Endings.{ending_number, IsEnding}
 use Rattle.event_machine.specs.declared.ending.Ended.{Ended}
 use Rattle.event_machine.specs.declared.ending.Ended.TheVariants.{Done as DoneEnd, Failed}
@@ -97,3 +99,36 @@ most_is c w seed v = (runs_well c v w seed).few
 
 pub functions_fit : (c : CodeValue) (w : WindowValue) → valid c ≡ true → FunctionsFit c
 functions_fit c w v = λ f g at. let x = (starts c v w 0).fine.each f g at in (x.params, x.few)
+
+-- an event of code that ends with its first instruction
+idle_step : (c : CodeValue) (w : WindowValue) (seed : ℕ) (o : Option FunctionValue) → Idles c → step c (start_with w seed o) ≡ Ends w
+idle_step c w seed None h = ap (step_on c (start_with w seed None)) h
+idle_step c w seed (Some g) h = ap (step_on c (start_with w seed (Some g))) h
+
+first_some : (is : List Instr) → slice_get is 0 ≡ Some ReturnVoid → 1 ≤ length is
+first_some [] h = absurd cc
+first_some (i ∷ is) h = omega arith
+
+module _ (c : CodeValue) (w : WindowValue) (seed : ℕ) (h : Idles c) where
+  abbrev rest : ℕ
+  rest = 1001 * length c.instrs - 1
+
+  whole : 1001 * length c.instrs ≡ suc rest
+  whole = let p = first_some c.instrs h in omega (arith, p)
+
+  pub idle_over : (runs c w seed).over ≡ Some (w, None)
+  unfolding runs iter
+  idle_over = ap (ending w) (ap (λ n. iter c n (start c w seed)) whole ∙ ap (λ l. and_then l (iter c rest)) (idle_step c w seed (slice_get c.functions 0) h))
+
+  pub idle_count : (runs c w seed).count ≡ 1
+  unfolding runs count
+  idle_count = ap (λ n. count c n (start c w seed)) whole ∙ ap (one_more (count c rest)) (idle_step c w seed (slice_get c.functions 0) h)
+
+  pub idle_ticks : {L : Type 0} (noted : L → L → Type 0) (n m : Counted L) → IsTick noted n m → Ticks noted (runs c w seed).count n m
+  idle_ticks noted n m t = let one : Ticks noted 1 n m = (n, refl, t) in subst (λ k. Ticks noted k n m) (sym idle_count) one
+
+  pub idle_counted : {L : Type 0} (noted : L → L → Type 0) (n m : Counted L) → IsTick noted n m → m.count ≡ min (n.count + (runs c w seed).count) (2 ^ 64 - 1)
+  idle_counted noted n m t =
+      let e = idle_count in
+      let some : 1 ≤ (runs c w seed).count = omega (arith, e) in
+      counted_some noted (runs c w seed).count n m some (idle_ticks noted n m t)

@@ -12,6 +12,7 @@ use Rattle.stack_code.specs.Valid.{args_fit, valid}
 use Rattle.event_machine.specs.declared.ending.Leads.{Leads}
 use Rattle.event_machine.specs.declared.ending.Leads.TheVariants.{On, Fail, Done, Lack}
 use Rattle.stack_code.specs.declared.instr.Instr.{Instr}
+use Rattle.stack_code.specs.declared.instr.Instr.TheVariants.{ReturnVoid}
 use Rattle.event_machine.specs.declared.ending.Ended.{Ended}
 use Rattle.event_machine.specs.declared.ending.Ended.TheVariants.{Done as DoneEnd, Failed}
 use Rattle.bit_field.specs.declared.TheConstants.{STATE_BITS}
@@ -130,3 +131,7 @@ pub record Started (c : CodeValue) (s : State) : Type 0 where
 abbrev pub window_after : WindowValue → State → Ended → WindowValue
 window_after w s DoneEnd = s.held.window
 window_after w s (Failed k) = without_centre w
+
+-- code that ends with its first instruction
+abbrev pub Idles : CodeValue → Type 0
+Idles c = slice_get c.instrs 0 ≡ Some ReturnVoid

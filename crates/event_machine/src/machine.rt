@@ -5,7 +5,7 @@ ghost use Rattle.window_sites.specs.Window.{live_at, atom_at};
 ghost use Rattle.stack_code.specs.Machine.{CodeValue, step, go_by, back, enter, onward, work, start, runs};
 ghost use Rattle.stack_code.specs.Sorts.{sort, GotoFalse, Take};
 ghost use Rattle.stack_code.specs.Valid.{args_fit};
-ghost use Rattle.event_machine.specs.Works.{StepsTo, Ready, FunctionsFit, as_list, Started, counting, Ran, window_after};
+ghost use Rattle.event_machine.specs.Works.{StepsTo, Ready, FunctionsFit, as_list, Started, counting, Ran, window_after, Idles};
 ghost use Rattle.event_machine.specs.Endings.{ending_number, IsEnding};
 ghost use Rattle.event_machine.specs.Ticks.{Ticks};
 ghost use Rattle.bit_field.specs.declared.TheConstants.{STATE_BITS};
@@ -75,6 +75,14 @@ fn frames(alloc: Global) -> Result<Vec<Frame>, NoMemory>
         spare.push_reserved(frame);
     }
     Ok(spare)
+}
+
+/// Whether the code ends with its first instruction, so that its events leave their windows as they
+/// are.
+fn is_idle(code: &Code) -> bool
+    ensures { IsTrue result → Idles code.now }
+{
+    matches!(code.instrs().get(0), Some(Instr::ReturnVoid))
 }
 
 impl Machine {
@@ -309,6 +317,10 @@ impl Machine {
     {
         code.laws();
         window.laws();
+        if is_idle(code) {
+            steps.tick();
+            return Ended::Done;
+        }
         self.begin(code, window, seed);
         let ended = self.run(code, steps);
         self.leave(ended, window);

@@ -2,8 +2,24 @@ use Rattle.std.proofs.Common.{sym, ap, ◌∙◌, subst, Some}
 use Rattle.window_sites.specs.Window.{WindowValue}
 use Rattle.stack_code.proofs.Kept.{Kept}
 use Rattle.event_machine.specs.Endings.{ending_number}
-use Rattle.event_machine.proofs.Runs.{over_is, ticks_are, count_is, most_is, functions_fit, kept_is, ending_is}
+use Rattle.event_machine.proofs.Runs.{over_is, ticks_are, count_is, most_is, functions_fit, kept_is, ending_is, idle_over, idle_ticks, idle_counted}
 use Rattle.event_machine.proofs.machine.Machine.act.Goals as goal
+
+pub returns-then-is_idle-clause-over : goal.returns-then-is_idle-clause-over
+returns-then-is_idle-clause-over g c = idle_over c.args.code.now c.args.window.now c.args.seed (c.is_idle.ensures c.if-is_idle.true)
+
+pub returns-then-is_idle-clause-ticks : goal.returns-then-is_idle-clause-ticks
+returns-then-is_idle-clause-ticks g c =
+    let t = c.tick.ensures in
+    idle_ticks c.args.code.now c.args.window.now c.args.seed (c.is_idle.ensures c.if-is_idle.true) g.L.Ledger.noted c.args.steps.now c.tick.new.self (record { count = t.count; noted_once = t.noted })
+
+pub returns-then-is_idle-clause-count : goal.returns-then-is_idle-clause-count
+returns-then-is_idle-clause-count g c =
+    let t = c.tick.ensures in
+    idle_counted c.args.code.now c.args.window.now c.args.seed (c.is_idle.ensures c.if-is_idle.true) g.L.Ledger.noted c.args.steps.now c.tick.new.self (record { count = t.count; noted_once = t.noted })
+
+pub returns-then-is_idle-clause-most : goal.returns-then-is_idle-clause-most
+returns-then-is_idle-clause-most g c = most_is c.args.code.now c.args.window.now c.args.seed c.laws.ensures.valid
 
 pub begin-requires : goal.begin-requires
 begin-requires g c = functions_fit c.args.code.now c.args.window.now c.laws.ensures.valid
