@@ -44,9 +44,8 @@ impl Film {
     pub fn new(alloc: Global, events: usize) -> Result<Film, NoMemory>
         ensures { IfOk result (λ f. f ≡ film_value [] events) }
     {
-        let Some(sites) = events.checked_mul(41) else {
-            return Err(NoMemory);
-        };
+        // Where the product is too large for a number, no memory has room for it either.
+        let sites = events.saturating_mul(41);
         Ok(Film {
             frames: Vec::with_capacity(alloc, events)?,
             atoms: Vec::with_capacity(alloc, sites)?,
