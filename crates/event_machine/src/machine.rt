@@ -204,14 +204,14 @@ impl Machine {
 
     /// Does an instruction.
     #[inline(always)]
-    fn perform(&mut self, code: &Code, i: &Instr) -> Leads
+    fn perform(&mut self, code: &Code, kind: u16, i: &Instr) -> Leads
+        requires kind { kind ≡ code.now.kind }
         requires fits { IsTrue (args_fit i.now) }
         requires room { length self.old.held.stack ≤ MOST_OPERANDS }
         requires place { self.old.place + 1 < 2 ^ 64 }
         requires functions { FunctionsFit code.now }
         ensures { StepsTo (go_by code.now (sort i.now) self.old) self.new result }
     {
-        let kind = code.kind();
         match *i {
             Instr::Jump(p) => {
                 self.place = p as usize;
@@ -234,12 +234,13 @@ impl Machine {
 
     /// Does the instruction at the machine's place.
     #[inline(always)]
-    fn step(&mut self, code: &Code, instrs: &[Instr]) -> Leads
+    fn step(&mut self, code: &Code, kind: u16, instrs: &[Instr]) -> Leads
+        requires kind { kind ≡ code.now.kind }
         requires ready { Ready code.now self.old }
         requires instrs { instrs.now ≡ code.now.instrs }
         ensures { StepsTo (step code.now self.old) self.new result }
     {
-        self.perform(code, &instrs[self.place])
+        self.perform(code, kind, &instrs[self.place])
     }
 
     /// Begins an event.
@@ -262,10 +263,10 @@ impl Machine {
         requires { Started code.now self.old }
         ensures { Ran L.noted code.now (counting self.old steps.old) (counting self.new steps.new) result }
     {
-        let instrs = code.instrs();
+        let (kind, instrs) = (code.kind(), code.instrs());
         let mut count = steps.tick_after(steps.count());
         loop {
-            match self.step(code, instrs) {
+            match self.step(code, kind, instrs) {
                 Leads::On => count = steps.tick_after(count),
                 Leads::Fail(n) => {
                     steps.set_count(count);
