@@ -37,6 +37,7 @@ EXCEPTIONS = {
     ("serial_order", "settle_site"): "an edge between two tiles, and what is settled there",
     ("serial_order", "settle_stretch"): "an edge between two tiles, and what is settled there",
     ("tile_core", "advance"): "the promise of each step of the machine",
+    ("tile_core", "attempt"): "the promise of a whole attempt, but for what gives edges back after a refusal",
     ("tile_core", "attempt_whole"): "the promise of a whole attempt, step by step",
     ("tile_threads", "run_over"): "all that a threaded run starts from",
     ("ulam_heirs", "add"): "a token with those around it, by which its part is known",

@@ -14,3 +14,4 @@ pub mod Advance
 pub mod Played
 pub mod Boards
 pub mod Falls
+pub mod Attempts

@@ -8,13 +8,13 @@ use Rattle.draw_stream.specs.declared.attempt.Attempt.{Attempt}
 use Rattle.edge_lock.specs.EndLists.{EndLists}
 use Rattle.edge_lock.specs.EndValues.{EndValue}
 use Rattle.border_cache.specs.Windows.{is_shown}
-use Rattle.border_cache.specs.Copies.{CacheValue, shown_atom, Marked}
+use Rattle.border_cache.specs.Copies.{CacheValue, IsEndOf, shown_atom, Marked}
 use Rattle.tile_core.specs.declared.phase.Phase.{Phase}
 use Rattle.tile_core.specs.declared.phase.Phase.TheVariants.{Draw, Lock, Refresh, Behave, Write, Give, Back, Finished, Worn}
 use Rattle.tile_core.specs.declared.state.State.{State}
 use Rattle.tile_core.specs.Values.{TileValue, no_window}
 use Rattle.tile_core.specs.Turns.{common}
-use Rattle.tile_core.specs.Underway.{TileAt, tile_at, IsUnderway}
+use Rattle.tile_core.specs.Underway.{TileAt, tile_at, IsUnderway, IsSome}
 
 -- the window that the cells at c show
 unfoldable pub window_seen : CacheValue → Site → WindowValue
@@ -93,3 +93,13 @@ pub record Reserves (s : State) (entries : ℕ) : Type 0 where
 -- in some way the tile is underway, in this phase
 abbrev pub IsIn : MapValue → TileValue → (ℕ → EndLists) → Phase → Type 0
 IsIn m tile lists phase = (meaning : WindowValue → ℕ → WindowValue) × (start : Site → AtomValue) × (attempts : List Attempt) × (tile.phase ≡ phase) × IsUnderway (common m meaning start) attempts tile lists
+
+-- a step can be made: in some way the tile is underway on its end of the edges, and its lists have room
+pub record IsReady (m : MapValue) (meaning : WindowValue → ℕ → WindowValue) (s : State) (end : EndValue) : Type 0 where
+  pub underway : IsSome m meaning (value_of s) end.lists
+  pub board : IsEndOf m s.number end
+  pub room : HasRoom s
+
+-- the same, whatever events make of windows
+abbrev pub IsReadySomehow : MapValue → State → EndValue → Type 0
+IsReadySomehow m s end = (meaning : WindowValue → ℕ → WindowValue) × IsReady m meaning s end

@@ -209,6 +209,16 @@ pub record IsFreshTile (m : MapValue) (t : ℕ) (start : Site → AtomValue) (at
 abbrev pub GoesFar : MapValue → (WindowValue → ℕ → WindowValue) → TileAt → TileAt → Type 0
 GoesFar m meaning old new = (start : Site → AtomValue) (attempts : List Attempt) → IsUnderway (common m meaning start) attempts old.tile old.lists → IsUnderway (common m meaning start) attempts new.tile new.lists
 
+-- after steps in which it drew no attempt the tile is still underway, from whatever start and attempts it was
+pub record GoesThrough (m : MapValue) (meaning : WindowValue → ℕ → WindowValue) (old new : TileAt) : Type 0 where
+  pub far : GoesFar m meaning old new
+  pub taken : new.tile.taken ≡ old.tile.taken
+  pub number : new.tile.number ≡ old.tile.number
+
+-- the same, whatever events make of windows
+abbrev pub GoesAnyhow : MapValue → TileAt → TileAt → Type 0
+GoesAnyhow m old new = (meaning : WindowValue → ℕ → WindowValue) → GoesThrough m meaning old new
+
 -- on its end of the edges, and on the plane of its map, the tile goes on
 abbrev pub KeepsOn : (WindowValue → ℕ → WindowValue) → TileValue → EndValue → TileValue → EndValue → Type 0
 KeepsOn meaning old end new end' = GoesOn old.cache.map meaning (tile_at old end.lists) (tile_at new end'.lists)

@@ -1,6 +1,7 @@
 //! One tile: its phases, its log and its copy of the sites that it holds.
 #![tactic(auto)]
 
+mod attempt;
 mod clocks;
 mod law;
 mod phase;

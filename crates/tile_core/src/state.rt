@@ -139,7 +139,7 @@ impl State {
     }
 
     /// Frees one edge of an event.
-    fn give<D: Board>(&mut self, map: &Map, board: &mut D)
+    pub(crate) fn give<D: Board>(&mut self, map: &Map, board: &mut D)
         requires phase { IsIn map.now (value_of self.old) (D.end board.old).lists Give }
         requires board { IsEndOf map.now self.old.number (D.end board.old) }
         requires room { HasRoom self.old }
@@ -175,7 +175,7 @@ impl State {
     }
 
     /// Tries one needed edge.
-    fn lock<D: Board>(&mut self, map: &Map, board: &mut D)
+    pub(crate) fn lock<D: Board>(&mut self, map: &Map, board: &mut D)
         requires phase { IsIn map.now (value_of self.old) (D.end board.old).lists Lock }
         requires board { IsEndOf map.now self.old.number (D.end board.old) }
         requires room { HasRoom self.old }
@@ -236,7 +236,7 @@ impl State {
     }
 
     /// Takes the next attempt.
-    fn draw(&mut self, map: &Map)
+    pub(crate) fn draw(&mut self, map: &Map)
         requires phase { (lists : ℕ → EndLists) × IsIn map.now (value_of self.old) lists Draw }
         requires tile { self.old.number < tiles_of map.now }
         requires room { HasRoom self.old }
@@ -274,7 +274,7 @@ impl State {
     }
 
     /// Reads the clocks of the needed edges, and brings the window's cells up to date.
-    fn refresh<D: Board>(&mut self, map: &Map, board: &mut D)
+    pub(crate) fn refresh<D: Board>(&mut self, map: &Map, board: &mut D)
         requires phase { IsIn map.now (value_of self.old) (D.end board.old).lists Refresh }
         requires board { IsEndOf map.now self.old.number (D.end board.old) }
         requires room { HasRoom self.old }
@@ -294,7 +294,7 @@ impl State {
     }
 
     /// Runs the event on the window. At an empty centre there is nothing to run.
-    fn behave<B: Behave>(&mut self, map: &Map, behave: &mut B)
+    pub(crate) fn behave<B: Behave>(&mut self, map: &Map, behave: &mut B)
         requires phase { (lists : ℕ → EndLists) × IsIn map.now (value_of self.old) lists Behave }
         requires room { HasRoom self.old }
         ensures behaves { Behaves map.now (B.after behave.old) (value_of self.old) (value_of self.new) }
@@ -313,7 +313,7 @@ impl State {
     }
 
     /// Marks and publishes the window, sets the clocks and notes the event.
-    fn write<D: Board>(&mut self, map: &Map, board: &mut D)
+    pub(crate) fn write<D: Board>(&mut self, map: &Map, board: &mut D)
         requires phase { IsIn map.now (value_of self.old) (D.end board.old).lists Write }
         requires board { IsEndOf map.now self.old.number (D.end board.old) }
         requires room { HasRoom self.old }

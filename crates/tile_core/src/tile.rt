@@ -84,11 +84,31 @@ impl<B: Behave> Tile<B> {
         ensures same { SameEnd (D.end board.old) (D.end board.new) }
         ensures moved { D.moved board.old board.new }
     {
-        let mut phase = self.advance(map, board);
+        let mut phase = self.attempt(map, board);
         while !phase.is_over() {
             phase = self.advance(map, board);
         }
         phase
+    }
+
+    /// Draws an attempt and makes its steps up to its end, but for those that give edges back after a
+    /// refusal; answers the phase. The conditions are those of `attempt_whole`.
+    fn attempt<D: Board>(&mut self, map: &Map, board: &mut D) -> Phase
+        requires draw { self.old.core.phase ≡ Draw }
+        requires map { map.now ≡ self.old.core.cache.map }
+        requires board { IsEndOf self.old.core.cache.map self.old.core.number (D.end board.old) }
+        requires underway { IsSome self.old.core.cache.map (B.after self.old.behave) self.old.core (D.end board.old).lists }
+        ensures far { KeepsFar (B.after self.old.behave) self.old.core (D.end board.old) self.new.core (D.end board.new) }
+        ensures taken { self.new.core.taken ≡ self.old.core.taken + 1 }
+        ensures phase { result ≡ self.new.core.phase }
+        ensures number { self.new.core.number ≡ self.old.core.number }
+        ensures map { self.new.core.cache.map ≡ self.old.core.cache.map }
+        ensures meaning { B.after self.new.behave ≡ B.after self.old.behave }
+        ensures same { SameEnd (D.end board.old) (D.end board.new) }
+        ensures moved { D.moved board.old board.new }
+    {
+        self.state.attempt(map, board, &mut self.behave);
+        self.state.phase
     }
 
     /// The phase: what the next step does.

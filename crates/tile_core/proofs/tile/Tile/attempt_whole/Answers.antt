@@ -6,19 +6,17 @@ use Rattle.border_cache.proofs.Stored.{end_stays}
 use Rattle.tile_core.specs.Turns.{common}
 use Rattle.tile_core.specs.Underway.{IsUnderway, GoesOn, tile_at}
 use Rattle.tile_core.specs.Steps.{StepsIn, is_over, rules_of}
-use Rattle.tile_core.proofs.Advance.{drawn_taken, same_taken}
+use Rattle.tile_core.proofs.Advance.{same_taken}
 use Rattle.tile_core.proofs.Falls.{steps_fall}
 use Rattle.edge_lock.proofs.BoardLaws.{same_end}
 use Rattle.tile_core.proofs.tile.Tile.attempt_whole.Goals as goal
 
 pub loop-phase-init : goal.loop-phase-init
 loop-phase-init g c =
-    let v = c.args.self.now in
-    let w = c.advance-phase.new.self in
-    let e = c.advance-phase.ensures in
+    let e = c.attempt-phase.ensures in
     record {
-      far = λ start attempts u. (e.on start attempts u).0;
-      taken = drawn_taken v.core.cache.map (g.B.Behave.after v.behave) (g.D.Board.end c.args.board.now).end_of v.core w.core (g.D.Board.end c.args.board.now).lists (g.D.Board.end c.advance-phase.new.board).lists v.core.phase c.requires.draw e.step;
+      far = e.far;
+      taken = e.taken;
       phase = e.phase;
       number = e.number;
       map = e.map;
@@ -31,24 +29,24 @@ pub loop-phase-smaller : goal.loop-phase-smaller
 loop-phase-smaller g c =
     let v = c.args.self.now in
     let x = c.loop-phase.self in
-    let y = c.advance-phase-in-loop-phase.new.self in
+    let y = c.advance-phase.new.self in
     let i = c.loop-phase.invariant in
     let b = (g.D.Board.end c.loop-phase.board).lists in
-    let d = (g.D.Board.end c.advance-phase-in-loop-phase.new.board).lists in
+    let d = (g.D.Board.end c.advance-phase.new.board).lists in
     let end_of = (g.D.Board.end c.loop-phase.board).end_of in
     let q = c.requires.underway in
-    let s = subst (λ (p : MapValue × (WindowValue → ℕ → WindowValue)). StepsIn (rules_of p.0 p.1 end_of) (tile_at x.core b) (tile_at y.core d) x.core.phase) (λ j. (i.map j, i.meaning j)) c.advance-phase-in-loop-phase.ensures.step in
+    let s = subst (λ (p : MapValue × (WindowValue → ℕ → WindowValue)). StepsIn (rules_of p.0 p.1 end_of) (tile_at x.core b) (tile_at y.core d) x.core.phase) (λ j. (i.map j, i.meaning j)) c.advance-phase.ensures.step in
     let on : is_over x.core.phase ≡ false = ap is_over (sym i.phase) ∙ (sym c.is_over.ensures ∙ c.loop-phase-test.true) in
     steps_fall v.core.cache.map (g.B.Behave.after v.behave) q.0 q.1 x.core b (i.far q.0 q.1 q.2) end_of y.core d on s
 
 pub loop-phase-preserved : goal.loop-phase-preserved
 loop-phase-preserved g c =
     let x = c.loop-phase.self in
-    let y = c.advance-phase-in-loop-phase.new.self in
+    let y = c.advance-phase.new.self in
     let i = c.loop-phase.invariant in
     let b = (g.D.Board.end c.loop-phase.board).lists in
-    let d = (g.D.Board.end c.advance-phase-in-loop-phase.new.board).lists in
-    let e = c.advance-phase-in-loop-phase.ensures in
+    let d = (g.D.Board.end c.advance-phase.new.board).lists in
+    let e = c.advance-phase.ensures in
     let goes = subst (λ (p : MapValue × (WindowValue → ℕ → WindowValue)). GoesOn p.0 p.1 (tile_at x.core b) (tile_at y.core d)) (λ j. (i.map j, i.meaning j)) e.on in
     let on : is_over x.core.phase ≡ false = ap is_over (sym i.phase) ∙ (sym c.is_over.ensures ∙ c.loop-phase-test.true) in
     record {
@@ -58,19 +56,19 @@ loop-phase-preserved g c =
       number = e.number ∙ i.number;
       map = e.map ∙ i.map;
       meaning = e.meaning ∙ i.meaning;
-      same = same_end (g.D.Board.end c.args.board.now) (g.D.Board.end c.loop-phase.board) (g.D.Board.end c.advance-phase-in-loop-phase.new.board) i.same e.same;
-      moved = g.met.D.Board.moved_on c.args.board.now c.loop-phase.board c.advance-phase-in-loop-phase.new.board i.moved e.moved;
+      same = same_end (g.D.Board.end c.args.board.now) (g.D.Board.end c.loop-phase.board) (g.D.Board.end c.advance-phase.new.board) i.same e.same;
+      moved = g.met.D.Board.moved_on c.args.board.now c.loop-phase.board c.advance-phase.new.board i.moved e.moved;
     }
 
-pub advance-phase-requires-in-loop-phase-clause-underway : goal.advance-phase-requires-in-loop-phase-clause-underway
-advance-phase-requires-in-loop-phase-clause-underway g c =
+pub advance-phase-requires-clause-underway : goal.advance-phase-requires-clause-underway
+advance-phase-requires-clause-underway g c =
     let x = c.loop-phase.self in
     let i = c.loop-phase.invariant in
     let q = c.requires.underway in
     (q.0, q.1, subst (λ (p : MapValue × (WindowValue → ℕ → WindowValue)). IsUnderway (common p.0 p.1 q.0) q.1 x.core (g.D.Board.end c.loop-phase.board).lists) (λ j. (sym i.map j, sym i.meaning j)) (i.far q.0 q.1 q.2))
 
-pub advance-phase-requires-in-loop-phase-clause-board : goal.advance-phase-requires-in-loop-phase-clause-board
-advance-phase-requires-in-loop-phase-clause-board g c =
+pub advance-phase-requires-clause-board : goal.advance-phase-requires-clause-board
+advance-phase-requires-clause-board g c =
     let v = c.args.self.now.core in
     let x = c.loop-phase.self.core in
     let i = c.loop-phase.invariant in
