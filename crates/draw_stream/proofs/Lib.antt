@@ -1,3 +1,3 @@
 pub mod Places
 pub mod Plans
-pub mod Powers
+mod Powers

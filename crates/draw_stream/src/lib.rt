@@ -8,10 +8,12 @@ mod attempt;
 mod attempts;
 mod event_draws;
 mod plan;
+mod remainders;
 mod tile_stream;
 
 pub use attempt::Attempt;
 pub use attempts::Attempts;
 pub use event_draws::EventDraws;
 pub use plan::{AttemptPlan, Script};
+pub use remainders::remainder;
 pub use tile_stream::TileStream;

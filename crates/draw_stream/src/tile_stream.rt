@@ -6,6 +6,7 @@ ghost use Rattle.draw_stream.specs.Attempts.{stream_seed, attempt_at, next_attem
 ghost use Rattle.feast_base.specs.declared.limits.TheConstants.{MOST_SITES};
 
 use crate::Attempt;
+use crate::remainders::remainder;
 use rand_core::SeedableRng;
 use rand_core::utils::NextWord;
 use rand_xoshiro::Xoshiro256PlusPlus;
@@ -57,21 +58,8 @@ impl TileStream {
         ensures after { (stream i : ℕ) → self.old ≡ tile_state stream (2 * i) → self.new ≡ tile_state stream (2 * (i + 1)) }
         ensures bound { result.centre < sites }
     {
-        let centre = rest_of(self.word(), sites) as u32;
+        let centre = remainder(self.word(), sites) as u32;
         let seed = self.word();
         Attempt { centre, seed }
-    }
-}
-
-/// What is left of a word by a division. No division is needed by a power of two.
-#[inline]
-fn rest_of(word: u64, by: u64) -> u64
-    requires { 1 ≤ by }
-    ensures { result ≡ word % by }
-{
-    if by & (by - 1) == 0 {
-        word & (by - 1)
-    } else {
-        word % by
     }
 }

@@ -5,5 +5,4 @@ mod Given
 pub mod Journals
 pub mod KnownAtoms
 pub mod Placing
-mod Powers
 pub mod Valid

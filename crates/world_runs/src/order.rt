@@ -6,7 +6,7 @@ ghost use Rattle.world_text.specs.Values.{world_value, order_value};
 ghost use Rattle.world_runs.specs.Orders.{IsOrder, attempts_in, drawn_order, order_in};
 ghost use Rattle.feast_base.specs.declared.limits.TheConstants.{MOST_ATTEMPTS, MOST_TILES};
 
-use draw_stream::{AttemptPlan, TileStream};
+use draw_stream::{AttemptPlan, TileStream, remainder};
 use feast_base::NoMemory;
 use std::alloc::Global;
 use world_text::{Order, World};
@@ -33,20 +33,6 @@ fn push_two(order: &mut Vec<u32>, one: u32, other: u32)
 {
     order.push_reserved(one);
     order.push_reserved(other);
-}
-
-/// The remainder of a word modulo a number. If that is a power of two, as the number of tiles mostly
-/// is, it takes no division.
-#[inline]
-fn remainder(word: u64, modulus: u64) -> u64
-    requires { 1 ≤ modulus }
-    ensures { result ≡ word % modulus }
-{
-    if modulus.is_power_of_two() {
-        word & (modulus - 1)
-    } else {
-        word % modulus
-    }
 }
 
 /// The tiles that a seed draws: each word of its generator names one, by its remainder modulo the
