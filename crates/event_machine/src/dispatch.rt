@@ -17,7 +17,8 @@ use stack_code::{BinaryOp, Instr, UnaryOp};
 
 /// Does a plain instruction, in an event whose acting type is `kind`. It is the table of
 /// `Instr::shape` once more, with a call for each shape, so that each operator is compiled into an
-/// arm of its own.
+/// arm of its own. It has to be inlined into the loop of a run. That is refused for a function that
+/// is too long with all that it must inline, so what it calls is only hinted to be inlined.
 #[inline(always)]
 #[tactic(auto, using(crate::proofs::Fits::field_is, crate::proofs::Fits::number_is))]
 pub fn plain(running: &mut Activation, kind: u16, i: &Instr) -> Leads
