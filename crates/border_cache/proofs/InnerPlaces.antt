@@ -86,7 +86,7 @@ pub record StampedTo (low width stamp rows : ℕ) (old new : List ℕ) : Type 0 
 pub stamped_none : (low width stamp : ℕ) (old : List ℕ) → StampedTo low width stamp 0 old old
 stamped_none low width stamp old = record { done = λ r c lt. absurd (omega (arith, lt)); others = λ k h. refl }
 
-in_or_out : (first count k : ℕ) → ((first ≤ k) × (k < first + count)) ⊎ ((k < first) ⊎ (first + count ≤ k))
+pub in_or_out : (first count k : ℕ) → ((first ≤ k) × (k < first + count)) ⊎ ((k < first) ⊎ (first + count ≤ k))
 in_or_out first count k = elim (cases_lt k first) [
   | inl below ↦ inr (inl below)
   | inr from ↦ elim (cases_lt k (first + count)) [

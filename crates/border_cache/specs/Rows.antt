@@ -28,3 +28,9 @@ pub record StampsRun (first count stamp : ℕ) (old new : List ℕ) : Type 0 whe
 pub record AreStamped (low width stamp : ℕ) (old new : List ℕ) : Type 0 where
   pub done : (n : ℕ) → n < 41 → slice_index new (inner_place low width n) ≡ stamp
   pub others : (k : ℕ) → IsOutside low width k → slice_index new k ≡ slice_index old k
+
+-- `count` cells from place `first` on have this stamp afterwards and keep their atoms, and all others stay
+pub record StampsCells (first count stamp : ℕ) (old new : List CellValue) : Type 0 where
+  pub count_is : length new ≡ length old
+  pub done : (k : ℕ) → first ≤ k → k < first + count → slice_index_or new k no_cell ≡ cell_value stamp (slice_index_or old k no_cell).atom
+  pub others : (k : ℕ) → (k < first) ⊎ (first + count ≤ k) → slice_index_or new k no_cell ≡ slice_index_or old k no_cell

@@ -1,13 +1,15 @@
 //! A tile's copy of the sites that it holds.
 ghost use Rattle.std.specs.Prelude.{◌≡◌, ◌+◌, ◌<◌, ◌≤◌, ℕ, length, IsTrue, IsSome, IfOk, IfSome};
 ghost use Rattle.bit_field.specs.Atom.{empty_atom};
-ghost use Rattle.tile_map.specs.Plane.{IsMap, site, tiles_of, is_held};
+ghost use Rattle.tile_map.specs.Plane.{IsMap, site, tiles_of, is_held, is_whole};
+ghost use Rattle.tile_map.specs.Tables.{IsSmall};
 ghost use Rattle.tile_map.specs.Edges.{window_site, needs_of};
 ghost use Rattle.cell_grid.specs.Grid.{site_atom};
 ghost use Rattle.window_sites.specs.Window.{atom_at};
 ghost use Rattle.edge_lock.specs.EndLists.{IsHeld};
 ghost use Rattle.edge_lock.specs.EndValues.{SameEnd};
 ghost use Rattle.border_cache.specs.Borders.{IsCentreOf, site_of};
+ghost use Rattle.border_cache.specs.BorderRows.{reach, StampsRow};
 ghost use Rattle.border_cache.specs.Cells.{cell_value};
 ghost use Rattle.border_cache.specs.Windows.{has, has_corners, IsView, IsWhole};
 ghost use Rattle.border_cache.specs.Shared.{Renews};
@@ -22,6 +24,7 @@ use crate::cells::Cells;
 use crate::places::{is_whole, site_at};
 use crate::publish::publish_needs;
 use crate::refresh::refresh_needs;
+use crate::row_runs::run_of;
 use crate::view::view_of;
 use bit_field::Atom;
 use cell_grid::Grid;
@@ -29,7 +32,7 @@ use edge_lock::Board;
 use feast_base::NoMemory;
 use std::alloc::Global;
 use std::marker::Model;
-use tile_map::{Map, Needs, Plane};
+use tile_map::{Area, Map, Needs, Plane, Span};
 use window_sites::Window;
 
 /// A cell for each site that a tile holds: its atom, and the stamp of the event that left it.
@@ -160,6 +163,7 @@ impl Cache {
         map.laws();
         match self.corner(map, x, y) {
             Some(low) => self.cells.stamp(low, self.width as usize, stamp),
+            None if map.is_whole() => self.stamp_reached(map, Centre { x, y }, stamp),
             None => self.stamp_sites(map, Centre { x, y }, stamp),
         }
     }
@@ -290,6 +294,48 @@ impl Cache {
         for n in 0..41u8 {
             let cell = self.cell_around(map, centre, n);
             self.put_around(map, centre, n, Cell::new(stamp, cell.atom()));
+        }
+    }
+
+    /// The same on a plane without a tile that is off, row by row of what the tile reaches.
+    fn stamp_reached(&mut self, map: &Map, centre: Centre, stamp: u32)
+        requires centre { IsCentreOf map.now self.old centre }
+        requires whole { IsTrue (is_whole map.now) }
+        ensures { Stamped (site_of centre) stamp self.old self.new }
+    {
+        for j in 0..9u32 {
+            self.stamp_row(centre, j, stamp);
+        }
+    }
+
+    /// Gives the sites of row `j` of the window at a centre that the tile reaches a stamp.
+    fn stamp_row(&mut self, centre: Centre, j: u32, stamp: u32)
+        requires x { centre.x < MOST_COLUMNS }
+        requires y { centre.y < MOST_COLUMNS }
+        requires j { j < 9 }
+        ensures { StampsRow (site_of centre) j stamp self.old self.new }
+    {
+        if let Some(run) = run_of(self.reach(), centre, j) {
+            let count = run.east - run.west;
+            self.cells
+                .stamp_run(run.start as usize, count as usize, stamp);
+        }
+    }
+
+    /// The columns and rows that the tile reaches.
+    fn reach(&self) -> Area
+        ensures value { result ≡ reach self.now }
+        ensures small { IsSmall result }
+    {
+        Area {
+            columns: Span {
+                first: self.left,
+                end: self.left + self.width,
+            },
+            rows: Span {
+                first: self.top,
+                end: self.top + self.height,
+            },
         }
     }
 

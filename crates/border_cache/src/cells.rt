@@ -4,11 +4,11 @@ ghost use Rattle.window_sites.specs.Inner.{inner_window};
 ghost use Rattle.window_sites.specs.Window.{atom_at};
 ghost use Rattle.border_cache.specs.Cells.{cell_value, paired_cells, cell_atoms};
 ghost use Rattle.border_cache.specs.News.{no_cell};
-ghost use Rattle.border_cache.specs.Rows.{GivesWhole, stamped_at};
+ghost use Rattle.border_cache.specs.Rows.{GivesWhole, StampsCells, stamped_at};
 ghost use Rattle.window_sites.specs.declared.window.TheConstants.{MOST_COLUMNS};
 
 use crate::cell::Cell;
-use crate::rows::stamp_rows;
+use crate::rows::{stamp_rows, stamp_run};
 use bit_field::Atom;
 use cell_grid::put_inner;
 use std::marker::Model;
@@ -86,5 +86,13 @@ impl Cells {
         ensures { GivesWhole low width (stamped_at self.old low width stamp) self.old self.new }
     {
         stamp_rows(self.stamps.as_mut_slice(), low, width, stamp);
+    }
+
+    /// Gives a run of places a stamp. Each keeps its atom.
+    pub(crate) fn stamp_run(&mut self, first: usize, count: usize, stamp: u32)
+        requires { first + count ≤ length self.old }
+        ensures { StampsCells first count stamp self.old self.new }
+    {
+        stamp_run(self.stamps.as_mut_slice(), first, count, stamp);
     }
 }

@@ -9,7 +9,7 @@ ghost use Rattle.window_sites.specs.declared.window.TheConstants.{MOST_COLUMNS};
 
 /// Gives `count` places from `first` on a stamp.
 #[inline]
-fn stamp_run(stamps: &mut [u32], first: usize, count: usize, stamp: u32)
+pub(crate) fn stamp_run(stamps: &mut [u32], first: usize, count: usize, stamp: u32)
     requires inside { first + count ≤ length stamps.old }
     ensures run { StampsRun first count stamp stamps.old stamps.new }
     ensures size { length stamps.new ≡ length stamps.old }

@@ -23,7 +23,7 @@ invariant_of-result c =
     let height : row.result.1 - row.result.0 ≡ rows_of p t = λ i. bottom i - top i in
     let inside : t < tiles_of p = subst (λ q. t < tiles_of q) (sym is) c.requires.tile in
     record {
-      valid = subst IsMap c.plane-2.view_is c.plane-2.invariant;
+      valid = subst IsMap c.plane-2.view_is c.plane-2.invariant.0;
       inside = inside;
       left_is = left;
       top_is = top;

@@ -16,6 +16,13 @@ stamp_sites-requires c = record {
   };
 }
 
+pub stamp_reached-requires-clause-centre : goal.stamp_reached-requires-clause-centre
+stamp_reached-requires-clause-centre c = record {
+  map = c.requires.map;
+  plane = record { valid = search rules; x = search rules; y = search rules };
+  holds = centre_holds c.args.self.now.map (subst IsPlane c.requires.map c.laws.ensures.plane) c.args.self.now.tile (site c.args.x c.args.y) c.requires.centre;
+}
+
 pub returns-in-Some : goal.returns-in-Some
 returns-in-Some c =
     let f = c.self.inside in
