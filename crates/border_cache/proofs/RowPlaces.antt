@@ -17,7 +17,7 @@ use Rattle.tile_map.proofs.Registers.{number_place}
 use Rattle.tile_map.specs.Spans.{is_within}
 use Rattle.tile_map.proofs.Near.{offset_to, offset_to-abs, shifted-offset_to, shifted-apart}
 use Rattle.border_cache.specs.News.{Covers, bit_in, AreMasks, SetsRun}
-use Rattle.border_cache.specs.Windows.{place_among, place_at, IsNear, IsRunOf, SetsRow}
+use Rattle.border_cache.specs.Windows.{place_among, place_at, AreRowsOf, IsNear, IsRunOf, SetsRow}
 use Rattle.border_cache.specs.declared.row_runs.Run.{Run}
 
 -- a row of which the area has no site
@@ -66,10 +66,10 @@ no_bits zero k z is = refl
 no_bits (suc n) zero z is = is
 no_bits (suc n) (suc k) z is = no_bits n k z is
 
-pub rows_begin : (a : Area) (c : Site) (masks : List ℕ) → length masks ≡ 9 → ((k : ℕ) → slice_index_or masks k 0 ≡ 0) → RowsSet a c 0 masks
-rows_begin a c masks count none = record {
+pub rows_begin : (a : Area) (c : Site) (first end : ℕ) (masks : List ℕ) → AreRowsOf a c first end → length masks ≡ 9 → ((k : ℕ) → slice_index_or masks k 0 ≡ 0) → RowsSet a c first masks
+rows_begin a c first end masks h count none = record {
   count = count;
-  set = λ k u v n lt. let close = n.close in absurd (omega (arith, lt, close));
+  set = λ k u v n lt. let q = h.rows k u v n in absurd (omega (arith, lt, q.0));
   only = λ k one. let z = ap (λ w. bit_at w (k % 64)) (none (k / 64)) ∙ bit_at-zero (k % 64) in absurd (omega (arith, one, z));
 }
 
@@ -113,8 +113,8 @@ module _ (a : Area) (c : Site) where
             ∙ (ap (λ b. if b then Some ((v - a.rows.first) * (a.columns.end - a.columns.first) + (u - a.columns.first)) else None) inside ∙ ap Some (sym n.place))),
       )
 
-  pub rows_all : (j : ℕ) (masks : List ℕ) → 9 ≤ j → RowsSet a c j masks → AreMasks (place_at a c) 41 masks
-  rows_all j masks all r = record {
-    set = λ k cov. let n = place_near cov.0 k cov.1 cov.2 in let close = n.2.close in r.set k n.0 n.1 n.2 (omega (arith, close, all));
+  pub rows_all : (first end j : ℕ) (masks : List ℕ) → AreRowsOf a c first end → end ≤ j → RowsSet a c j masks → AreMasks (place_at a c) 41 masks
+  rows_all first end j masks h all r = record {
+    set = λ k cov. let n = place_near cov.0 k cov.1 cov.2 in let q = h.rows k n.0 n.1 n.2 in r.set k n.0 n.1 n.2 (omega (arith, q.1, all));
     only = λ k one. let n = r.only k one in near_place k n.0 n.1 n.2;
   }

@@ -11,7 +11,7 @@ use Rattle.tile_map.specs.Tables.{sites_in}
 use Rattle.tile_map.proofs.Registers.{number_place}
 use Rattle.border_cache.specs.declared.row_runs.Run.{Run}
 use Rattle.border_cache.specs.News.{Covers}
-use Rattle.border_cache.specs.Windows.{place_in, edge_place_some, IsNear, IsRunOf, IsRowRun}
+use Rattle.border_cache.specs.Windows.{place_in, edge_place_some, AreRowsOf, IsNear, IsRunOf, IsRowRun}
 use Rattle.border_cache.specs.Copies.{CacheValue, HoldsWindow, cell_for, held_cell, window_cells}
 use Rattle.border_cache.specs.Shared.{IsSharedRun, IsInRow, IsInRun, shared_cell}
 use Rattle.border_cache.proofs.Covered.{whole_place}
@@ -39,8 +39,8 @@ place_inside m c e n k h = let p = placed_site m c e n k h in slice_get_within (
 abbrev pub IsAbove : Area → Site → ℕ → ℕ → Type 0
 IsAbove a c j k = (u : ℕ) × (w : ℕ) × IsNear a c k u w × (w + 4 < c.y + j)
 
-pub above_none : (a : Area) (c : Site) (k : ℕ) → IsAbove a c 0 k → ⊥
-above_none a c k (u, w, n, lt) = let close = n.close in omega (arith, lt, close)
+pub above_none : (a : Area) (c : Site) (first end k : ℕ) → AreRowsOf a c first end → IsAbove a c first k → ⊥
+above_none a c first end k h (u, w, n, lt) = let q = h.rows k u w n in omega (arith, lt, q.0)
 
 module _ (v : CacheValue) (p : IsPlane v.map) (a : Area) (c : Site) (e : ℕ) (is : shared_of v.map e ≡ sites_in a) (holds : HoldsWindow v.map v.tile c) where
   near_shared : (k u w : ℕ) → IsNear a c k u w → slice_get (shared_of v.map e) k ≡ Some (site u w)
@@ -64,11 +64,11 @@ module _ (v : CacheValue) (p : IsPlane v.map) (a : Area) (c : Site) (e : ℕ) (i
     held = λ u lo hi. near_held (r.start + (u - r.west)) u r.row (h.near u lo hi);
   }
 
-  pub above_all : (j k : ℕ) → 9 ≤ j → Covers (place_in v.map c e) 41 k → IsAbove a c j k
-  above_all j k all q =
+  pub above_all : (first end j k : ℕ) → AreRowsOf a c first end → end ≤ j → Covers (place_in v.map c e) 41 k → IsAbove a c j k
+  above_all first end j k h all q =
       let n = place_near a c q.0 k q.1 (whole_place v.map p a c e q.0 is ∙ q.2) in
-      let close = n.2.close in
-      (n.0, n.1, n.2, omega (arith, close, all))
+      let r = h.rows k n.0 n.1 n.2 in
+      (n.0, n.1, n.2, omega (arith, r.1, all))
 
   pub all_above : (j k : ℕ) → IsAbove a c j k → Covers (place_in v.map c e) 41 k
   all_above j k (u, w, n, lt) = near_covers k u w n

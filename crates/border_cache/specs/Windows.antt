@@ -64,6 +64,12 @@ abbrev pub IsRowRun : Area → Site → ℕ → Option Run → Type 0
 IsRowRun a c j None = (k u v : ℕ) → IsNear a c k u v → v + 4 ≡ c.y + j → ⊥
 IsRowRun a c j (Some r) = IsRunOf a c j r
 
+-- the sites of the window at c that an area has are in the rows from `first` up to `end` and without it; the rows are
+-- counted from the north
+pub record AreRowsOf (a : Area) (c : Site) (first end : ℕ) : Type 0 where
+  pub few : end ≤ 9
+  pub rows : (k u v : ℕ) → IsNear a c k u v → (c.y + first ≤ v + 4) × (v + 4 < c.y + end)
+
 -- the bits of row j of the window at c are set, by their places in an area, and no bit of a place that isn't near the
 -- centre; the rows are counted from the north
 pub record SetsRow (a : Area) (c : Site) (j : ℕ) (old new : List ℕ) : Type 0 where

@@ -10,7 +10,7 @@ ghost use Rattle.tile_map.specs.declared.limits.TheConstants.{MOST_SHARED};
 ghost use Rattle.window_sites.specs.declared.window.TheConstants.{MOST_COLUMNS};
 
 use crate::border::Centre;
-use crate::row_runs::run_of;
+use crate::row_runs::{rows_of, run_of};
 use tile_map::Area;
 
 /// Sets the bit of a place.
@@ -91,7 +91,8 @@ pub(crate) fn masks_at(area: Area, centre: Centre) -> [u64; 9]
     ensures count { length result ≡ 9 }
 {
     let mut masks = [0; 9];
-    for j in 0..9u32 {
+    let (first, end) = rows_of(area, centre);
+    for j in first..end {
         set_row(&mut masks, area, centre, j);
     }
     masks

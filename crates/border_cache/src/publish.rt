@@ -16,7 +16,7 @@ use crate::cache::Cache;
 use crate::masks::set_run;
 use crate::news::{put_bits, put_cell};
 use crate::places::{end_of, masks_by_site, place_in, site_at};
-use crate::row_runs::{Run, run_of};
+use crate::row_runs::{Run, rows_of, run_of};
 use edge_lock::Board;
 use tile_map::{Area, Map, Needs};
 
@@ -78,7 +78,8 @@ fn put_rows<D: Board>(
     ensures moved { D.moved board.old board.new }
 {
     let mut masks = [0; 9];
-    for j in 0..9u32 {
+    let (first, end) = rows_of(area, centre);
+    for j in first..end {
         if let Some(run) = put_row(cache, area, centre, j, border, board) {
             set_run(&mut masks, run.start, run.start + (run.east - run.west));
         }

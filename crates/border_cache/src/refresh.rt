@@ -16,7 +16,7 @@ use crate::cache::Cache;
 use crate::masks::are_clear;
 use crate::news::{read_news, read_site};
 use crate::places::{end_of, masks_of, place_in, site_at};
-use crate::row_runs::{Run, run_of};
+use crate::row_runs::{Run, rows_of, run_of};
 use edge_lock::Board;
 use tile_map::{Area, Map, Needs};
 
@@ -94,7 +94,8 @@ fn refresh_rows<D: Board>(cache: &mut Cache, area: Area, centre: Centre, news: &
     ensures same { SameEnd (D.end board.old) (D.end board.new) }
     ensures moved { D.moved board.old board.new }
 {
-    for j in 0..9u32 {
+    let (first, end) = rows_of(area, centre);
+    for j in first..end {
         refresh_row(cache, area, centre, j, news, board);
     }
 }

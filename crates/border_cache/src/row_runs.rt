@@ -2,7 +2,7 @@
 ghost use Rattle.std.specs.Prelude.{◌<◌};
 ghost use Rattle.tile_map.specs.Tables.{IsSmall};
 ghost use Rattle.border_cache.specs.Borders.{site_of};
-ghost use Rattle.border_cache.specs.Windows.{IsRowRun};
+ghost use Rattle.border_cache.specs.Windows.{AreRowsOf, IsRowRun};
 ghost use Rattle.window_sites.specs.declared.window.TheConstants.{MOST_COLUMNS};
 
 use crate::border::Centre;
@@ -20,6 +20,22 @@ pub(crate) struct Run {
     pub east: u32,
     /// The place of the site in the first column.
     pub start: u32,
+}
+
+/// The first row of the window at a site that an area has, counted from the north, and one more than
+/// the last.
+#[inline]
+pub(crate) fn rows_of(area: Area, centre: Centre) -> (u32, u32)
+    requires small { IsSmall area }
+    requires y { centre.y < MOST_COLUMNS }
+    ensures { AreRowsOf area (site_of centre) result.0 result.1 }
+{
+    let first = area.rows.first.min(area.rows.end);
+    let end = area.rows.end + 4;
+    (
+        (first + 4).saturating_sub(centre.y),
+        end.saturating_sub(centre.y).min(9),
+    )
 }
 
 /// The run of row `j` of the window at a site, counted from the north, or `None` if the area has no

@@ -1,4 +1,5 @@
 use Rattle.std.proofs.Common.{rules, arith, ap, length, subst, ◌≤◌, ◌+◌, ◌⊎◌, [], ◌++◌, replicate, refl, sym}
+use Rattle.tile_map.proofs.Numbers.{size_low}
 use Rattle.tile_map.proofs.PlaneLaws.{plane}
 use Rattle.border_cache.specs.Borders.{site_of}
 use Rattle.border_cache.specs.Shared.{IsInRow, IsInWindowOf, shared_cell}
@@ -19,11 +20,14 @@ loop-j-init g c =
     let a = c.args.area in
     let s = site_of c.args.centre in
     record {
-      marks = rows_begin a s (replicate 9 0) refl (λ k. no_bits 9 k 0 refl);
-      put = ([], adds_none (g.D.Board.end c.args.board.now).lists c.args.border.edge, puts_none (IsAbove a s 0) (shared_cell c.args.cache.now c.args.border.edge) (above_none a s));
+      marks = rows_begin a s c.rows_of-first.result.0 c.rows_of-first.result.1 (replicate 9 0) c.rows_of-first.ensures refl (λ k. no_bits 9 k 0 refl);
+      put = ([], adds_none (g.D.Board.end c.args.board.now).lists c.args.border.edge, puts_none (IsAbove a s c.rows_of-first.result.0) (shared_cell c.args.cache.now c.args.border.edge) (λ k. above_none a s c.rows_of-first.result.0 c.rows_of-first.result.1 k c.rows_of-first.ensures));
       same = same_end_here (g.D.Board.end c.args.board.now);
       moved = search rules;
     }
+
+pub put_row-requires-clause-j : goal.put_row-requires-clause-j
+put_row-requires-clause-j g c = let few = c.rows_of-first.ensures.few in omega (arith, c.loop-j-test.true, few)
 
 pub put_row-requires-clause-hold : goal.put_row-requires-clause-hold
 put_row-requires-clause-hold g c =
@@ -97,9 +101,10 @@ returns-clause-put g c =
     let a = c.args.area in
     let s = site_of c.args.centre in
     let j = c.loop-j.j in
-    let all : 9 ≤ j = omega (arith, c.loop-j-test.false) in
+    let rows = c.rows_of-first in
+    let all : rows.result.1 ≤ j = omega (arith, c.loop-j-test.false) in
     let laws = plane v.map c.requires.centre.plane.valid in
-    (p.0, p.1, puts_same (IsAbove a s j) (IsInWindowOf v.map s c.args.border.edge) (shared_cell v c.args.border.edge) p.0 (all_above v laws a s c.args.border.edge c.requires.area.shared.0 c.requires.centre.holds j) (λ k. above_all v laws a s c.args.border.edge c.requires.area.shared.0 c.requires.centre.holds j k all) p.2)
+    (p.0, p.1, puts_same (IsAbove a s j) (IsInWindowOf v.map s c.args.border.edge) (shared_cell v c.args.border.edge) p.0 (all_above v laws a s c.args.border.edge c.requires.area.shared.0 c.requires.centre.holds j) (λ k. above_all v laws a s c.args.border.edge c.requires.area.shared.0 c.requires.centre.holds rows.result.0 rows.result.1 j k rows.ensures all) p.2)
 
 pub returns-clause-masks : goal.returns-clause-masks
 returns-clause-masks g c =
@@ -107,4 +112,11 @@ returns-clause-masks g c =
     let a = c.args.area in
     let s = site_of c.args.centre in
     let laws = plane v.map c.requires.centre.plane.valid in
-    masks_by (place_at a s) (place_in v.map s c.args.border.edge) 41 c.loop-j.masks (λ n lt. whole_place v.map laws a s c.args.border.edge n c.requires.area.shared.0) (rows_all a s c.loop-j.j c.loop-j.masks (omega (arith, c.loop-j-test.false)) c.loop-j.invariant.marks)
+    masks_by (place_at a s) (place_in v.map s c.args.border.edge) 41 c.loop-j.masks (λ n lt. whole_place v.map laws a s c.args.border.edge n c.requires.area.shared.0) (rows_all a s c.rows_of-first.result.0 c.rows_of-first.result.1 c.loop-j.j c.loop-j.masks c.rows_of-first.ensures (omega (arith, c.loop-j-test.false)) c.loop-j.invariant.marks)
+
+pub rows_of-first-requires-clause-y : goal.rows_of-first-requires-clause-y
+rows_of-first-requires-clause-y g c =
+    let m = c.args.cache.now.map in
+    let s = c.requires.centre.plane.valid.sizes in
+    let high = size_low m.ty m.h s.ty_high s.h_high in
+    omega (arith, c.requires.centre.plane.y, high)

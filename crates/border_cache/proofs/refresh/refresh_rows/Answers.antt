@@ -1,4 +1,5 @@
 use Rattle.std.proofs.Common.{rules, arith, ◌≤◌, ◌+◌, [], ◌++◌, sym, subst}
+use Rattle.tile_map.proofs.Numbers.{size_low}
 use Rattle.tile_map.proofs.PlaneLaws.{plane}
 use Rattle.border_cache.specs.Borders.{IsAreaOf, site_of}
 use Rattle.border_cache.specs.News.{NewsIn}
@@ -15,10 +16,13 @@ loop-j-init g c =
     let a = c.args.area in
     let s = site_of c.args.centre in
     record {
-      read = ([], adds_none (g.D.Board.end c.args.board.now).lists c.args.news.now.border.edge, takes_none c.args.news.now.border.edge (NewsIn c.args.news.now.words (IsAbove a s 0)) c.args.cache.now (λ k h. above_none a s k h.0));
+      read = ([], adds_none (g.D.Board.end c.args.board.now).lists c.args.news.now.border.edge, takes_none c.args.news.now.border.edge (NewsIn c.args.news.now.words (IsAbove a s c.rows_of-first.result.0)) c.args.cache.now (λ k h. above_none a s c.rows_of-first.result.0 c.rows_of-first.result.1 k c.rows_of-first.ensures h.0));
       same = same_end_here (g.D.Board.end c.args.board.now);
       moved = search rules;
     }
+
+pub refresh_row-requires-clause-j : goal.refresh_row-requires-clause-j
+refresh_row-requires-clause-j g c = let few = c.rows_of-first.ensures.few in omega (arith, c.loop-j-test.true, few)
 
 pub refresh_row-requires-clause-centre : goal.refresh_row-requires-clause-centre
 refresh_row-requires-clause-centre g c =
@@ -62,6 +66,14 @@ returns-clause-read g c =
     let j = c.loop-j.j in
     let e = c.args.news.now.border.edge in
     let news = c.args.news.now.words in
-    let all : 9 ≤ j = omega (arith, c.loop-j-test.false) in
+    let rows = c.rows_of-first in
+    let all : rows.result.1 ≤ j = omega (arith, c.loop-j-test.false) in
     let laws = plane v.map c.requires.centre.plane.valid in
-    (p.0, p.1, takes_same e (NewsIn news (IsAbove a s j)) (NewsIn news (IsInWindowOf v.map s e)) v c.loop-j.cache p.0 (λ k h. (all_above v laws a s e c.requires.area.shared.0 c.requires.centre.holds j k h.0, h.1)) (λ k h. (above_all v laws a s e c.requires.area.shared.0 c.requires.centre.holds j k all h.0, h.1)) p.2)
+    (p.0, p.1, takes_same e (NewsIn news (IsAbove a s j)) (NewsIn news (IsInWindowOf v.map s e)) v c.loop-j.cache p.0 (λ k h. (all_above v laws a s e c.requires.area.shared.0 c.requires.centre.holds j k h.0, h.1)) (λ k h. (above_all v laws a s e c.requires.area.shared.0 c.requires.centre.holds rows.result.0 rows.result.1 j k rows.ensures all h.0, h.1)) p.2)
+
+pub rows_of-first-requires-clause-y : goal.rows_of-first-requires-clause-y
+rows_of-first-requires-clause-y g c =
+    let m = c.args.cache.now.map in
+    let s = c.requires.centre.plane.valid.sizes in
+    let high = size_low m.ty m.h s.ty_high s.h_high in
+    omega (arith, c.requires.centre.plane.y, high)
