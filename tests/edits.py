@@ -117,9 +117,9 @@ SPARED = {
         "report_text": "count_len entries_text_len",
         "sat_math": "add sub mul and or xor shr",
         "text_lines": "first_field seed_digits state_digits seed",
-        "tile_core": "Phase::is_over Tile::attempt_whole Tile::in_hand",
+        "tile_core": "Phase::is_over Tile::in_hand",
         "tile_map": "Map::tiles Map::width Map::height Map::tile_width Map::tile_height Map::tile_sites Map::is_on "
-                    "Map::owner Map::site_of Area::place_within",
+                    "Map::owner Area::place_within",
         "ulam_lex": "is_keyword",
         "world_runs": "fresh_tiles",
         "world_text": "RawWorld::tiles",

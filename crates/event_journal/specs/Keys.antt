@@ -38,7 +38,7 @@ pub record AreKeys (ls : List (List Record)) (keys : List ℕ) : Type 0 where
   pub count : length keys ≡ length ls
   pub each : (k : ℕ) → k < length ls → IsKey k (slice_index_or ls k []) (slice_index_or keys k 0)
 
--- a list in two parts: the records with stamps below one, and the others
+-- a list in two parts: the records with stamps below a given one, and the others
 pub record IsCut (stamp : ℕ) (xs low high : List Record) : Type 0 where
   pub parts : xs ≡ low ++ high
   pub below : All (λ (r : Record). r.stamp < stamp) low

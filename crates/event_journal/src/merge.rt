@@ -63,13 +63,13 @@ impl<'a> Merge<'a> {
         self.lefts[k]
     }
 
-    /// Leaves these records of log `k`.
-    pub(crate) fn leave(&mut self, k: usize, records: &'a [Record])
+    /// Sets the records that are left of log `k`.
+    pub(crate) fn set_left(&mut self, k: usize, records: &'a [Record])
         requires inside { k < length self.old }
         requires own { IsOwn k records.now }
         ensures { self.new ≡ slice_set self.old k records.now }
     {
-        leave(self.lefts.as_mut_slice(), &mut self.keys, k, records);
+        set_left(self.lefts.as_mut_slice(), &mut self.keys, k, records);
     }
 
     /// Whether no record is left.
@@ -142,8 +142,8 @@ fn tournament(alloc: Global, lefts: &[&[Record]]) -> Result<Tournament, NoMemory
     Tournament::new(alloc, keys.as_slice())
 }
 
-/// Leaves these records of log `k`.
-fn leave<'a>(lefts: &mut [&'a [Record]], keys: &mut Tournament, k: usize, records: &'a [Record])
+/// Sets the records that are left of log `k`.
+fn set_left<'a>(lefts: &mut [&'a [Record]], keys: &mut Tournament, k: usize, records: &'a [Record])
     requires inside { k < length lefts.old }
     requires mine { IsOwn k records.now }
     requires own { AreOwn (lists_behind lefts.old) }

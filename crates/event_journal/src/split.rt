@@ -39,8 +39,8 @@ fn split_below<'a>(merge: &mut Merge<'a>, front: &mut Merge<'a>, stamp: u64)
     merge.laws();
     for k in 0..merge.logs() {
         let (below, above) = cut(merge.left(k), stamp);
-        front.leave(k, below);
-        merge.leave(k, above);
+        front.set_left(k, below);
+        merge.set_left(k, above);
     }
     front.laws();
     merge.laws();
@@ -51,7 +51,7 @@ fn close(merge: &mut Merge<'_>)
     ensures { merged is_before merge.new ≡ [] }
 {
     for k in 0..merge.logs() {
-        merge.leave(k, &[]);
+        merge.set_left(k, &[]);
     }
 }
 

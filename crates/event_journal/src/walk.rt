@@ -39,9 +39,10 @@ impl<'a> Walk<'a> {
     }
 
     /// Moves the records that come first to another walk through the same journal, whose own are
-    /// dropped: those with stamps below one, so that each tile gives at most `most`, and some tile
-    /// just as many if it has them. So the two walks, one after the other, give what this one would
-    /// have given. Takes no memory. Nothing is moved to a walk through the logs of more or fewer tiles.
+    /// dropped. So the two walks, one after the other, give what this one would have given. Takes no
+    /// memory. How many are moved is in no clause: those with stamps below a number such that each
+    /// tile gives at most `most`, and some tile just as many if it has them; and none to a walk
+    /// through the logs of more or fewer tiles.
     pub fn split_front(&mut self, front: &mut Walk<'a>, most: usize)
         ensures { rest_of self.old ≡ rest_of front.new ++ rest_of self.new }
     {

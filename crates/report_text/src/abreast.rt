@@ -69,6 +69,15 @@ fn part_count<R: Threads>(rt: &R, journal: &Journal) -> usize {
     }
 }
 
+/// How many tiles of a journal have events.
+fn busy_tiles(journal: &Journal) -> usize {
+    journal
+        .logs()
+        .iter()
+        .filter(|log| !log.records().is_empty())
+        .count()
+}
+
 /// So many parts of a journal, each with room for so many bytes. `NoMemory` if there is none for
 /// them.
 fn make_parts<'a>(
@@ -95,7 +104,7 @@ impl<'a> Events<'a> {
     {
         let count = part_count(rt, journal);
         let bytes = ROOM / count.max(1);
-        let most = (bytes / LONGEST_RECORD / (journal.tiles() as usize).max(1)).max(1);
+        let most = (bytes / LONGEST_RECORD / busy_tiles(journal).max(1)).max(1);
         Ok(Events {
             walk: journal.walk(alloc)?,
             parts: make_parts(alloc, journal, count, bytes)?,
@@ -137,8 +146,7 @@ fn fill_all<'a>(parts: &mut [Part<'a>], walk: &mut Walk<'a>, most: usize)
     }
 }
 
-/// Prints parts side by side: each in a thread of its own as far as there are threads, and the
-/// others in this one.
+/// Prints parts side by side, each in a thread of its own as far as there are threads.
 fn print_all<R: Threads + Sync>(rt: &R, parts: &mut [Part<'_>])
     ensures { parts.new ≡ parts.old }
 {

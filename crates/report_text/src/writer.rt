@@ -60,12 +60,13 @@ pub fn printed_report(
 }
 
 /// Puts the report of a run: its grid's atoms and its journal. Each atom is empty or its type has a
-/// name: type numbers count the names from 1. All memory is allocated before the first put, and the
-/// pieces that are put have 4,096 bytes each except the last, which has 1 to 4,096.
+/// name: type numbers count the names from 1. All memory is allocated before the first put (what a
+/// thread's stack takes is the system's), and the pieces that are put have 4,096 bytes each except
+/// the last, which has 1 to 4,096.
 ///
-/// More than 20,000 events are printed side by side, by as many threads as there are processors, up
-/// to eight, as far as there are threads, into 4 MiB that are taken for it. Fewer are printed in this
-/// thread alone.
+/// Up to 20,000 events, and on one processor any number, are printed in this thread alone. More are
+/// printed side by side, by as many threads as there are processors, up to eight, as far as threads
+/// start; their lines take 4 MiB, and each thread a walk through the journal.
 ///
 /// `Sink` only if the sink failed in this call; it then has a first part of the report. `NoMemory`
 /// if there was none for what the events are printed in; then nothing was put.

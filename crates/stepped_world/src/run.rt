@@ -41,7 +41,7 @@ fn step_one<B: Behave>(map: &Map, tiles: &mut [Tile<B>], board: &mut PlainBoard,
 
 /// Lets a tile make one step, unless it stands still: then a step would do nothing.
 #[inline]
-fn step_on<B: Behave>(map: &Map, tiles: &mut [Tile<B>], board: &mut PlainBoard, tile: u32)
+fn step_unless_still<B: Behave>(map: &Map, tiles: &mut [Tile<B>], board: &mut PlainBoard, tile: u32)
     requires tile { tile < tiles_of map.now }
     requires ready { InSomeCourse map.now (λ c. AreUnderway B.after c tiles.old board.old) }
     ensures follows { Follows B.after map.now (on_board tiles.old board.old) (on_board tiles.new board.new) (step_of tile) }
@@ -77,7 +77,7 @@ fn follow<B: Behave, O: Iterator<Item = u32>>(
     ensures follows { DrainsTo O.next_gives order (λ xs. Follows B.after map.now (on_board tiles.old board.old) (on_board tiles.new board.new) (steps_by xs)) }
 {
     for tile in order {
-        step_on(map, tiles, board, tile);
+        step_unless_still(map, tiles, board, tile);
     }
 }
 

@@ -100,6 +100,6 @@ pub record IsReady (m : MapValue) (meaning : WindowValue → ℕ → WindowValue
   pub board : IsEndOf m s.number end
   pub room : HasRoom s
 
--- the same, whatever events make of windows
+-- the same, for some meaning of events
 abbrev pub IsReadySomehow : MapValue → State → EndValue → Type 0
 IsReadySomehow m s end = (meaning : WindowValue → ℕ → WindowValue) × IsReady m meaning s end

@@ -8,14 +8,14 @@ cut-requires c =
     let l = c.loop-k in
     (next_own c.args.stamp l.k c.args.merge.now l.front l.merge c.left.result.now l.invariant.split (omega (arith, l.invariant.end, c.loop-k-test.true)) c.laws.ensures c.left.ensures).1.rising
 
-pub leave-requires-clause-own : goal.leave-requires-clause-own
-leave-requires-clause-own c =
+pub set_left-requires-clause-own : goal.set_left-requires-clause-own
+set_left-requires-clause-own c =
     let l = c.loop-k in
     let own = (next_own c.args.stamp l.k c.args.merge.now l.front l.merge c.left.result.now l.invariant.split (omega (arith, l.invariant.end, c.loop-k-test.true)) c.laws.ensures c.left.ensures).1 in
     (own_cut l.k c.args.stamp c.left.result.now c.cut.result.0.now c.cut.result.1.now c.cut.ensures own).0
 
-pub leave-requires-in-loop-k-clause-own : goal.leave-requires-in-loop-k-clause-own
-leave-requires-in-loop-k-clause-own c =
+pub set_left-requires-in-loop-k-clause-own : goal.set_left-requires-in-loop-k-clause-own
+set_left-requires-in-loop-k-clause-own c =
     let l = c.loop-k in
     let own = (next_own c.args.stamp l.k c.args.merge.now l.front l.merge c.left.result.now l.invariant.split (omega (arith, l.invariant.end, c.loop-k-test.true)) c.laws.ensures c.left.ensures).1 in
     (own_cut l.k c.args.stamp c.left.result.now c.cut.result.0.now c.cut.result.1.now c.cut.ensures own).1
@@ -29,7 +29,7 @@ loop-k-preserved c =
     let same = (next_own c.args.stamp l.k c.args.merge.now l.front l.merge c.left.result.now l.invariant.split inside c.laws.ensures c.left.ensures).0 in
     record {
       end = l.invariant.end;
-      split = rw (c.leave.ensures, c.leave-in-loop-k.ensures) (split_more c.args.stamp l.k c.args.merge.now l.front l.merge low high l.invariant.split inside (subst (λ xs. IsCut c.args.stamp xs low high) same c.cut.ensures));
+      split = rw (c.set_left.ensures, c.set_left-in-loop-k.ensures) (split_more c.args.stamp l.k c.args.merge.now l.front l.merge low high l.invariant.split inside (subst (λ xs. IsCut c.args.stamp xs low high) same c.cut.ensures));
     }
 
 pub returns : goal.returns

@@ -1,7 +1,7 @@
 use Rattle.std.proofs.Common.{sym, subst, arith}
 use Rattle.event_journal.specs.Keys.{AreOwn, lists_behind}
 use Rattle.event_journal.proofs.Keys.{behind_long, behind_set, keys_still, own_set}
-use Rattle.event_journal.proofs.merge.leave.Goals as goal
+use Rattle.event_journal.proofs.merge.set_left.Goals as goal
 
 pub returns-clause-lists : goal.returns-clause-lists
 returns-clause-lists c = behind_set c.args.lefts.now c.args.k c.args.records

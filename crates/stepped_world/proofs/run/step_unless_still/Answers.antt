@@ -1,6 +1,6 @@
 use Rattle.std.proofs.Common.{◌∙◌, arith, sym}
 use Rattle.stepped_world.proofs.Following.{still_step}
-use Rattle.stepped_world.proofs.run.step_on.Goals as goal
+use Rattle.stepped_world.proofs.run.step_unless_still.Goals as goal
 
 pub returns-else-not-stands_still : goal.returns-else-not-stands_still
 returns-else-not-stands_still g c =
