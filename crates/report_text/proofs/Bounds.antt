@@ -15,7 +15,7 @@ use Rattle.draw_stream.specs.Plans.{PlanValue, attempts}
 use Rattle.event_journal.specs.Accounts.{AreExcused, IsAccounted, IsEventOf, IsExcusedBy, IsGivenUpOf, IsStamped, Needs}
 use Rattle.event_journal.specs.declared.abandoned.Abandoned.{Abandoned}
 use Rattle.tile_map.specs.Plane.{MapValue, IsMap, is_owned, owner_of, site, site_in, sites_of, tiles_of}
-use Rattle.tile_map.proofs.PlaneLaws.{needs, owner-one, positions, site_in_low}
+use Rattle.tile_map.proofs.PlaneLaws.{needs, owner-one, positions, site_place}
 use Rattle.tile_map.proofs.Pairs.{pairs_bounded}
 use Rattle.report_text.proofs.Counting.{HasKey, few_keyed, key_low, key_there, keys_count, keys_from}
 use Rattle.report_text.proofs.Stamps.{stamps_low}
@@ -78,7 +78,7 @@ of_plan m plan t i x y a p is at =
     let column : x ≡ t % m.tx * m.w + a.centre % m.w = ap (λ s. s.x) at in
     let row : y ≡ t / m.tx * m.h + a.centre / m.w = ap (λ s. s.y) at in
     let x_low = column_there m t a.centre p.map in
-    let y_low = site_in_low m p.map t a.centre tile fits.0 in
+    let y_low : t / m.tx * m.h + a.centre / m.w < m.ty * m.h = (site_place m p.map t a.centre tile fits.0).y in
     record {
       tile = tile;
       attempt = inside;

@@ -21,6 +21,7 @@ impl Map {
     {
         let tiles = self.tiles();
         if tiles > 1 {
+            self.zones.reserve_exact((tiles * ZONES) as usize)?;
             for _ in 0..tiles * ZONES {
                 self.add_zone()?;
             }
@@ -57,7 +58,7 @@ impl Map {
     }
 
     /// The edges that an event of a tile that is on needs at a site of its rectangle, by the site's
-    /// zone.
+    /// zone; by the tile's edges if nothing is kept of the zone, as on a plane of one tile.
     pub(crate) fn needs_by_zone(&self, tile: u32, x: u32, y: u32) -> Needs
         requires owned { IsTrue (is_owned self.now tile (site x y)) }
         requires live { IsTrue (is_live self.now (site x y)) }
