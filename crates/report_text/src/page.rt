@@ -1,5 +1,5 @@
 //! A page of a text that is on its way to a sink.
-ghost use Rattle.std.specs.Prelude.{◌≡◌, ℕ, ◌+◌, ◌-◌, ◌^◌, ◌<◌, ◌≤◌, ◌++◌, List, [], length, take};
+ghost use Rattle.std.specs.Prelude.{◌≡◌, ◌==◌, ℕ, ◌+◌, ◌-◌, ◌^◌, ◌<◌, ◌≤◌, ◌++◌, List, [], length, take};
 ghost use Rattle.report_text.specs.Writing.{PutsAll, Streams, heading};
 ghost use Rattle.report_text.specs.declared.page.TheConstants.{PIECE};
 
@@ -43,6 +43,14 @@ impl Page {
         PIECE - self.used
     }
 
+    /// Whether it has no byte.
+    #[inline(always)]
+    fn is_empty(&self) -> bool
+        ensures { result ≡ (length self.now == 0) }
+    {
+        self.used == 0
+    }
+
     /// Its bytes.
     fn as_slice(&self) -> &[u8]
         ensures value { result.now ≡ self.now }
@@ -82,6 +90,21 @@ fn put_full<K: Sink>(sink: &mut K, page: &mut Page) -> Result<(), SinkFailed>
     put
 }
 
+/// Puts a page with the bytes that fill it, and empties it. If it has none of its own, these bytes
+/// are put as they lie, and nothing is copied.
+fn put_piece<K: Sink>(sink: &mut K, page: &mut Page, bytes: &[u8]) -> Result<(), SinkFailed>
+    requires room { (K.state sink.old).faults < 2 ^ 64 - 1 }
+    requires full { length page.old + length bytes.now ≡ PIECE }
+    ensures puts { PutsAll (K.state sink.old) (K.state sink.new) (page.old ++ bytes.now) result }
+    ensures empty { page.new ≡ [] }
+{
+    if page.is_empty() {
+        return sink.put(bytes);
+    }
+    page.append(bytes);
+    put_full(sink, page)
+}
+
 /// Puts the last page of a text, unless it is empty.
 #[tactic(auto, using(crate::proofs::Putting::put_nothing))]
 pub(crate) fn put_last<K: Sink>(sink: &mut K, page: Page) -> Result<(), SinkFailed>
@@ -97,7 +120,7 @@ pub(crate) fn put_last<K: Sink>(sink: &mut K, page: Page) -> Result<(), SinkFail
 
 /// Appends bytes to a text: to its page, which is put and emptied as soon as it is full. So each
 /// piece that is put here has 4,096 bytes. No clause of a sink can say how a text was cut into puts,
-/// so `put_full` requires that size.
+/// so `put_piece` requires that size.
 #[inline]
 pub(crate) fn put_bytes<K: Sink>(
     sink: &mut K,
@@ -110,8 +133,7 @@ pub(crate) fn put_bytes<K: Sink>(
     let mut left = bytes;
     while left.len() >= page.room() {
         let (front, rest) = left.split_at(page.room());
-        page.append(front);
-        put_full(sink, page)?;
+        put_piece(sink, page, front)?;
         left = rest;
     }
     page.append(left);

@@ -10,12 +10,21 @@ use feast_base::{NoMemory, Sink, SinkFailed};
 use std::alloc::Global;
 use std::marker::Model;
 
+/// How many idle words keep what two processors change apart: two lines of their caches.
+const IDLE: usize = 16;
+
 /// Events whose lines are not put yet: the first of them are printed, and the walk has the others.
 /// Contracts see the text of all their lines.
+///
+/// Several parts are printed at a time, and each line changes its part and what the part's walk keeps.
+/// So idle words lie before each part and behind what its walk keeps: otherwise the processors would
+/// take the same lines of memory from each other all the time.
 #[derive(Drop)]
 pub(crate) struct Part<'a> {
+    idle_before: [u64; IDLE],
     printed: Vec<u8>,
     walk: Walk<'a>,
+    idle_behind: Vec<u64>,
 }
 
 impl<'a> Model for Part<'a> {
@@ -35,8 +44,10 @@ impl<'a> Part<'a> {
         bytes: usize,
     ) -> Result<Part<'a>, NoMemory> {
         Ok(Part {
+            idle_before: [0; IDLE],
             printed: Vec::with_capacity(alloc, bytes)?,
             walk: journal.walk(alloc)?,
+            idle_behind: Vec::with_capacity(alloc, IDLE)?,
         })
     }
 
