@@ -123,19 +123,22 @@ fn are_finished<B: Behave>(tiles: &[Tile<B>]) -> bool
     true
 }
 
-/// The result of a run whose tiles acted on one board. None if a tile is not finished.
+/// The result of a run whose tiles acted on one board, settled into a grid of the plane. None if a
+/// tile is not finished.
 pub fn settled<B: Behave + Drop>(
     alloc: Global,
     map: &Map,
+    grid: Grid,
     tiles: Vec<Tile<B>>,
     board: &mut PlainBoard,
 ) -> Result<Option<Outcome>, NoMemory>
-    requires { IsDriven B.after map.now tiles.items board.old }
+    requires grid { IsGridOf map.now grid }
+    requires driven { IsDriven B.after map.now tiles.items board.old }
     ensures { IfOk result (λ o. IfSome o (Settles map.now (values_of tiles.items) (histories_on board.old))) }
 {
     if !are_finished(tiles.as_slice()) {
         return Ok(None);
     }
-    let outcome = settle(alloc, map, tiles, board)?;
+    let outcome = settle(alloc, map, grid, tiles, board)?;
     Ok(Some(outcome))
 }

@@ -3,7 +3,7 @@ ghost use Rattle.std.specs.Prelude.{◌≤◌, length};
 ghost use Rattle.tile_map.specs.Plane.{AreSizes};
 
 use crate::plans::{Shape, Try};
-use crate::runs::fresh;
+use crate::runs::{fresh, start};
 use cell_grid::Behave;
 use feast_base::{Gate, NoMemory};
 use serial_order::{Outcome, settle};
@@ -29,5 +29,6 @@ pub fn run<R: Threads + Sync, B: Behave + Copy + Send + Drop, G: Gate>(
     let map = Map::new(alloc, shape.tx, shape.ty, shape.w, shape.h)?;
     let fresh = fresh(alloc, &map, shape, site, tries, behave)?;
     let (played, mut edges) = run_shared(rt, alloc, &map, fresh, gate)?;
-    settle(alloc, &map, played, &mut edges)
+    let grid = start(alloc, &map, site.0, site.1)?;
+    settle(alloc, &map, grid, played, &mut edges)
 }

@@ -78,5 +78,6 @@ pub fn run<B: Behave + Copy + Drop>(
     let mut board = PlainBoard::new(alloc, &map)?;
     let mut tiles = fresh(alloc, &map, shape, site, tries, behave)?;
     drive(&map, tiles.as_mut_slice(), &mut board, order);
-    settled(alloc, &map, tiles, &mut board)
+    let grid = start(alloc, &map, site.0, site.1)?;
+    settled(alloc, &map, grid, tiles, &mut board)
 }

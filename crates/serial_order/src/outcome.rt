@@ -2,7 +2,7 @@
 ghost use Rattle.std.specs.Prelude.{◌≡◌, ◌<◌, ◌+◌, ◌*◌, All, IfOk};
 ghost use Rattle.tile_map.specs.Plane.{owner_of, site};
 ghost use Rattle.cell_grid.specs.Grid.{ArePlanesAlike};
-ghost use Rattle.plane_grid.specs.PlaneGrids.{IsPlaneGrid};
+ghost use Rattle.plane_grid.specs.PlaneGrids.{IsGridOf, IsPlaneGrid};
 ghost use Rattle.serial_order.specs.Outcomes.{AreOver, AreTilesOf, ChangesSite, IsSettledBy, IsStretch, IsUnshared, Settles, values_of};
 ghost use Rattle.serial_order.specs.Scene.{logs_of, registers_at};
 ghost use Rattle.serial_order.specs.Settled.{IsSettled, IsSettledAt};
@@ -15,7 +15,6 @@ use crate::words::EdgeWords;
 use cell_grid::{Behave, Grid};
 use event_journal::{Journal, TileLog};
 use feast_base::NoMemory;
-use plane_grid::blank_grid;
 use std::alloc::Global;
 use tile_core::Tile;
 use tile_map::Map;
@@ -148,20 +147,23 @@ fn logs<B: Behave + Drop>(alloc: Global, tiles: Vec<Tile<B>>) -> Result<Vec<Tile
 /// journal's events make of the start, one after another on one grid. This holds for any start and
 /// plan from which the tiles have played.
 ///
-/// `NoMemory` if there is none for the grid or the list of logs; the tiles are dropped then.
+/// It writes into a grid of the map's plane, whose atoms it replaces: the one that the run started
+/// with will do. `NoMemory` if there is none for the list of logs; grid and tiles are dropped then.
 pub fn settle<B: Behave + Drop, E: EdgeWords>(
     alloc: Global,
     map: &Map,
+    grid: Grid,
     tiles: Vec<Tile<B>>,
     words: &mut E,
 ) -> Result<Outcome, NoMemory>
+    requires grid { IsGridOf map.now grid }
     requires made { All (λ t. IsMade map.now t.core) tiles.items }
     requires words { AreEdgeWords map.now (E.words words.old) }
     requires over { AreOver map.now (values_of tiles.items) (E.words words.old).histories }
     ensures settled { IfOk result (λ o. Settles map.now (values_of tiles.items) (E.words words.old).histories o) }
     ensures same { E.words words.new ≡ E.words words.old }
 {
-    let mut grid = blank_grid(alloc, map)?;
+    let mut grid = grid;
     settle_sites(map, tiles.as_slice(), words, &mut grid);
     let logs = logs(alloc, tiles)?;
     Ok(Outcome {

@@ -21,7 +21,8 @@ use world_text::World;
 /// The run of a world with a worker for each tile, side by side in threads, settled: in whatever
 /// order they make their steps, all events stand in one serial order, that of the journal. Each
 /// worker calls the gate before each attempt. There is one value that acts for each tile, and all
-/// have one meaning. `NoMemory` if the tiles, the edges or the grid can't be made.
+/// have one meaning. `NoMemory` if the grid, the tiles or the edges can't be made, or the list of the
+/// tiles' logs.
 pub fn threaded<R: Threads + Sync, B: Behave + Send + Drop, G: Gate>(
     rt: &R,
     alloc: Global,
@@ -40,5 +41,5 @@ pub fn threaded<R: Threads + Sync, B: Behave + Send + Drop, G: Gate>(
     let grid = start(alloc, world)?;
     let tiles = fresh_tiles(alloc, map, &grid, &world.plan, behaves)?;
     let (tiles, mut edges) = run_shared(rt, alloc, map, tiles, gate)?;
-    settle(alloc, map, tiles, &mut edges)
+    settle(alloc, map, grid, tiles, &mut edges)
 }
