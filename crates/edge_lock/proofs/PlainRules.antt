@@ -1,10 +1,8 @@
 -- Each step of a plain edge keeps its rule.
-use Rattle.std.proofs.Common.{◌≡◌, ◌≢◌, ℕ, zero, suc, ◌+◌, ◌-◌, ◌*◌, ◌<◌, eqb, Bool, true, false, cond, true≢false, List, [], ◌∷◌, ◌++◌, length, get_or, set, replicate, refl, sym, ap, ◌∙◌, subst, ⊎_elim, arith, eq-eqb, ne_eqb, length-set, get_or-set_same, get_or-set_other, Some, None}
+use Rattle.std.proofs.Common.{◌≡◌, ◌≢◌, ℕ, zero, suc, ◌+◌, ◌-◌, ◌*◌, ◌<◌, eqb, Bool, true, false, cond, true≢false, List, [], ◌∷◌, ◌++◌, length, get_or, set, refl, sym, ap, ◌∙◌, subst, ⊎_elim, arith, eq-eqb, ne_eqb, length-set, get_or-set_same, Some, None}
 use Rattle.std.specs.Prelude.{All}
-use Rattle.std.proofs.lemmas.List.{set-get_or, get_or-replicate, length-replicate}
-use mathlib.Core.Logic.{dite}
+use Rattle.std.proofs.lemmas.List.{set-get_or}
 use mathlib.Core.Option.{none, some, some-injective, some-ne-none}
-use native.Mathlib.Decide.{ℕ_discrete}
 use lib.ListN.{get_elem?}
 use prog.Atomic.{either}
 use Rattle.atomic_table.specs.Table.{State, Me, Act, step, keeps, stepped, opening, Allows}
@@ -19,9 +17,9 @@ use Rattle.edge_lock.specs.declared.plain_steps.PlainView.{PlainView}
 use Rattle.edge_lock.specs.History.{own, trace, last_value, register_value, ReadsTrue, IsAllowed, IsAllowedAccess, open_hold, key, keys, site_count, IsEnd, IsSide, IsHistory}
 use Rattle.edge_lock.specs.EndLists.{end_lists, new_hold, refusal_of, with_access, closed_hold, change_last, is_last_open, IsHoldBelow, IsRefusalBelow, last_accesses, last_shown, Shows, known_value, after_try, IsFree, IsHeld}
 use Rattle.edge_lock.specs.SharedRule.{lock_word, attempt_in}
-use Rattle.edge_lock.specs.PlainEdges.{plain_view, IsKept, Agrees, IsPlain, with_refusal, end_in, PlainTries, plain_view_after_change, PlainReads, PlainWrites, PlainGives, PlainTells, PlainEdgeValue, view_of, own_lists, edge_after_try, with_view, IsAnswer}
-use Rattle.edge_lock.proofs.LastHolds.{open_hold-snoc, ends_open, is_held-snoc, keys-snoc, none_or_held, change_last-snoc, last_accesses-snoc, trace-snoc}
-use Rattle.edge_lock.proofs.HistorySteps.{all-last, own_below, side_takes, side_stays, side_refuses, history_takes, history_accesses, history_ends, keys-change, register_value-opened, register_value-read, register_value-write, register_value-ended, own-here, own-there}
+use Rattle.edge_lock.specs.PlainEdges.{plain_view, IsKept, Agrees, IsPlain, with_refusal, end_in, PlainTries, plain_view_after_change, IsAccess, MayNote, PlainNotes, PlainGives, PlainEdgeValue, view_of, own_lists, edge_after_try, with_view, IsAnswer}
+use Rattle.edge_lock.proofs.LastHolds.{open_hold-snoc, ends_open, ends_held, is_held-snoc, keys-snoc, none_or_held, change_last-snoc, last_accesses-snoc, trace-snoc}
+use Rattle.edge_lock.proofs.HistorySteps.{all-last, own_below, side_takes, side_stays, side_refuses, history_takes, history_accesses, history_ends, keys-change, own-here, own-there}
 use Rattle.edge_lock.proofs.SharedHolds.{holder, same_word, shows_value, allowed_value}
 use Rattle.edge_lock.proofs.SharedSeats.{at_inside, side_none, history_none}
 
@@ -32,11 +30,11 @@ abbrev pub M : Type 0
 M = Me (Unit {0}) PlainView
 
 -- the one seat steps: the words are then those of its new view
-replaced : (size : ℕ) (s : S) (r : IsPlain size s) (id i n : ℕ) (v w : PlainView) → get_elem? s.views id ≡ some v → Agrees size (set s.words i n) w → IsPlain size (stepped s i n id [] w keeps)
-replaced size s r id i n v w at now = record {
+replaced : (s : S) (r : IsPlain s) (id i n : ℕ) (v w : PlainView) → get_elem? s.views id ≡ some v → Agrees (set s.words i n) w → IsPlain (stepped s i n id [] w keeps)
+replaced s r id i n v w at now = record {
   one = length-set s.views id w ∙ r.one;
   agrees = λ j u p. ⊎_elim
-      (λ (t : (j ≡ id) × (w ≡ u)). subst (Agrees size (set s.words i n)) t.1 now)
+      (λ (t : (j ≡ id) × (w ≡ u)). subst (Agrees (set s.words i n)) t.1 now)
       (λ (t : (j ≢ id) × (get_elem? s.views j ≡ some u)). let here = at_inside s.views id v at in let there = at_inside s.views j u t.1 in let one = r.one in let apart = t.0 in absurd (apart (omega arith)))
       (at_set s.views id j w u p);
 }
@@ -85,18 +83,18 @@ other hs e h i end shut is_open =
     let bound : h.end < 2 = all-last IsEnd (keys past) (key h) (subst (All IsEnd) (ap keys is ∙ keys-snoc past h) i.ends) in
     record { past = past; is = is; end = omega arith }
 
-pub tries : (size slots id e a w : ℕ) (me : M) → me.1 ≡ [] → e < 2 → w ≡ 1 + 2 * a + e → is_last_open (own e me.0.holds) ≡ false → All (IsHoldBelow a) (own e me.0.holds) → All (IsRefusalBelow a) (cond (eqb e 0) me.0.low me.0.high)
-    → Allows (IsPlain size) slots id me 1 (λ n. either (eqb n 0) w n) (PlainTries (step slots 1 0 w none) me)
-tries size slots id e a w me bare end word shut new news s r _ at _ =
+pub tries : (slots id e a w : ℕ) (me : M) → me.1 ≡ [] → e < 2 → w ≡ 1 + 2 * a + e → is_last_open (own e me.0.holds) ≡ false → All (IsHoldBelow a) (own e me.0.holds) → All (IsRefusalBelow a) (cond (eqb e 0) me.0.low me.0.high)
+    → Allows IsPlain slots id me 1 (λ n. either (eqb n 0) w n) (PlainTries (step slots 1 0 w none) me)
+tries slots id e a w me bare end word shut new news s r _ at _ =
     let v : PlainView = me.0 in let agrees = r.agrees id v at in let n : ℕ = get_or s.words 1 0 in let found = agrees.lock in let long = agrees.long in
     let which : attempt_in w ≡ a = omega arith in let whose : end_in w ≡ e = omega arith in
-    let told : (b : Bool) → eqb n 0 ≡ b → Agrees size (set s.words 1 (either b w n)) (cond b (plain_view v.registers (v.holds ++ new_hold e a ∷ []) v.low v.high) (with_refusal e (refusal_of a (attempt_in n)) v))
-    → (x : PlainView) × (y : Act (Unit {0})) × Rattle.atomic_table.specs.Table.Valid s.homes me.1 y × IsPlain size (stepped s 1 (either (eqb n 0) w n) id me.1 x y) × PlainTries (step slots 1 0 w none) me n (x, Rattle.atomic_table.specs.Table.carried_after me.1 y)
+    let told : (b : Bool) → eqb n 0 ≡ b → Agrees (set s.words 1 (either b w n)) (cond b (plain_view v.registers (v.holds ++ new_hold e a ∷ []) v.low v.high) (with_refusal e (refusal_of a (attempt_in n)) v))
+    → (x : PlainView) × (y : Act (Unit {0})) × Rattle.atomic_table.specs.Table.Valid s.homes me.1 y × IsPlain (stepped s 1 (either (eqb n 0) w n) id me.1 x y) × PlainTries (step slots 1 0 w none) me n (x, Rattle.atomic_table.specs.Table.carried_after me.1 y)
     = λ b is now. let x : PlainView = cond b (plain_view v.registers (v.holds ++ new_hold e a ∷ []) v.low v.high) (with_refusal e (refusal_of a (attempt_in n)) v) in (
       x,
       keeps,
       tt,
-      subst (λ (z : Bool × List (ℕ × Unit {0})). IsPlain size (stepped s 1 (either z.0 w n) id z.1 x keeps)) (λ i. (sym is i, sym bare i)) (replaced size s r id 1 (either b w n) v x at now),
+      subst (λ (z : Bool × List (ℕ × Unit {0})). IsPlain (stepped s 1 (either z.0 w n) id z.1 x keeps)) (λ i. (sym is i, sym bare i)) (replaced s r id 1 (either b w n) v x at now),
       (
         (λ i. (cond (sym is i) (plain_view v.registers (v.holds ++ new_hold (sym whose i) (sym which i) ∷ []) v.low v.high) (with_refusal (sym whose i) (refusal_of (sym which i) (attempt_in n)) v), me.1)),
         found,
@@ -109,7 +107,6 @@ tries size slots id e a w me bare end word shut new news s r _ at _ =
       history = takes e a v end agrees.history f.0 new news;
       long = length-set s.words 1 w ∙ long;
       lock = get_or-set_same s.words 1 w 0 (omega arith) ∙ (word ∙ ap lock_word (sym (open_hold-snoc v.holds (new_hold e a))));
-      registers = λ k l. get_or-set_other s.words 1 (3 + k) w 0 (λ h. omega arith) ∙ (agrees.registers k l ∙ sym (register_value-opened v.holds e a k));
     })
     (λ (f : (h : Hold) × (open_hold v.holds ≡ Some h) × (is_last_open v.holds ≡ true)).
     let h = f.0 in let is : n ≡ 1 + 2 * h.attempt + h.end = found ∙ ap lock_word f.1 in let some_word : n ≢ 0 = λ z. omega arith in
@@ -119,7 +116,6 @@ tries size slots id e a w me bare end word shut new news s r _ at _ =
       history = refuses e a (attempt_in n) (keys o.past) v end agrees.history (ap keys o.is ∙ (keys-snoc o.past h ∙ ap (λ k. keys o.past ++ k ∷ []) (λ i. (who i, that i)))) new news;
       long = length-set s.words 1 n ∙ long;
       lock = get_or-set_same s.words 1 n 0 (omega arith) ∙ (found ∙ ap (λ l. lock_word (open_hold l)) (sym same));
-      registers = λ k l. get_or-set_other s.words 1 (3 + k) n 0 (λ h. omega arith) ∙ (agrees.registers k l ∙ ap (λ t. register_value t k) (sym same));
     })
     (none_or_held v.holds)
 
@@ -130,108 +126,66 @@ kept_change v past h g k is same i = let ks = ap keys is ∙ sym (keys-change pa
   higher = subst (λ l. IsSide l 1 v.high) ks k.higher;
 }
 
--- one step of the end e, which has the edge
-module _ (size slots id e : ℕ) (me : M) (bare : me.1 ≡ []) (held : is_last_open (own e me.0.holds) ≡ true) where
-  abbrev v : PlainView
-  v = me.0
+-- the last hold h becomes f h
+turned : (s : S) (r : IsPlain s) (id i n : ℕ) (me : M) → me.1 ≡ [] → get_elem? s.views id ≡ some me.0 → (f : Hold → Hold) (past : List Hold) (h : Hold) → me.0.holds ≡ past ++ h ∷ [] → key h ≡ key (f h) → IsHistory (site_count me.0.registers) (past ++ f h ∷ [])
+    → length (set s.words i n) ≡ 3 → get_or (set s.words i n) 1 0 ≡ lock_word (open_hold (past ++ f h ∷ [])) → IsPlain (stepped s i n id me.1 (plain_view_after_change f me.0) keeps) × IsKept (plain_view_after_change f me.0)
+turned s r id i n me bare at f past h is same history long lock =
+    let v : PlainView = me.0 in let kept = (r.agrees id v at).history in
+    let last : change_last f v.holds ≡ past ++ f h ∷ [] = ap (change_last f) is ∙ change_last-snoc f past h in
+    let now : Agrees (set s.words i n) (plain_view v.registers (past ++ f h ∷ []) v.low v.high) = record { history = kept_change v past h (f h) kept is same history; long = long; lock = lock } in
+    let now' = subst (λ l. Agrees (set s.words i n) (plain_view v.registers l v.low v.high)) (sym last) now in (
+      subst (λ c. IsPlain (stepped s i n id c (plain_view_after_change f v) keeps)) (sym bare) (replaced s r id i n v (plain_view_after_change f v) at now'),
+      now'.history,
+    )
 
-  turned : (s : S) (r : IsPlain size s) → get_elem? s.views id ≡ some me.0 → (i n : ℕ) (f : Hold → Hold) (past : List Hold) (h : Hold) → v.holds ≡ past ++ h ∷ [] → Agrees size (set s.words i n) (plain_view v.registers (past ++ f h ∷ []) v.low v.high)
-      → IsPlain size (stepped s i n id me.1 (plain_view_after_change f v) keeps) × IsKept (plain_view_after_change f v)
-  turned s r at i n f past h is now =
-      let same : change_last f v.holds ≡ past ++ f h ∷ [] = ap (change_last f) is ∙ change_last-snoc f past h in
-      let now' = subst (λ l. Agrees size (set s.words i n) (plain_view v.registers l v.low v.high)) (sym same) now in (
-        subst (λ c. IsPlain size (stepped s i n id c (plain_view_after_change f v) keeps)) (sym bare) (replaced size s r id i n v (plain_view_after_change f v) at now'),
-        now'.history,
-      )
+-- an access that may be noted makes a history again
+history_notes : (x : Access) (v : PlainView) (past : List Hold) (h : Hold) → IsAccess x v → v.holds ≡ past ++ h ∷ [] → IsHistory (site_count v.registers) v.holds → IsHistory (site_count v.registers) (past ++ with_access x h ∷ [])
+history_notes (Read q n) v past h ok is i =
+    history_accesses past h (Read q n) (subst (IsHistory (site_count v.registers)) is i) (λ x y e. let a : q ≡ x = cc in let b : n ≡ y = cc in sym b ∙ (ok.1 ∙ (ap (λ l. register_value l q) is ∙ ap (register_value (past ++ h ∷ [])) a))) tt
+history_notes (Write q n) v past h ok is i = history_accesses past h (Write q n) (subst (IsHistory (site_count v.registers)) is i) (λ x y e. absurd (cc)) ok.1
 
-  pub reads : (q w : ℕ) → q < size → w ≡ q + 3 → Allows (IsPlain size) slots id me w (λ n. n) (PlainReads (step slots w 0 0 none) me)
-  reads q w inside word = let at_word : w ≡ 3 + q = omega arith in
-      subst (λ y. Allows (IsPlain size) slots id me y (λ n. n) (PlainReads (step slots y 0 0 none) me)) (sym at_word) (λ s r _ at _.
-      let agrees = r.agrees id v at in let n : ℕ = get_or s.words (3 + q) 0 in let words = set-get_or s.words (3 + q) 0 in let back : q ≡ (3 + q) - 3 = omega arith in
-      let has = holder v.holds (own e v.holds) e agrees.history.holds refl held in let past = has.past in let h = has.h in
-      let old : IsHistory (site_count v.registers) (past ++ h ∷ []) = subst (IsHistory (site_count v.registers)) has.is agrees.history.holds in
-      let found : n ≡ register_value (past ++ h ∷ []) q = agrees.registers q inside ∙ ap (λ l. register_value l q) has.is in
-      let f : Hold → Hold = with_access (Read q n) in
-      let p = turned s r at (3 + q) n f past h has.is record {
-        history = kept_change v past h (f h) agrees.history has.is refl (history_accesses past h (Read q n) old (λ x y e. let a : q ≡ x = cc in let b : n ≡ y = cc in sym b ∙ (found ∙ ap (register_value (past ++ h ∷ [])) a)) tt);
-        long = ap length words ∙ agrees.long;
-        lock = ap (λ l. get_or l 1 0) words ∙ (agrees.lock ∙ (ap (λ l. lock_word (open_hold l)) has.is ∙ sym (same_word past h (Read q n))));
-        registers = λ k l. ap (λ t. get_or t (3 + k) 0) words ∙ (agrees.registers k l ∙ (ap (λ t. register_value t k) has.is ∙ sym (register_value-read past h q n k)));
-      } in (
-        plain_view_after_change (with_access (Read ((3 + q) - 3) n)) v,
-        keeps,
-        tt,
-        subst (λ y. IsPlain size (stepped s (3 + q) n id me.1 (plain_view_after_change (with_access (Read y n)) v) keeps)) back p.0,
-        (refl, ap (λ y. get_or s.words (3 + y) 0) refl ∙ (agrees.registers q inside ∙ ap (register_value v.holds) back), subst (λ y. IsKept (plain_view_after_change (with_access (Read y n)) v)) back p.1),
-      ))
+-- the load that notes an access in the open hold
+pub notes : (slots id : ℕ) (me : M) (x : Access) → me.1 ≡ [] → MayNote x me.0 → Allows IsPlain slots id me 2 (λ n. n) (PlainNotes x (step slots 2 0 0 none) me)
+notes slots id me x bare may s r _ at _ =
+    let v : PlainView = me.0 in let agrees = r.agrees id v at in let n : ℕ = get_or s.words 2 0 in let words = set-get_or s.words 2 0 in
+    let last = ends_held v.holds may.0 in let h = last.0 in let past = last.1.past in let is = last.1.is in
+    let p = turned s r id 2 n me bare at (with_access x) past h is refl (history_notes x v past h may.1 is agrees.history.holds)
+    (ap length words ∙ agrees.long) (ap (λ l. get_or l 1 0) words ∙ (agrees.lock ∙ (ap (λ l. lock_word (open_hold l)) is ∙ sym (same_word past h x)))) in
+    (plain_view_after_change (with_access x) v, keeps, tt, p.0, (refl, p.1))
 
-  pub writes : (q w x : ℕ) → q < size → IsAllowed (site_count v.registers) q x → w ≡ q + 3 → Allows (IsPlain size) slots id me w (λ _. x) (λ _. PlainWrites (step slots w x 0 none) me x)
-  writes q w x inside ok word = let at_word : w ≡ 3 + q = omega arith in
-      subst (λ y. Allows (IsPlain size) slots id me y (λ _. x) (λ _. PlainWrites (step slots y x 0 none) me x)) (sym at_word) (λ s r _ at _.
-      let agrees = r.agrees id v at in let long = agrees.long in let back : q ≡ (3 + q) - 3 = omega arith in
-      let has = holder v.holds (own e v.holds) e agrees.history.holds refl held in let past = has.past in let h = has.h in
-      let old : IsHistory (site_count v.registers) (past ++ h ∷ []) = subst (IsHistory (site_count v.registers)) has.is agrees.history.holds in
-      let f : Hold → Hold = with_access (Write q x) in
-      let p = turned s r at (3 + q) x f past h has.is record {
-        history = kept_change v past h (f h) agrees.history has.is refl (history_accesses past h (Write q x) old (λ a b e. absurd (cc)) ok);
-        long = length-set s.words (3 + q) x ∙ long;
-        lock = get_or-set_other s.words (3 + q) 1 x 0 (λ h. omega arith) ∙ (agrees.lock ∙ (ap (λ l. lock_word (open_hold l)) has.is ∙ sym (same_word past h (Write q x))));
-        registers = λ k l. dite (ℕ_discrete k q)
-            (λ same. ap (λ y. get_or (set s.words (3 + q) x) (3 + y) 0) same ∙ (get_or-set_same s.words (3 + q) x 0 (omega arith) ∙ (ap (λ b. cond b x (register_value (past ++ h ∷ []) k)) (sym (eq-eqb k q same)) ∙ sym (register_value-write past h q x k))))
-            (λ apart. get_or-set_other s.words (3 + q) (3 + k) x 0 (λ h. apart (omega arith)) ∙ (agrees.registers k l ∙ (ap (λ t. register_value t k) has.is ∙ (ap (λ b. cond b x (register_value (past ++ h ∷ []) k)) (sym (ne_eqb k q apart)) ∙ sym (register_value-write past h q x k)))));
-      } in (
-        plain_view_after_change (with_access (Write ((3 + q) - 3) x)) v,
-        keeps,
-        tt,
-        subst (λ y. IsPlain size (stepped s (3 + q) x id me.1 (plain_view_after_change (with_access (Write y x)) v) keeps)) back p.0,
-        (refl, subst (λ y. IsKept (plain_view_after_change (with_access (Write y x)) v)) back p.1),
-      ))
+-- the store by which the end e gives the edge back
+pub gives : (slots id e : ℕ) (me : M) → me.1 ≡ [] → is_last_open (own e me.0.holds) ≡ true → Allows IsPlain slots id me 1 (λ _. 0) (λ _. PlainGives (step slots 1 0 0 none) me 0)
+gives slots id e me bare held s r _ at _ =
+    let v : PlainView = me.0 in let agrees = r.agrees id v at in let long = agrees.long in
+    let has = holder v.holds (own e v.holds) e agrees.history.holds refl held in let past = has.past in let h = has.h in
+    let old : IsHistory (site_count v.registers) (past ++ h ∷ []) = subst (IsHistory (site_count v.registers)) has.is agrees.history.holds in
+    let p = turned s r id 1 0 me bare at closed_hold past h has.is refl (history_ends past h old)
+    (length-set s.words 1 0 ∙ long) (get_or-set_same s.words 1 0 0 (omega arith) ∙ ap lock_word (sym (open_hold-snoc past (closed_hold h)))) in
+    (plain_view_after_change closed_hold v, keeps, tt, p.0, (refl, p.1))
 
-  pub gives : Allows (IsPlain size) slots id me 1 (λ _. 0) (λ _. PlainGives (step slots 1 0 0 none) me 0)
-  gives s r _ at _ =
-      let agrees = r.agrees id v at in let long = agrees.long in
-      let has = holder v.holds (own e v.holds) e agrees.history.holds refl held in let past = has.past in let h = has.h in
-      let old : IsHistory (site_count v.registers) (past ++ h ∷ []) = subst (IsHistory (site_count v.registers)) has.is agrees.history.holds in
-      let p = turned s r at 1 0 closed_hold past h has.is record {
-        history = kept_change v past h (closed_hold h) agrees.history has.is refl (history_ends past h old);
-        long = length-set s.words 1 0 ∙ long;
-        lock = get_or-set_same s.words 1 0 0 (omega arith) ∙ ap lock_word (sym (open_hold-snoc past (closed_hold h)));
-        registers = λ k l. get_or-set_other s.words 1 (3 + k) 0 0 (λ h. omega arith) ∙ (agrees.registers k l ∙ (ap (λ t. register_value t k) has.is ∙ sym (register_value-ended past h k)));
-      } in (plain_view_after_change closed_hold v, keeps, tt, p.0, (refl, p.1))
+-- what a read by the end that has the edge shows, of a history that is kept
+pub shows_known : (e q n : ℕ) (v : PlainView) (rs : List Refusal) → IsKept v → is_last_open (own e v.holds) ≡ true → n ≡ register_value v.holds q → Shows (known_value (end_lists (own e v.holds) rs) q) n × IsAllowed (site_count v.registers) q n
+shows_known e q n v rs k held is =
+    let has = holder v.holds (own e v.holds) e k.holds refl held in let all = trace-snoc has.past has.h in
+    let old : IsHistory (site_count v.registers) (has.past ++ has.h ∷ []) = subst (IsHistory (site_count v.registers)) has.is k.holds in
+    let found : n ≡ last_value (trace has.past ++ has.h.accesses) q 0 = is ∙ (ap (λ l. register_value l q) has.is ∙ ap (λ t. last_value t q 0) all) in
+    let mine_last : last_accesses (own e v.holds) ≡ has.h.accesses = ap last_accesses has.mine_is ∙ last_accesses-snoc (own e has.past) has.h in (
+      subst (λ (x : List Access × ℕ). Shows (last_shown x.0 q None) x.1) (λ i. (sym mine_last i, sym found i)) (shows_value (trace has.past) has.h.accesses q None (subst ReadsTrue all old.reads) tt),
+      subst (IsAllowed (site_count v.registers) q) (sym found) (allowed_value (site_count v.registers) q (trace has.past ++ has.h.accesses) 0 (subst (All (IsAllowedAccess (site_count v.registers))) all old.writes) (λ k _ _. refl)),
+    )
 
-  -- what a read shows, of a history that is kept
-  pub shows_known : (q n : ℕ) (rs : List Refusal) → IsKept v → n ≡ register_value v.holds q → Shows (known_value (end_lists (own e v.holds) rs) q) n × IsAllowed (site_count v.registers) q n
-  shows_known q n rs k is =
-      let has = holder v.holds (own e v.holds) e k.holds refl held in let all = trace-snoc has.past has.h in
-      let old : IsHistory (site_count v.registers) (has.past ++ has.h ∷ []) = subst (IsHistory (site_count v.registers)) has.is k.holds in
-      let found : n ≡ last_value (trace has.past ++ has.h.accesses) q 0 = is ∙ (ap (λ l. register_value l q) has.is ∙ ap (λ t. last_value t q 0) all) in
-      let mine_last : last_accesses (own e v.holds) ≡ has.h.accesses = ap last_accesses has.mine_is ∙ last_accesses-snoc (own e has.past) has.h in (
-        subst (λ (x : List Access × ℕ). Shows (last_shown x.0 q None) x.1) (λ i. (sym mine_last i, sym found i)) (shows_value (trace has.past) has.h.accesses q None (subst ReadsTrue all old.reads) tt),
-        subst (IsAllowed (site_count v.registers) q) (sym found) (allowed_value (site_count v.registers) q (trace has.past ++ has.h.accesses) 0 (subst (All (IsAllowedAccess (site_count v.registers))) all old.writes) (λ k _ _. refl)),
-      )
-
-pub shows : (size slots id q w : ℕ) (me : M) → me.1 ≡ [] → q < size → w ≡ q + 3 → Allows (IsPlain size) slots id me w (λ n. n) (PlainTells (step slots w 0 0 none) me)
-shows size slots id q w me bare inside word = let at_word : w ≡ 3 + q = omega arith in
-    subst (λ y. Allows (IsPlain size) slots id me y (λ n. n) (PlainTells (step slots y 0 0 none) me)) (sym at_word) (λ s r _ at _.
-    let v : PlainView = me.0 in let agrees = r.agrees id v at in let words = set-get_or s.words (3 + q) 0 in let back : q ≡ (3 + q) - 3 = omega arith in (
-      v,
-      keeps,
-      tt,
-      subst (λ c. IsPlain size (stepped s (3 + q) (get_or s.words (3 + q) 0) id c v keeps)) (sym bare) (replaced size s r id (3 + q) (get_or s.words (3 + q) 0) v v at (subst (λ l. Agrees size l v) (sym words) agrees)),
-      (refl, agrees.registers q inside ∙ ap (register_value v.holds) back),
-    ))
+-- where an end has the edge, the last hold of all is open
+pub held_last : (e : ℕ) (v : PlainView) → IsKept v → is_last_open (own e v.holds) ≡ true → is_last_open v.holds ≡ true
+held_last e v k held = let has = holder v.holds (own e v.holds) e k.holds refl held in ap is_last_open has.is ∙ (is_held-snoc has.past has.h ∙ has.is_open)
 
 pub kept_none : (size : ℕ) → IsKept (plain_view size [] [] [])
 kept_none size = record { holds = history_none; lower = side_none 0; higher = side_none 1 }
 
-pub opens : (size : ℕ) (words : List ℕ) → words ≡ replicate (3 + size) 0 → IsPlain size (opening words [] (plain_view size [] [] []))
-opens size words is =
-    let n : ℕ = 3 + size in let zeros : (k : ℕ) → k < n → get_or words k 0 ≡ 0 = λ k l. ap (λ t. get_or t k 0) is ∙ get_or-replicate n k 0 0 l in
-    let first : Agrees size words (plain_view size [] [] []) = record { history = kept_none size; long = ap length is ∙ length-replicate n 0; lock = zeros 1 (omega arith); registers = λ k l. zeros (3 + k) (omega arith) } in
-    record { one = refl; agrees = λ id v e. only id v e first }
+pub opens : (size : ℕ) (words : List ℕ) → words ≡ 0 ∷ 0 ∷ 0 ∷ [] → IsPlain (opening words [] (plain_view size [] [] []))
+opens size words is = record { one = refl; agrees = λ id v e. only id v e record { history = kept_none size; long = ap length is; lock = ap (λ l. get_or l 1 0) is } }
   where
-    only : (id : ℕ) (v : PlainView) → get_elem? (plain_view size [] [] [] ∷ []) id ≡ some v → Agrees size words (plain_view size [] [] []) → Agrees size words v
-    only zero v e a = subst (Agrees size words) (some-injective (plain_view size [] [] []) v e) a
+    only : (id : ℕ) (v : PlainView) → get_elem? (plain_view size [] [] [] ∷ []) id ≡ some v → Agrees words (plain_view size [] [] []) → Agrees words v
+    only zero v e a = subst (Agrees words) (some-injective (plain_view size [] [] []) v e) a
     only (suc id) v e a = absurd (some-ne-none v (sym e))
 
 -- what a try answers, by the word that it found

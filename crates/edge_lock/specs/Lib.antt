@@ -1,5 +1,6 @@
 pub mod Edges
 pub mod History
+pub mod RegistersNow
 pub mod EndLists
 pub mod EndValues
 pub mod SharedRule

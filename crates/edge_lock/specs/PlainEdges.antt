@@ -1,5 +1,6 @@
--- One edge of the plain board. Its one seat knows the whole history, so the words are those of that history.
-use Rattle.std.specs.Prelude.{◌≡◌, ℕ, ◌+◌, ◌-◌, ◌%◌, ◌<◌, ◌==◌, List, [], ◌∷◌, ◌++◌, length, slice_index, Some, None, if◌then◌else◌}
+-- One edge of the plain board. Its one seat knows the whole history. The lock word is that of the history; the registers
+-- are plain memory and no words of the table (`RegistersNow`).
+use Rattle.std.specs.Prelude.{◌≡◌, ℕ, ◌-◌, ◌%◌, ◌<◌, ◌==◌, true, List, [], ◌∷◌, ◌++◌, length, slice_index, Some, None, if◌then◌else◌}
 use mathlib.Core.Option.{some}
 use lib.ListN.{get_elem?}
 use Rattle.atomic_table.specs.Table.{State, Me, Step}
@@ -10,8 +11,8 @@ use Rattle.edge_lock.specs.declared.history.Access.TheVariants.{Read, Write}
 use Rattle.edge_lock.specs.declared.history.Hold.{Hold}
 use Rattle.edge_lock.specs.declared.history.Refusal.{Refusal}
 use Rattle.edge_lock.specs.declared.plain_steps.PlainView.{PlainView}
-use Rattle.edge_lock.specs.History.{own, register_value, open_hold, site_count, IsEdgeHistory}
-use Rattle.edge_lock.specs.EndLists.{EndLists, end_lists, new_hold, refusal_of, with_access, closed_hold, change_last}
+use Rattle.edge_lock.specs.History.{own, register_value, open_hold, site_count, IsAllowed, IsEdgeHistory}
+use Rattle.edge_lock.specs.EndLists.{EndLists, end_lists, new_hold, refusal_of, with_access, closed_hold, change_last, is_last_open}
 use Rattle.edge_lock.specs.SharedRule.{lock_word, attempt_in}
 
 abbrev pub plain_view : ℕ → List Hold → List Refusal → List Refusal → PlainView
@@ -21,17 +22,16 @@ plain_view registers holds low high = record { registers = registers; holds = ho
 abbrev pub IsKept : PlainView → Type 0
 IsKept view = IsEdgeHistory (site_count view.registers) view.holds view.low view.high
 
--- the words are those of the history that the seat knows
-pub record Agrees (registers_count : ℕ) (words : List ℕ) (view : PlainView) : Type 0 where
+-- the lock word is that of the history that the seat knows
+pub record Agrees (words : List ℕ) (view : PlainView) : Type 0 where
   pub history : IsKept view
-  pub long : length words ≡ 3 + registers_count
+  pub long : length words ≡ 3
   pub lock : slice_index words 1 ≡ lock_word (open_hold view.holds)
-  pub registers : (register : ℕ) → register < registers_count → slice_index words (3 + register) ≡ register_value view.holds register
 
--- the rule of a plain edge: there is one seat, and the words are those of its history
-pub record IsPlain (registers_count : ℕ) (s : State (Unit {0}) PlainView) : Type 0 where
+-- the rule of a plain edge: there is one seat, and the lock word is that of its history
+pub record IsPlain (s : State (Unit {0}) PlainView) : Type 0 where
   pub one : length s.views ≡ 1
-  pub agrees : (id : ℕ) (view : PlainView) → get_elem? s.views id ≡ some view → Agrees registers_count s.words view
+  pub agrees : (id : ℕ) (view : PlainView) → get_elem? s.views id ≡ some view → Agrees s.words view
 
 abbrev Seated : Type 0
 Seated = Me (Unit {0}) PlainView
@@ -59,18 +59,21 @@ PlainTries step me word next = (next ≡ (plain_view_after_try (end_in step.seco
 abbrev pub plain_view_after_change : (Hold → Hold) → PlainView → PlainView
 plain_view_after_change change view = plain_view view.registers (change_last change view.holds) view.low view.high
 
-abbrev pub PlainReads : Taken → Seated → ℕ → Seated → Type 0
-PlainReads step me word next =
-    let register = step.word - 3 in (next ≡ (plain_view_after_change (with_access (Read register word)) me.0, me.1)) × (word ≡ register_value me.0.holds register) × IsKept next.0
+-- an access that the register allows: a read of what it has, or a write of an allowed word
+abbrev pub IsAccess : Access → PlainView → Type 0
+IsAccess (Read register value) view = (register < view.registers) × (value ≡ register_value view.holds register)
+IsAccess (Write register value) view = (register < view.registers) × IsAllowed (site_count view.registers) register value
 
-abbrev pub PlainWrites : Taken → Seated → ℕ → Seated → Type 0
-PlainWrites step me word next = (next ≡ (plain_view_after_change (with_access (Write (step.word - 3) step.first)) me.0, me.1)) × IsKept next.0
+-- an access may be noted in a hold that is open
+abbrev pub MayNote : Access → PlainView → Type 0
+MayNote access view = (is_last_open view.holds ≡ true) × IsAccess access view
+
+-- the open hold has this access more
+abbrev pub PlainNotes : Access → Taken → Seated → ℕ → Seated → Type 0
+PlainNotes access step me word next = (next ≡ (plain_view_after_change (with_access access) me.0, me.1)) × IsKept next.0
 
 abbrev pub PlainGives : Taken → Seated → ℕ → Seated → Type 0
 PlainGives step me word next = (next ≡ (plain_view_after_change closed_hold me.0, me.1)) × IsKept next.0
-
-abbrev pub PlainTells : Taken → Seated → ℕ → Seated → Type 0
-PlainTells step me word next = (next ≡ me) × (word ≡ register_value me.0.holds (step.word - 3))
 
 -- a plain edge: its two tiles, its number of registers, the holds of both ends, and the refusals of each end
 pub record PlainEdgeValue : Type 0 where

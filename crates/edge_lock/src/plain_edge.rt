@@ -1,4 +1,5 @@
-//! One edge of the plain board: its words on a table with one seat.
+//! One edge of the plain board: its lock word on a table with one seat, and its registers in plain
+//! memory.
 ghost use Rattle.std.specs.Prelude.{◌≡◌, ◌<◌, ◌-◌, ◌==◌, if◌then◌else◌, IfOk};
 ghost use Rattle.edge_lock.specs.declared.history.Access.TheVariants.{Read, Write};
 ghost use Rattle.edge_lock.specs.History.{register_value, site_count, IsAllowed};
@@ -7,40 +8,41 @@ ghost use Rattle.edge_lock.specs.PlainEdges.{own_lists, edge_after_try, edge_aft
 ghost use Rattle.feast_base.specs.declared.limits.TheConstants.{MOST_ATTEMPTS};
 
 use crate::board::Take;
-use crate::edge_steps::{FIRST_REGISTER, LOCK};
-use crate::plain_steps::{
-    PlainGive, PlainRead, PlainRule, PlainTell, PlainTry, PlainView, PlainWrite,
-};
+use crate::edge_steps::LOCK;
+use crate::plain_steps::{PlainGive, PlainRule, PlainTry, PlainView, WORDS, note};
 use atomic_table::{Seat, Table};
 use feast_base::NoMemory;
 use std::alloc::Global;
-use std::marker::Model;
+use std::marker::{Brand, Model};
 
 /// One edge with its one seat. Contracts see its two tiles, its number of registers and its
-/// history.
+/// history. The table keeps the lock word, and its one seat the history; no thread but the edge's
+/// own reaches the registers, so they are plain memory.
 #[derive(Drop)]
 pub struct PlainEdge {
     table: Table<(), PlainView, u32, PlainRule, Global>,
     seat: Seat<(), PlainView>,
+    registers: Vec<u64>,
     lower: u32,
     higher: u32,
 }
 
 impl Model for PlainEdge {
-    ghost use Rattle.std.specs.Prelude.{◌≡◌, ◌+◌, []};
+    ghost use Rattle.std.specs.Prelude.{◌≡◌, []};
     ghost use Rattle.edge_lock.specs.PlainEdges.{PlainEdgeValue, plain_edge_value, IsKept};
+    ghost use Rattle.edge_lock.specs.RegistersNow.{AreNow};
 
     ghost Value = { PlainEdgeValue };
 
     ghost view = { λ e. plain_edge_value e.lower e.higher e.seat.me.0 };
 
-    ghost invariant = { λ e. (e.table.shared.table_id.words ≡ 3 + e.table.shared.key) × (e.table.shared.key ≡ e.seat.me.0.registers) × (e.seat.table_id ≡ e.table.shared.table_id) × (e.seat.me.1 ≡ []) × IsKept e.seat.me.0 };
+    ghost invariant = { λ e. (e.table.shared.table_id.words ≡ 3) × (e.seat.table_id ≡ e.table.shared.table_id) × (e.seat.me.1 ≡ []) × AreNow e.seat.me.0.registers e.seat.me.0.holds e.registers.items × IsKept e.seat.me.0 };
 }
 
 impl PlainEdge {
     /// An edge between these tiles whose registers are all 0.
     ///
-    /// `NoMemory` if there was no memory for the words.
+    /// `NoMemory` if there was no memory for the words or the registers.
     pub(crate) fn new(
         alloc: Global,
         lower: u32,
@@ -49,11 +51,12 @@ impl PlainEdge {
     ) -> Result<PlainEdge, NoMemory>
         ensures { IfOk result (λ e. IsUntouched e lower higher registers) }
     {
-        let words = Vec::from_elem(alloc, 0u64, FIRST_REGISTER + registers as usize)?;
-        let (table, seat) = Table::of_words(alloc, words.as_slice(), &registers)?;
+        let zeros = Vec::from_elem(alloc, 0u64, registers as usize)?;
+        let (table, seat) = Table::of_words(alloc, &[0; WORDS], &registers)?;
         Ok(PlainEdge {
             table,
             seat,
+            registers: zeros,
             lower,
             higher,
         })
@@ -95,6 +98,7 @@ impl PlainEdge {
 
     /// What a register has, read by the end that has the edge. The code does not need to know
     /// which end it is; the contract does.
+    #[inline]
     pub(crate) fn read(&mut self, end: u32, register: u32) -> u64
         requires end { end < 2 }
         requires register { register < self.old.registers }
@@ -107,13 +111,14 @@ impl PlainEdge {
         ensures other { own_lists (1 - end) self.new ≡ own_lists (1 - end) self.old }
         ensures kept { IsKept (view_of self.new) }
     {
-        let word = register as usize + FIRST_REGISTER;
-        let table = &self.table;
-        table.shared.load::<PlainRead>(&mut self.seat, word)
+        let value = self.registers[register as usize];
+        note::<Brand>(&self.table, &mut self.seat, register, value);
+        value
     }
 
     /// Changes a register, for the end that has the edge. The code does not need to know which
     /// end it is; the contract does.
+    #[inline]
     pub(crate) fn write(&mut self, end: u32, register: u32, value: u64)
         requires end { end < 2 }
         requires register { register < self.old.registers }
@@ -124,11 +129,8 @@ impl PlainEdge {
         ensures other { own_lists (1 - end) self.new ≡ own_lists (1 - end) self.old }
         ensures kept { IsKept (view_of self.new) }
     {
-        let word = register as usize + FIRST_REGISTER;
-        let table = &self.table;
-        table
-            .shared
-            .store::<PlainWrite>(&mut self.seat, word, value);
+        note::<Brand>(&self.table, &mut self.seat, register, value);
+        self.registers[register as usize] = value;
     }
 
     /// Gives the edge back, for the end that has it. The code does not need to know which end
@@ -146,13 +148,12 @@ impl PlainEdge {
     }
 
     /// What a register has, whoever has the edge.
+    #[inline]
     pub(crate) fn word(&mut self, register: u32) -> u64
         requires { register < self.old.registers }
         ensures same { self.new ≡ self.old }
         ensures value { result ≡ register_value self.old.holds register }
     {
-        let word = register as usize + FIRST_REGISTER;
-        let table = &self.table;
-        table.shared.load::<PlainTell>(&mut self.seat, word)
+        self.registers[register as usize]
     }
 }

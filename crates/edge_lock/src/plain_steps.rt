@@ -1,8 +1,20 @@
 //! The steps on the words of a plain edge: what its one seat knows, the rule that all steps keep,
-//! and what each kind of step reveals.
+//! and what each kind of step reveals. The registers are no words of its table.
+ghost use Rattle.std.specs.Prelude.{◌≡◌, []};
+ghost use Rattle.edge_lock.specs.EndLists.{with_access};
+ghost use Rattle.edge_lock.specs.PlainEdges.{IsKept, MayNote, plain_view_after_change};
+
 use crate::history::{Hold, Refusal};
-use atomic_table::{Play, TableRule};
+use atomic_table::{Play, Seat, Table, TableRule};
+use std::alloc::Global;
 use std::collections::LinkedList;
+use std::marker::{Brand, PhantomData};
+
+/// How many words the table has: the base's own, the lock and the notes.
+pub(crate) const WORDS: usize = 3;
+
+/// The word that is only loaded. Each load of it adds an access to the open hold.
+pub(crate) const NOTES: usize = 2;
 
 /// What the one seat of a plain edge knows: the number of registers, the holds of both ends, and
 /// the refusals of each. No value of it is made.
@@ -17,14 +29,14 @@ pub struct PlainView {
     pub high: LinkedList<Refusal>,
 }
 
-/// The rule of a plain edge's table. Its key is the number of registers.
+/// The rule of a plain edge's table. Its key is the number of registers, which the first view has.
 pub struct PlainRule;
 
 impl TableRule<(), PlainView, u32> for PlainRule {
     ghost use Rattle.edge_lock.specs.PlainEdges.{IsPlain, plain_view};
     ghost use Rattle.std.specs.Prelude.{[]};
 
-    ghost holds = { IsPlain };
+    ghost holds = { λ registers. IsPlain };
 
     ghost first = { λ registers. plain_view registers [] [] [] };
 }
@@ -38,24 +50,6 @@ impl Play<(), PlainView> for PlainTry {
     ghost then = { PlainTries };
 }
 
-/// The load of a register in a hold.
-pub struct PlainRead;
-
-impl Play<(), PlainView> for PlainRead {
-    ghost use Rattle.edge_lock.specs.PlainEdges.{PlainReads};
-
-    ghost then = { PlainReads };
-}
-
-/// The store to a register in a hold.
-pub struct PlainWrite;
-
-impl Play<(), PlainView> for PlainWrite {
-    ghost use Rattle.edge_lock.specs.PlainEdges.{PlainWrites};
-
-    ghost then = { PlainWrites };
-}
-
 /// The store that ends a hold.
 pub struct PlainGive;
 
@@ -65,11 +59,43 @@ impl Play<(), PlainView> for PlainGive {
     ghost then = { PlainGives };
 }
 
-/// The load of a register outside of any hold.
-pub struct PlainTell;
+/// A read or write of a register, which has happened in plain memory.
+pub trait Said {
+    ghost use Rattle.edge_lock.specs.declared.history.Access.{Access};
 
-impl Play<(), PlainView> for PlainTell {
-    ghost use Rattle.edge_lock.specs.PlainEdges.{PlainTells};
+    ghost access: { Access };
+}
 
-    ghost then = { PlainTells };
+impl Said for Brand {
+    ghost use Rattle.edge_lock.specs.declared.history.Access.TheVariants.{Read};
+
+    ghost access = { Read 0 0 };
+}
+
+/// The load that adds an access to the open hold.
+pub struct PlainNote<B>(PhantomData<B>);
+
+impl<B: Said> Play<(), PlainView> for PlainNote<B> {
+    ghost use Rattle.edge_lock.specs.PlainEdges.{PlainNotes};
+
+    ghost then = { PlainNotes B.access };
+}
+
+/// Adds an access to the open hold. The code does not need to know which one it is; the proof of
+/// the caller picks it, by the register and the value.
+#[inline]
+pub(crate) fn note<B: Said>(
+    table: &Table<(), PlainView, u32, PlainRule, Global>,
+    seat: &mut Seat<(), PlainView>,
+    _register: u32,
+    _value: u64,
+)
+    requires seat { (seat.old.table_id ≡ table.now.shared.table_id) × (seat.old.me.1 ≡ []) }
+    requires words { table.now.shared.table_id.words ≡ 3 }
+    requires may { MayNote B.access seat.old.me.0 }
+    ensures same { seat.new.table_id ≡ seat.old.table_id }
+    ensures now { seat.new.me ≡ (plain_view_after_change (with_access B.access) seat.old.me.0, []) }
+    ensures kept { IsKept seat.new.me.0 }
+{
+    table.shared.load::<PlainNote<B>>(seat, NOTES);
 }

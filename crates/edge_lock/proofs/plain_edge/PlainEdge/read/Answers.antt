@@ -1,52 +1,63 @@
-use Rattle.std.proofs.Common.{arith, refl, sym, ap, ◌∙◌, subst, ◌≡◌, ◌+◌, ◌-◌}
-use Rattle.edge_lock.specs.History.{register_value, site_count, IsAllowed}
-use Rattle.edge_lock.specs.EndLists.{IsHeld, Shows, known_value}
-use Rattle.edge_lock.specs.PlainEdges.{PlainEdgeValue, own_lists}
+use Rattle.std.proofs.Common.{arith, refl, sym, ap, ◌∙◌, subst, ◌≡◌, ◌<◌, ◌-◌, [], length}
+use Rattle.std.proofs.lemmas.List.{get_or_default}
 use Rattle.edge_lock.specs.declared.history.Access.TheVariants.{Read}
-use Rattle.edge_lock.specs.PlainEdges.{plain_edge_value, plain_view_after_change}
-use Rattle.edge_lock.specs.EndLists.{with_access, after_access}
+use Rattle.edge_lock.specs.History.{register_value, site_count, IsAllowed}
+use Rattle.edge_lock.specs.EndLists.{IsHeld, Shows, known_value, with_access, after_access}
+use Rattle.edge_lock.specs.PlainEdges.{PlainEdgeValue, own_lists, plain_edge_value}
+use Rattle.edge_lock.specs.RegistersNow.{AreNow}
 use Rattle.edge_lock.proofs.PlainRules as keeps
 use Rattle.edge_lock.proofs.PlainRules.{M}
+use Rattle.edge_lock.proofs.PlainRegisters.{now_read}
 use Rattle.edge_lock.proofs.plain_edge.PlainEdge.read.Goals as goal
 
-pub load-requires : goal.load-requires
-load-requires c =
-    let size = c.self.invariant.1 ∙ ap (λ (x : PlainEdgeValue). x.registers) c.self.view_is in
-    (c.self.invariant.2, omega (arith, c.self.invariant.0, size, c.self.invariant.1, c.requires.register), keeps.reads _ _ _ c.args.end c.self.inside.seat.me c.self.invariant.3 (subst (λ (x : PlainEdgeValue). IsHeld (own_lists c.args.end x)) (sym c.self.view_is) c.requires.held) c.args.register _ (omega (arith, size, c.requires.register)) refl)
+pub note-requires-clause-may : goal.note-requires-clause-may
+note-requires-clause-may c =
+    let v = c.self.inside.seat.me.0 in let q = c.args.register in let value = c.index-value.result.now in let items = c.self.inside.registers.items in
+    let size = ap (λ (x : PlainEdgeValue). x.registers) c.self.view_is in let now = c.self.invariant.3 in let long = now.long in
+    let here : q < v.registers = omega (arith, size, c.requires.register) in let inside : q < length items = omega (arith, here, long) in
+    let held = subst (λ (x : PlainEdgeValue). IsHeld (own_lists c.args.end x)) (sym c.self.view_is) c.requires.held in
+    let is : value ≡ register_value v.holds q = c.index-value.ensures ∙ (get_or_default items q value 0 inside ∙ now.values q here) in
+    (keeps.held_last c.args.end v c.self.invariant.4 held, (here, is))
 
-pub returns-clause-is_register : goal.returns-clause-is_register
-returns-clause-is_register c =
-    let q = c.args.register in let back : (q + 3) - 3 ≡ q = omega arith in let me = c.self.inside.seat.me in
-    c.load.ensures.2.1 ∙ ap (register_value me.0.holds) back ∙ ap (λ (x : PlainEdgeValue). register_value x.holds q) c.self.view_is
+pub invariant_of-self : goal.invariant_of-self
+invariant_of-self c =
+    let v = c.self.inside.seat.me.0 in let items = c.self.inside.registers.items in
+    let held = keeps.held_last c.args.end v c.self.invariant.4 (subst (λ (x : PlainEdgeValue). IsHeld (own_lists c.args.end x)) (sym c.self.view_is) c.requires.held) in (
+      c.self.invariant.0,
+      c.note.ensures.same ∙ c.self.invariant.1,
+      ap (λ (m : M). m.1) c.note.ensures.now,
+      subst (λ (m : M). AreNow m.0.registers m.0.holds items) (sym c.note.ensures.now) (now_read v.registers v.holds items held c.self.invariant.3 c.args.register c.index-value.result.now),
+      c.note.ensures.kept,
+    )
 
 pub returns-clause-allowed : goal.returns-clause-allowed
 returns-clause-allowed c =
-    let q = c.args.register in let back : (q + 3) - 3 ≡ q = omega arith in let me = c.self.inside.seat.me in
-    let is = c.load.ensures.2.1 ∙ ap (register_value me.0.holds) back in
-    let told = keeps.shows_known 0 0 0 c.args.end me c.self.invariant.3 (subst (λ (x : PlainEdgeValue). IsHeld (own_lists c.args.end x)) (sym c.self.view_is) c.requires.held) q c.load.result (own_lists c.args.end (plain_edge_value 0 0 me.0)).refusals c.self.invariant.4 is in
-    subst (λ (x : PlainEdgeValue). IsAllowed (site_count x.registers) q c.load.result) c.self.view_is told.1
+    let v = c.self.inside.seat.me.0 in let q = c.args.register in let value = c.index-value.result.now in let items = c.self.inside.registers.items in
+    let size = ap (λ (x : PlainEdgeValue). x.registers) c.self.view_is in let now = c.self.invariant.3 in let long = now.long in
+    let here : q < v.registers = omega (arith, size, c.requires.register) in let inside : q < length items = omega (arith, here, long) in
+    let held = subst (λ (x : PlainEdgeValue). IsHeld (own_lists c.args.end x)) (sym c.self.view_is) c.requires.held in
+    let is : value ≡ register_value v.holds q = c.index-value.ensures ∙ (get_or_default items q value 0 inside ∙ now.values q here) in
+    subst (λ (x : PlainEdgeValue). IsAllowed (site_count x.registers) q value) c.self.view_is (keeps.shows_known c.args.end q value v [] c.self.invariant.4 held is).1
 
 pub returns-clause-value : goal.returns-clause-value
 returns-clause-value c =
-    let q = c.args.register in let back : (q + 3) - 3 ≡ q = omega arith in let me = c.self.inside.seat.me in
-    let is = c.load.ensures.2.1 ∙ ap (register_value me.0.holds) back in
-    let told = keeps.shows_known 0 0 0 c.args.end me c.self.invariant.3 (subst (λ (x : PlainEdgeValue). IsHeld (own_lists c.args.end x)) (sym c.self.view_is) c.requires.held) q c.load.result (own_lists c.args.end (plain_edge_value 0 0 me.0)).refusals c.self.invariant.4 is in
-    subst (λ (x : PlainEdgeValue). Shows (known_value (own_lists c.args.end x) q) c.load.result) c.self.view_is told.0
+    let v = c.self.inside.seat.me.0 in let q = c.args.register in let value = c.index-value.result.now in let items = c.self.inside.registers.items in
+    let size = ap (λ (x : PlainEdgeValue). x.registers) c.self.view_is in let now = c.self.invariant.3 in let long = now.long in
+    let here : q < v.registers = omega (arith, size, c.requires.register) in let inside : q < length items = omega (arith, here, long) in
+    let held = subst (λ (x : PlainEdgeValue). IsHeld (own_lists c.args.end x)) (sym c.self.view_is) c.requires.held in
+    let is : value ≡ register_value v.holds q = c.index-value.ensures ∙ (get_or_default items q value 0 inside ∙ now.values q here) in
+    subst (λ (x : PlainEdgeValue). Shows (known_value (own_lists c.args.end x) q) value) c.self.view_is (keeps.shows_known c.args.end q value v [] c.self.invariant.4 held is).0
 
 pub returns-clause-own : goal.returns-clause-own
 returns-clause-own c =
-    let inside = c.self.inside in let me = inside.seat.me in let x0 = plain_edge_value inside.lower inside.higher me.0 in
-    let q = c.args.register in let back : (q + 3) - 3 ≡ q = omega arith in
-    let now = ap (λ (m : M). m.0) c.load.ensures.2.0 ∙ ap (λ y. plain_view_after_change (with_access (Read y c.load.result)) me.0) back in
-    ap (λ w. own_lists c.args.end (plain_edge_value inside.lower inside.higher w)) now
-    ∙ (keeps.own_changed c.args.end (with_access (Read c.args.register c.load.result)) x0 (λ h. refl) c.self.invariant.4 (subst (λ (x : PlainEdgeValue). IsHeld (own_lists c.args.end x)) (sym c.self.view_is) c.requires.held)
-    ∙ ap (λ (x : PlainEdgeValue). after_access (Read c.args.register c.load.result) (own_lists c.args.end x)) c.self.view_is)
+    let inside = c.self.inside in let x0 = plain_edge_value inside.lower inside.higher inside.seat.me.0 in
+    let held = subst (λ (x : PlainEdgeValue). IsHeld (own_lists c.args.end x)) (sym c.self.view_is) c.requires.held in
+    ap (λ (m : M). own_lists c.args.end (plain_edge_value inside.lower inside.higher m.0)) c.note.ensures.now
+    ∙ (keeps.own_changed c.args.end (with_access (Read c.args.register c.index-value.result.now)) x0 (λ h. refl) c.self.invariant.4 held ∙ ap (λ (x : PlainEdgeValue). after_access (Read c.args.register c.index-value.result.now) (own_lists c.args.end x)) c.self.view_is)
 
 pub returns-clause-other : goal.returns-clause-other
 returns-clause-other c =
-    let inside = c.self.inside in let me = inside.seat.me in let x0 = plain_edge_value inside.lower inside.higher me.0 in
-    let q = c.args.register in let back : (q + 3) - 3 ≡ q = omega arith in
-    let now = ap (λ (m : M). m.0) c.load.ensures.2.0 ∙ ap (λ y. plain_view_after_change (with_access (Read y c.load.result)) me.0) back in
-    ap (λ w. own_lists (1 - c.args.end) (plain_edge_value inside.lower inside.higher w)) now
-    ∙ (keeps.other_changed c.args.end (with_access (Read c.args.register c.load.result)) x0 c.requires.end (λ h. refl) c.self.invariant.4 (subst (λ (x : PlainEdgeValue). IsHeld (own_lists c.args.end x)) (sym c.self.view_is) c.requires.held)
-    ∙ ap (own_lists (1 - c.args.end)) c.self.view_is)
+    let inside = c.self.inside in let x0 = plain_edge_value inside.lower inside.higher inside.seat.me.0 in
+    let held = subst (λ (x : PlainEdgeValue). IsHeld (own_lists c.args.end x)) (sym c.self.view_is) c.requires.held in
+    ap (λ (m : M). own_lists (1 - c.args.end) (plain_edge_value inside.lower inside.higher m.0)) c.note.ensures.now
+    ∙ (keeps.other_changed c.args.end (with_access (Read c.args.register c.index-value.result.now)) x0 c.requires.end (λ h. refl) c.self.invariant.4 held ∙ ap (own_lists (1 - c.args.end)) c.self.view_is)
