@@ -6,6 +6,9 @@ use crate::board::{Board, Take};
 use crate::edge::{Edge, Pass};
 use std::marker::Model;
 
+/// How many idle words keep what two processors change apart: two lines of their caches.
+const IDLE: usize = 16;
+
 /// One tile's end of its shared edges: the edges of the plane, and the tile's own passes.
 /// Contracts see the tile and the passes.
 ///
@@ -14,7 +17,9 @@ use std::marker::Model;
 /// the other end.
 ///
 /// The edge that was used last is kept with the position of its pass: an event reads and writes one
-/// edge many times in a row.
+/// edge many times in a row. Idle words lie behind them, since what is next in memory may be another
+/// thread's (workers lie side by side in a list): otherwise the processors would take the same lines of
+/// memory from each other all the time.
 #[derive(Drop)]
 pub struct SharedEnd<'a> {
     edges: &'a [Edge],
@@ -22,6 +27,7 @@ pub struct SharedEnd<'a> {
     tile: u32,
     recent: u32,
     recent_position: usize,
+    idle: [u64; IDLE],
 }
 
 impl<'a> Model for SharedEnd<'a> {
@@ -64,6 +70,7 @@ impl<'a> SharedEnd<'a> {
             tile,
             recent: 0,
             recent_position,
+            idle: [0; IDLE],
         }
     }
 
@@ -95,6 +102,7 @@ impl<'a> SharedEnd<'a> {
             tile: _,
             recent: _,
             recent_position: _,
+            idle: _,
         } = self;
         passes
     }
