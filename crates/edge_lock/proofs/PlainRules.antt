@@ -17,7 +17,9 @@ use Rattle.edge_lock.specs.declared.plain_steps.PlainView.{PlainView}
 use Rattle.edge_lock.specs.History.{own, trace, last_value, register_value, ReadsTrue, IsAllowed, IsAllowedAccess, open_hold, key, keys, site_count, IsEnd, IsSide, IsHistory}
 use Rattle.edge_lock.specs.EndLists.{end_lists, new_hold, refusal_of, with_access, closed_hold, change_last, is_last_open, IsHoldBelow, IsRefusalBelow, last_accesses, last_shown, Shows, known_value, after_try, IsFree, IsHeld}
 use Rattle.edge_lock.specs.SharedRule.{lock_word, attempt_in}
-use Rattle.edge_lock.specs.PlainEdges.{plain_view, IsKept, Agrees, IsPlain, with_refusal, end_in, PlainTries, plain_view_after_change, IsAccess, MayNote, PlainNotes, PlainGives, PlainEdgeValue, view_of, own_lists, edge_after_try, with_view, IsAnswer}
+use Rattle.edge_lock.specs.PlainEdges.{plain_view, IsKept, Agrees, IsPlain, with_refusal, end_in, plain_view_after_try, PlainTries, plain_view_after_change, IsAccess, MayNote, PlainNotes, PlainGives, PlainEdgeValue, view_of, own_lists, edge_after_try, with_view, IsAnswer}
+use Rattle.edge_lock.specs.RegistersNow.{AreNow}
+use Rattle.edge_lock.proofs.RegistersNow.{now_took}
 use Rattle.edge_lock.proofs.LastHolds.{open_hold-snoc, ends_open, ends_held, is_held-snoc, keys-snoc, none_or_held, change_last-snoc, last_accesses-snoc, trace-snoc}
 use Rattle.edge_lock.proofs.HistorySteps.{all-last, own_below, side_takes, side_stays, side_refuses, history_takes, history_accesses, history_ends, keys-change, own-here, own-there}
 use Rattle.edge_lock.proofs.SharedHolds.{holder, same_word, shows_value, allowed_value}
@@ -187,6 +189,18 @@ opens size words is = record { one = refl; agrees = λ id v e. only id v e recor
     only : (id : ℕ) (v : PlainView) → get_elem? (plain_view size [] [] [] ∷ []) id ≡ some v → Agrees words (plain_view size [] [] []) → Agrees words v
     only zero v e a = subst (Agrees words) (some-injective (plain_view size [] [] []) v e) a
     only (suc id) v e a = absurd (some-ne-none v (sym e))
+
+-- the registers are those of the view's holds
+abbrev pub HasNow : List ℕ → PlainView → Type 0
+HasNow registers view = AreNow view.registers view.holds registers
+
+-- a try leaves the registers as they are
+pub now_tried : (e a n : ℕ) (v : PlainView) (registers : List ℕ) → HasNow registers v → HasNow registers (plain_view_after_try e a n v)
+now_tried e a n v registers now = by (eqb n 0)
+  where
+    by : (b : Bool) → HasNow registers (cond b (plain_view v.registers (v.holds ++ new_hold e a ∷ []) v.low v.high) (with_refusal e (refusal_of a (attempt_in n)) v))
+    by true = now_took v.registers e a v.holds registers now
+    by false = now
 
 -- what a try answers, by the word that it found
 pub answers_got : (e n : ℕ) (x : PlainEdgeValue) → n ≡ lock_word (open_hold x.holds) → n ≡ 0 → IsAnswer e x Got

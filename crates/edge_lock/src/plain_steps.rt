@@ -59,7 +59,7 @@ impl Play<(), PlainView> for PlainGive {
     ghost then = { PlainGives };
 }
 
-/// A read or write of a register, which has happened in plain memory.
+/// One read or write of a register, as a note puts it into the history.
 pub trait Said {
     ghost use Rattle.edge_lock.specs.declared.history.Access.{Access};
 
@@ -81,8 +81,8 @@ impl<B: Said> Play<(), PlainView> for PlainNote<B> {
     ghost then = { PlainNotes B.access };
 }
 
-/// Adds an access to the open hold. The code does not need to know which one it is; the proof of
-/// the caller picks it, by the register and the value.
+/// Adds an access to the open hold: a read of what the register has, or a write that it allows. The
+/// code does not need to know which; the caller's proof picks it, of this register and value.
 #[inline]
 pub(crate) fn note<B: Said>(
     table: &Table<(), PlainView, u32, PlainRule, Global>,

@@ -4,7 +4,7 @@ use Rattle.edge_lock.specs.PlainEdges.{PlainEdgeValue, own_lists, plain_edge_val
 use Rattle.edge_lock.specs.RegistersNow.{AreNow}
 use Rattle.edge_lock.proofs.PlainRules as keeps
 use Rattle.edge_lock.proofs.PlainRules.{M}
-use Rattle.edge_lock.proofs.PlainRegisters.{now_gave}
+use Rattle.edge_lock.proofs.RegistersNow.{now_gave}
 use Rattle.edge_lock.proofs.plain_edge.PlainEdge.give.Goals as goal
 
 pub store-requires : goal.store-requires

@@ -3,7 +3,7 @@ use Rattle.edge_lock.specs.PlainEdges.{plain_view, IsKept}
 use Rattle.edge_lock.specs.RegistersNow.{AreNow}
 use Rattle.edge_lock.proofs.PlainRules as keeps
 use Rattle.edge_lock.proofs.PlainRules.{M}
-use Rattle.edge_lock.proofs.PlainRegisters.{now_none}
+use Rattle.edge_lock.proofs.RegistersNow.{now_none}
 use Rattle.edge_lock.proofs.plain_edge.PlainEdge.new.Goals as goal
 
 pub of_words-requires : goal.of_words-requires

@@ -1,5 +1,4 @@
-use Rattle.std.proofs.Common.{arith, refl, sym, ap, ◌∙◌, subst, ◌≡◌, ◌<◌, ◌-◌, [], length}
-use Rattle.std.proofs.lemmas.List.{get_or_default}
+use Rattle.std.proofs.Common.{arith, refl, sym, ap, ◌∙◌, subst, ◌≡◌, ◌<◌, ◌-◌, []}
 use Rattle.edge_lock.specs.declared.history.Access.TheVariants.{Read}
 use Rattle.edge_lock.specs.History.{register_value, site_count, IsAllowed}
 use Rattle.edge_lock.specs.EndLists.{IsHeld, Shows, known_value, with_access, after_access}
@@ -7,16 +6,15 @@ use Rattle.edge_lock.specs.PlainEdges.{PlainEdgeValue, own_lists, plain_edge_val
 use Rattle.edge_lock.specs.RegistersNow.{AreNow}
 use Rattle.edge_lock.proofs.PlainRules as keeps
 use Rattle.edge_lock.proofs.PlainRules.{M}
-use Rattle.edge_lock.proofs.PlainRegisters.{now_read}
+use Rattle.edge_lock.proofs.RegistersNow.{now_found, now_read}
 use Rattle.edge_lock.proofs.plain_edge.PlainEdge.read.Goals as goal
 
 pub note-requires-clause-may : goal.note-requires-clause-may
 note-requires-clause-may c =
-    let v = c.self.inside.seat.me.0 in let q = c.args.register in let value = c.index-value.result.now in let items = c.self.inside.registers.items in
-    let size = ap (λ (x : PlainEdgeValue). x.registers) c.self.view_is in let now = c.self.invariant.3 in let long = now.long in
-    let here : q < v.registers = omega (arith, size, c.requires.register) in let inside : q < length items = omega (arith, here, long) in
+    let v = c.self.inside.seat.me.0 in let q = c.args.register in let value = c.index-value.result.now in
+    let here : q < v.registers = omega (arith, ap (λ (x : PlainEdgeValue). x.registers) c.self.view_is, c.requires.register) in
     let held = subst (λ (x : PlainEdgeValue). IsHeld (own_lists c.args.end x)) (sym c.self.view_is) c.requires.held in
-    let is : value ≡ register_value v.holds q = c.index-value.ensures ∙ (get_or_default items q value 0 inside ∙ now.values q here) in
+    let is : value ≡ register_value v.holds q = now_found v.registers v.holds c.self.inside.registers.items q value c.self.invariant.3 here c.index-value.ensures in
     (keeps.held_last c.args.end v c.self.invariant.4 held, (here, is))
 
 pub invariant_of-self : goal.invariant_of-self
@@ -32,20 +30,18 @@ invariant_of-self c =
 
 pub returns-clause-allowed : goal.returns-clause-allowed
 returns-clause-allowed c =
-    let v = c.self.inside.seat.me.0 in let q = c.args.register in let value = c.index-value.result.now in let items = c.self.inside.registers.items in
-    let size = ap (λ (x : PlainEdgeValue). x.registers) c.self.view_is in let now = c.self.invariant.3 in let long = now.long in
-    let here : q < v.registers = omega (arith, size, c.requires.register) in let inside : q < length items = omega (arith, here, long) in
+    let v = c.self.inside.seat.me.0 in let q = c.args.register in let value = c.index-value.result.now in
+    let here : q < v.registers = omega (arith, ap (λ (x : PlainEdgeValue). x.registers) c.self.view_is, c.requires.register) in
     let held = subst (λ (x : PlainEdgeValue). IsHeld (own_lists c.args.end x)) (sym c.self.view_is) c.requires.held in
-    let is : value ≡ register_value v.holds q = c.index-value.ensures ∙ (get_or_default items q value 0 inside ∙ now.values q here) in
+    let is : value ≡ register_value v.holds q = now_found v.registers v.holds c.self.inside.registers.items q value c.self.invariant.3 here c.index-value.ensures in
     subst (λ (x : PlainEdgeValue). IsAllowed (site_count x.registers) q value) c.self.view_is (keeps.shows_known c.args.end q value v [] c.self.invariant.4 held is).1
 
 pub returns-clause-value : goal.returns-clause-value
 returns-clause-value c =
-    let v = c.self.inside.seat.me.0 in let q = c.args.register in let value = c.index-value.result.now in let items = c.self.inside.registers.items in
-    let size = ap (λ (x : PlainEdgeValue). x.registers) c.self.view_is in let now = c.self.invariant.3 in let long = now.long in
-    let here : q < v.registers = omega (arith, size, c.requires.register) in let inside : q < length items = omega (arith, here, long) in
+    let v = c.self.inside.seat.me.0 in let q = c.args.register in let value = c.index-value.result.now in
+    let here : q < v.registers = omega (arith, ap (λ (x : PlainEdgeValue). x.registers) c.self.view_is, c.requires.register) in
     let held = subst (λ (x : PlainEdgeValue). IsHeld (own_lists c.args.end x)) (sym c.self.view_is) c.requires.held in
-    let is : value ≡ register_value v.holds q = c.index-value.ensures ∙ (get_or_default items q value 0 inside ∙ now.values q here) in
+    let is : value ≡ register_value v.holds q = now_found v.registers v.holds c.self.inside.registers.items q value c.self.invariant.3 here c.index-value.ensures in
     subst (λ (x : PlainEdgeValue). Shows (known_value (own_lists c.args.end x) q) value) c.self.view_is (keeps.shows_known c.args.end q value v [] c.self.invariant.4 held is).0
 
 pub returns-clause-own : goal.returns-clause-own

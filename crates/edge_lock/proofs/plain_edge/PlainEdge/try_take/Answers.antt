@@ -5,8 +5,7 @@ use Rattle.edge_lock.specs.EndLists.{IsFree, IsNew}
 use Rattle.edge_lock.specs.PlainEdges.{end_in, PlainEdgeValue, own_lists, view_of, IsKept, IsAnswer}
 use Rattle.edge_lock.specs.RegistersNow.{AreNow}
 use Rattle.edge_lock.proofs.PlainRules as keeps
-use Rattle.edge_lock.proofs.PlainRules.{M}
-use Rattle.edge_lock.proofs.PlainRegisters.{now_tried}
+use Rattle.edge_lock.proofs.PlainRules.{M, now_tried}
 use Rattle.edge_lock.proofs.plain_edge.PlainEdge.try_take.Goals as goal
 use Rattle.edge_lock.proofs.plain_edge.PlainEdge.try_take.Goals.{then-found-eq0, else-found-eq0}
 

@@ -6,7 +6,7 @@ use Rattle.edge_lock.specs.PlainEdges.{PlainEdgeValue, own_lists, plain_edge_val
 use Rattle.edge_lock.specs.RegistersNow.{AreNow}
 use Rattle.edge_lock.proofs.PlainRules as keeps
 use Rattle.edge_lock.proofs.PlainRules.{M}
-use Rattle.edge_lock.proofs.PlainRegisters.{now_wrote}
+use Rattle.edge_lock.proofs.RegistersNow.{now_wrote}
 use Rattle.edge_lock.proofs.plain_edge.PlainEdge.write.Goals as goal
 
 pub note-requires-clause-may : goal.note-requires-clause-may

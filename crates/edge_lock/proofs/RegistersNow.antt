@@ -1,15 +1,12 @@
--- What each step of an edge does to registers in plain memory.
-use Rattle.std.proofs.Common.{◌≡◌, ℕ, ◌<◌, eqb, Bool, true, false, cond, List, [], ◌∷◌, ◌++◌, length, get_or, set, replicate, sym, ap, ◌∙◌, arith, eq-eqb, ne_eqb, length-set, get_or-set_same, get_or-set_other}
-use Rattle.std.proofs.lemmas.List.{get_or-replicate, length-replicate}
+-- What each change of an edge's history does to its registers in plain memory.
+use Rattle.std.proofs.Common.{◌≡◌, ℕ, ◌<◌, eqb, true, cond, List, [], ◌∷◌, ◌++◌, length, get_or, set, replicate, sym, ap, ◌∙◌, arith, eq-eqb, ne_eqb, length-set, get_or-set_same, get_or-set_other}
+use Rattle.std.proofs.lemmas.List.{get_or_default, get_or-replicate, length-replicate}
 use mathlib.Core.Logic.{dite}
 use native.Mathlib.Decide.{ℕ_discrete}
 use Rattle.edge_lock.specs.declared.history.Access.TheVariants.{Read, Write}
 use Rattle.edge_lock.specs.declared.history.Hold.{Hold}
-use Rattle.edge_lock.specs.declared.plain_steps.PlainView.{PlainView}
 use Rattle.edge_lock.specs.History.{register_value}
-use Rattle.edge_lock.specs.SharedRule.{attempt_in}
-use Rattle.edge_lock.specs.PlainEdges.{plain_view, plain_view_after_try, with_refusal}
-use Rattle.edge_lock.specs.EndLists.{new_hold, refusal_of, with_access, closed_hold, change_last, is_last_open}
+use Rattle.edge_lock.specs.EndLists.{new_hold, with_access, closed_hold, change_last, is_last_open}
 use Rattle.edge_lock.specs.RegistersNow.{AreNow}
 use Rattle.edge_lock.proofs.LastHolds.{ends_held, change_last-snoc}
 use Rattle.edge_lock.proofs.HistorySteps.{register_value-opened, register_value-read, register_value-write, register_value-ended}
@@ -18,23 +15,17 @@ use Rattle.edge_lock.proofs.HistorySteps.{register_value-opened, register_value-
 pub now_none : (count : ℕ) (registers : List ℕ) → registers ≡ replicate count 0 → AreNow count [] registers
 now_none count registers is = record { long = ap length is ∙ length-replicate count 0; values = λ k l. ap (λ t. get_or t k 0) is ∙ get_or-replicate count k 0 0 l }
 
--- a step that changes no register
+-- what is read at a register's place is its value
+pub now_found : (count : ℕ) (holds : List Hold) (registers : List ℕ) (register value : ℕ) → AreNow count holds registers → register < count → value ≡ get_or registers register value → value ≡ register_value holds register
+now_found count holds registers register value now inside is = let long = now.long in is ∙ (get_or_default registers register value 0 (omega arith) ∙ now.values register inside)
+
+-- a change that alters no register
 pub now_same : (count : ℕ) (old new : List Hold) (registers : List ℕ) → ((k : ℕ) → register_value new k ≡ register_value old k) → AreNow count old registers → AreNow count new registers
 now_same count old new registers same now = record { long = now.long; values = λ k l. now.values k l ∙ sym (same k) }
 
+-- a hold begins
 pub now_took : (count end attempt : ℕ) (holds : List Hold) (registers : List ℕ) → AreNow count holds registers → AreNow count (holds ++ new_hold end attempt ∷ []) registers
 now_took count end attempt holds registers = now_same count holds (holds ++ new_hold end attempt ∷ []) registers (register_value-opened holds end attempt)
-
--- the registers are those of the view's holds
-abbrev pub HasNow : List ℕ → PlainView → Type 0
-HasNow registers view = AreNow view.registers view.holds registers
-
-pub now_tried : (end attempt word : ℕ) (view : PlainView) (registers : List ℕ) → HasNow registers view → HasNow registers (plain_view_after_try end attempt word view)
-now_tried end attempt word view registers now = by (eqb word 0)
-  where
-    by : (b : Bool) → HasNow registers (cond b (plain_view view.registers (view.holds ++ new_hold end attempt ∷ []) view.low view.high) (with_refusal end (refusal_of attempt (attempt_in word)) view))
-    by true = now_took view.registers end attempt view.holds registers now
-    by false = now
 
 -- a register after a change of the open hold
 at_last : (f : Hold → Hold) (holds past : List Hold) (h : Hold) (k : ℕ) → holds ≡ past ++ h ∷ [] → register_value (change_last f holds) k ≡ register_value (past ++ f h ∷ []) k
