@@ -1,5 +1,5 @@
 -- What contracts see of a shared edge, of its two passes, and of the edge when it is closed.
-use Rattle.std.specs.Prelude.{◌≡◌, ℕ, List, [], None}
+use Rattle.std.specs.Prelude.{◌≡◌, ℕ, List, [], length, None}
 use Rattle.atomic_table.specs.Seated.{TableId}
 use Rattle.atomic_table.specs.Table.{Me}
 use Rattle.edge_lock.specs.declared.history.Hold.{Hold}
@@ -8,9 +8,9 @@ use Rattle.edge_lock.specs.declared.edge_steps.View.{View}
 use Rattle.edge_lock.specs.declared.edge_steps.View.TheVariants.{Paired, Settled}
 use Rattle.edge_lock.specs.History.{site_count, open_hold}
 use Rattle.edge_lock.specs.EndLists.{EndLists, end_lists}
-use Rattle.edge_lock.specs.SharedRule.{lists_in, IsBoth}
+use Rattle.edge_lock.specs.SharedRule.{lists_in, now_in, slots_of, AreNow, IsBoth}
 
--- an edge: its words, its number and how many registers it has
+-- an edge: its table, its number and how many registers it has
 pub record EdgeValue : Type 0 where
   pub table : TableId
   pub number : ℕ
@@ -35,9 +35,11 @@ with_lists pass lists = pass_value pass.of pass.end lists
 abbrev pub IsFresh : PassValue → EdgeValue → ℕ → Type 0
 IsFresh pass edge end = pass ≡ pass_value edge end (end_lists [] [])
 
--- the seat is one of two, and has this end
-abbrev pub IsPaired : ℕ → ℕ → Me (Unit {0}) View → Type 0
-IsPaired registers end me = me ≡ (Paired registers end (lists_in me.0).holds (lists_in me.0).refusals, [])
+-- the seat is one of two, has this end, and has the registers exactly while its last hold is open
+pub record IsPaired (registers end : ℕ) (me : Me (List ℕ) View) : Type 0 where
+  pub view : me.0 ≡ Paired registers end (lists_in me.0).holds (lists_in me.0).refusals (now_in me.0)
+  pub slots : me.1 ≡ slots_of me.0
+  pub long : length (now_in me.0) ≡ registers
 
 -- a closed edge: its number of registers, the one list of holds of both ends, and the refusals of each end
 pub record ClosedValue : Type 0 where
@@ -47,23 +49,25 @@ pub record ClosedValue : Type 0 where
   pub high : List Refusal
 
 abbrev pub holds_in : View → List Hold
-holds_in (Settled all low_refusals high_refusals) = all
+holds_in (Settled all low_refusals high_refusals now) = all
 holds_in view = []
 
 abbrev pub low_in : View → List Refusal
-low_in (Settled all low_refusals high_refusals) = low_refusals
+low_in (Settled all low_refusals high_refusals now) = low_refusals
 low_in view = []
 
 abbrev pub high_in : View → List Refusal
-high_in (Settled all low_refusals high_refusals) = high_refusals
+high_in (Settled all low_refusals high_refusals now) = high_refusals
 high_in view = []
 
 abbrev pub closed_value : ℕ → View → ClosedValue
 closed_value registers view = record { registers = registers; holds = holds_in view; low = low_in view; high = high_in view }
 
--- the seat keeps the one history
-abbrev pub KeepsHistory : Me (Unit {0}) View → Type 0
-KeepsHistory me = me ≡ (Settled (holds_in me.0) (low_in me.0) (high_in me.0), [])
+-- the seat keeps the one history, and has the registers, with their values after it
+pub record KeepsHistory (registers : ℕ) (me : Me (List ℕ) View) : Type 0 where
+  pub view : me.0 ≡ Settled (holds_in me.0) (low_in me.0) (high_in me.0) (now_in me.0)
+  pub slots : me.1 ≡ slots_of me.0
+  pub are : AreNow registers (holds_in me.0) (now_in me.0)
 
 -- at close the holds and refusals of both ends are one history, which has each end's own holds in order, and no hold is open
 pub record IsClosed (closed : ClosedValue) (lower higher : EndLists) : Type 0 where

@@ -9,37 +9,37 @@ ghost use Rattle.feast_base.specs.declared.limits.TheConstants.{MOST_ATTEMPTS};
 
 use crate::board::Take;
 use crate::edge_steps::{
-    CLAIMS, Change, Claim, EdgeRule, Ends, FIRST_REGISTER, Give, LOCK, Look, Settle, Tell, Try,
-    View,
+    CLAIMS, Claim, EdgeRule, Ends, Give, LOCK, NOTES, REGISTERS, Settle, Try, View, WORDS, note_access,
 };
-use atomic_table::{Seat, Table};
+use crate::registers::Registers;
+use atomic_table::{Refused, Seat, Table};
 use feast_base::NoMemory;
 use std::alloc::Global;
-use std::marker::Model;
+use std::marker::{Brand, Model};
 
 /// An edge that two ends share. Contracts see its number and how many registers it has.
 #[derive(Drop)]
 pub struct Edge {
-    table: Table<(), View, u32, EdgeRule, Global>,
+    table: Table<Registers, View, u32, EdgeRule, Global>,
     number: u32,
 }
 
 impl Model for Edge {
-    ghost use Rattle.std.specs.Prelude.{◌≡◌, ◌+◌};
+    ghost use Rattle.std.specs.Prelude.{◌≡◌};
     ghost use Rattle.edge_lock.specs.Passes.{EdgeValue, edge_value};
 
     ghost Value = { EdgeValue };
 
     ghost view = { λ e. edge_value e.table.shared.table_id e.number e.table.shared.key };
 
-    ghost invariant = { λ e. e.table.shared.table_id.words ≡ 3 + e.table.shared.key };
+    ghost invariant = { λ e. e.table.shared.table_id.words ≡ 11 };
 }
 
 /// One end's right to take an edge. Contracts see which edge and which end it is, and what that end
 /// did: its holds and its refusals, in order.
 #[derive(Drop)]
 pub struct Pass {
-    seat: Seat<(), View>,
+    seat: Seat<Registers, View>,
     edge: u32,
     end: u32,
 }
@@ -69,19 +69,19 @@ impl Pass {
 /// how many registers it has.
 #[derive(Drop)]
 pub struct Closed {
-    table: Table<(), View, u32, EdgeRule, Global>,
-    seat: Seat<(), View>,
+    table: Table<Registers, View, u32, EdgeRule, Global>,
+    seat: Seat<Registers, View>,
 }
 
 impl Model for Closed {
-    ghost use Rattle.std.specs.Prelude.{◌≡◌, ◌+◌};
+    ghost use Rattle.std.specs.Prelude.{◌≡◌};
     ghost use Rattle.edge_lock.specs.Passes.{ClosedValue, closed_value, KeepsHistory};
 
     ghost Value = { ClosedValue };
 
     ghost view = { λ c. closed_value c.table.shared.key c.seat.me.0 };
 
-    ghost invariant = { λ c. (c.table.shared.table_id.words ≡ 3 + c.table.shared.key) × (c.seat.table_id ≡ c.table.shared.table_id) × KeepsHistory c.seat.me };
+    ghost invariant = { λ c. (c.seat.table_id ≡ c.table.shared.table_id) × KeepsHistory c.table.shared.key c.seat.me };
 }
 
 impl Closed {
@@ -91,9 +91,8 @@ impl Closed {
         ensures same { self.new ≡ self.old }
         ensures value { result ≡ register_value self.old.holds register }
     {
-        let word = register as usize + FIRST_REGISTER;
-        let table = &self.table;
-        table.shared.load::<Tell>(&mut self.seat, word)
+        let registers = self.seat.slot_mut(&self.table.shared, REGISTERS);
+        registers.get(register)
     }
 }
 
@@ -121,8 +120,12 @@ impl Edge {
         ensures edge { IfOk result (λ r. (r.0.number ≡ edge) × (r.0.registers ≡ registers)) }
         ensures passes { IfOk result (λ r. IsFresh r.1 r.0 0 × IsFresh r.2 r.0 1) }
     {
-        let words = Vec::from_elem(alloc, 0u64, FIRST_REGISTER + registers as usize)?;
-        let (table, mut seat) = Table::of_words(alloc, words.as_slice(), &registers)?;
+        let mut slots = Vec::new(alloc);
+        slots.push(Registers::zeros(alloc, registers)?)?;
+        let (table, mut seat) = match Table::new(alloc, &[0; WORDS], slots, &registers) {
+            Ok(made) => made,
+            Err(Refused { slots: _ }) => return Err(NoMemory),
+        };
         table.shared.fetch_add::<Claim>(&mut seat, CLAIMS, 1);
         let mut other = table.shared.split_seat::<Ends>(&mut seat);
         table.shared.fetch_add::<Claim>(&mut other, CLAIMS, 1);
@@ -159,7 +162,7 @@ impl Edge {
             end: _,
         } = higher;
         table.shared.join_seat::<Ends>(&mut seat, other);
-        table.shared.load::<Settle>(&mut seat, 0);
+        table.shared.load::<Settle>(&mut seat, NOTES);
         Closed { table, seat }
     }
 
@@ -196,8 +199,10 @@ impl Edge {
         ensures allowed { IsAllowed (site_count self.now.registers) register result }
         ensures pass { pass.new ≡ with_lists pass.old (after_access (Read register result) pass.old.lists) }
     {
-        let word = register as usize + FIRST_REGISTER;
-        self.table.shared.load::<Look>(&mut pass.seat, word)
+        let table = &self.table.shared;
+        let value = pass.seat.slot_mut(table, REGISTERS).get(register);
+        note_access::<Brand>(table, &mut pass.seat, register, value);
+        value
     }
 
     /// Changes a register.
@@ -208,10 +213,9 @@ impl Edge {
         requires allowed { IsAllowed (site_count self.now.registers) register value }
         ensures { pass.new ≡ with_lists pass.old (after_access (Write register value) pass.old.lists) }
     {
-        let word = register as usize + FIRST_REGISTER;
-        self.table
-            .shared
-            .store::<Change>(&mut pass.seat, word, value);
+        let table = &self.table.shared;
+        pass.seat.slot_mut(table, REGISTERS).set(register, value);
+        note_access::<Brand>(table, &mut pass.seat, register, value);
     }
 
     /// Gives the edge back.

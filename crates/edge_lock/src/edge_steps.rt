@@ -1,8 +1,17 @@
-//! The atomic steps on the words of a shared edge: what a seat knows, the rule that all steps keep,
+//! The atomic steps on the table of a shared edge: what a seat knows, the rule that all steps keep,
 //! and what each kind of step reveals to the end that makes it.
-use crate::history::{Hold, Refusal};
-use atomic_table::{Join, Play, Split, TableRule};
+//!
+//! The table has one slot, with the registers. It is out with the seat of the end that has the
+//! edge, which reads and writes it as plain memory. A load of a word that never changes tells the
+//! rule of each read and write.
+ghost use Rattle.std.specs.Prelude.{◌≡◌};
+ghost use Rattle.edge_lock.specs.SharedRule.{HasEdge, CanNote, IsNoted, now_in};
+
+use crate::history::{Access, Hold, Refusal};
+use crate::registers::Registers;
+use atomic_table::{Join, Play, Seat, Shared, Split, TableRule};
 use std::collections::LinkedList;
+use std::marker::{Brand, PhantomData};
 
 /// The word that says who has the edge.
 pub(crate) const LOCK: usize = 1;
@@ -10,8 +19,18 @@ pub(crate) const LOCK: usize = 1;
 /// The word that counts the ends that are claimed.
 pub(crate) const CLAIMS: usize = 2;
 
-/// The word of register 0.
+/// The word of register 0 of a plain edge.
 pub(crate) const FIRST_REGISTER: usize = 3;
+
+/// The word that is loaded at each read and write of a register. It is never written, and lies
+/// more than 64 bytes behind the lock word, so that a try of the other end leaves it in the cache.
+pub(crate) const NOTES: usize = 10;
+
+/// How many words the table of a shared edge has.
+pub(crate) const WORDS: usize = 11;
+
+/// The slot with the registers.
+pub(crate) const REGISTERS: usize = 0;
 
 /// What a seat at an edge's table knows. Up to the join it begins with the number of registers.
 /// No value of it is made.
@@ -22,12 +41,13 @@ pub enum View {
     Alone(u32),
     /// The other seat, beside end 0, with no end yet.
     Second(u32),
-    /// One of two seats: its end, its holds and its refusals.
-    Paired(u32, u64, LinkedList<Hold>, LinkedList<Refusal>),
+    /// One of two seats: its end, its holds and its refusals, and what the registers have, which
+    /// holds good only while the end has the edge.
+    Paired(u32, u64, LinkedList<Hold>, LinkedList<Refusal>, LinkedList<u64>),
     /// The holds and refusals of both ends, as they were joined.
     Joined(u32, LinkedList<Hold>, LinkedList<Refusal>, LinkedList<Hold>, LinkedList<Refusal>),
-    /// The one history of both ends, with the refusals of each.
-    Settled(LinkedList<Hold>, LinkedList<Refusal>, LinkedList<Refusal>),
+    /// The one history of both ends, with the refusals of each, and what the registers have.
+    Settled(LinkedList<Hold>, LinkedList<Refusal>, LinkedList<Refusal>, LinkedList<u64>),
     /// The seat that a join has spent.
     Spent,
 }
@@ -35,7 +55,7 @@ pub enum View {
 /// The rule of an edge's table. Its key is the number of registers.
 pub struct EdgeRule;
 
-impl TableRule<(), View, u32> for EdgeRule {
+impl TableRule<Registers, View, u32> for EdgeRule {
     ghost use Rattle.edge_lock.specs.SharedRule.{IsShared};
     ghost use Rattle.edge_lock.specs.declared.edge_steps.View.TheVariants.{First};
 
@@ -47,43 +67,64 @@ impl TableRule<(), View, u32> for EdgeRule {
 /// An end is claimed.
 pub struct Claim;
 
-impl Play<(), View> for Claim {
+impl Play<Registers, View> for Claim {
     ghost use Rattle.edge_lock.specs.SharedRule.{Claims};
 
     ghost then = { Claims };
 }
 
-/// The exchange of a try, won or lost.
+/// The exchange of a try, won or lost. Who wins takes the registers.
 pub struct Try;
 
-impl Play<(), View> for Try {
+impl Play<Registers, View> for Try {
     ghost use Rattle.edge_lock.specs.SharedRule.{Tries};
 
     ghost then = { Tries };
 }
 
-/// The load of a register in a hold.
-pub struct Look;
+/// A read or write of a register, as a proof says it.
+pub trait Said {
+    ghost use Rattle.edge_lock.specs.declared.history.Access.{Access};
 
-impl Play<(), View> for Look {
-    ghost use Rattle.edge_lock.specs.SharedRule.{Reads};
-
-    ghost then = { Reads };
+    ghost access: { Access };
 }
 
-/// The store to a register in a hold.
-pub struct Change;
+impl Said for Brand {
+    ghost use Rattle.edge_lock.specs.declared.history.Access.TheVariants.{Read};
 
-impl Play<(), View> for Change {
-    ghost use Rattle.edge_lock.specs.SharedRule.{Writes};
-
-    ghost then = { Writes };
+    ghost access = { Read 0 0 };
 }
 
-/// The store that ends a hold.
+/// The load at a read or write of a register in a hold.
+pub struct Note<B> {
+    marker: PhantomData<B>,
+}
+
+impl<B: Said> Play<Registers, View> for Note<B> {
+    ghost then = { λ step me word next. IsNoted B.access me next };
+}
+
+/// Tells the rule that the end read or wrote a register, by a load that gives nothing.
+#[inline]
+pub(crate) fn note_access<B: Said>(
+    table: &Shared<Registers, View, u32, EdgeRule>,
+    seat: &mut Seat<Registers, View>,
+    _register: u32,
+    _value: u64,
+)
+    requires table { (seat.old.table_id ≡ table.now.table_id) × (table.now.table_id.words ≡ 11) }
+    requires held { HasEdge table.now.key seat.old.me.0 }
+    requires can { CanNote table.now.key (now_in seat.old.me.0) B.access }
+    ensures table { seat.new.table_id ≡ seat.old.table_id }
+    ensures noted { IsNoted B.access seat.old.me seat.new.me }
+{
+    table.load::<Note<B>>(seat, NOTES);
+}
+
+/// The store that ends a hold and puts the registers back.
 pub struct Give;
 
-impl Play<(), View> for Give {
+impl Play<Registers, View> for Give {
     ghost use Rattle.edge_lock.specs.SharedRule.{GivesBack};
 
     ghost then = { GivesBack };
@@ -109,20 +150,11 @@ impl Join<View> for Ends {
     ghost spent = { Spent };
 }
 
-/// The first load after the join.
+/// The first load after the join, which takes the registers.
 pub struct Settle;
 
-impl Play<(), View> for Settle {
+impl Play<Registers, View> for Settle {
     ghost use Rattle.edge_lock.specs.SharedRule.{Settles};
 
     ghost then = { Settles };
-}
-
-/// A later load of a closed edge's register.
-pub struct Tell;
-
-impl Play<(), View> for Tell {
-    ghost use Rattle.edge_lock.specs.SharedRule.{Tells};
-
-    ghost then = { Tells };
 }

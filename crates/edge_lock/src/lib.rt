@@ -16,6 +16,7 @@ mod history;
 mod plain_board;
 mod plain_edge;
 mod plain_steps;
+mod registers;
 mod shared_end;
 
 pub use board::{Board, Take};
