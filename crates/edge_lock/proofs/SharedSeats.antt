@@ -13,7 +13,7 @@ use Rattle.edge_lock.specs.declared.edge_steps.View.{View}
 use Rattle.edge_lock.specs.declared.edge_steps.View.TheVariants.{First, Alone, Second, Paired, Joined, Settled, Spent}
 use Rattle.std.specs.Prelude.{All}
 use Rattle.edge_lock.specs.EndLists.{EndLists, is_last_open, IsFree}
-use Rattle.edge_lock.specs.Passes.{closed_value, holds_in, low_in, high_in, KeepsHistory, IsPaired, IsClosed}
+use Rattle.edge_lock.specs.Passes.{closed_value, holds_in, low_in, high_in, IsPaired, IsClosed}
 use Rattle.edge_lock.proofs.LastHolds.{ends_open, is_held-snoc, keys-snoc, none_or_held}
 use Rattle.edge_lock.specs.History.{own, register_value, ReadsTrue, open_hold, key, keys, NamesHold, IsEnd, IsAllowedAccess, IsSide, IsHistory}
 use Rattle.edge_lock.specs.SharedRule.{claims_of, claims, AreNow, IsAtHome, Stage, apart, together, done, IsPart, IsShared, Claims, lists_in, now_in, slots_of, both_of, IsWhole, BecomesWhole, Settles, low_view, high_view}
@@ -258,21 +258,12 @@ module _ (size : ℕ) (low high : M) (are : AreBoth size low high) where
     settles_as slots id = subst (λ m. Allows (IsShared size) slots id m 10 (λ n. n) (Settles (step slots 10 0 0 none) m)) (sym joined_view)
         (settles size (lists_in low.0).holds (lists_in high.0).holds (lists_in low.0).refusals (lists_in high.0).refusals are.free are.free' slots id)
 
-    module _ (next : M) (becomes : BecomesWhole me.0 next.0) where
-      whole : IsWhole size (lists_in low.0) (lists_in high.0) next.0
-      whole = subst (λ (m : M). BecomesWhole m.0 next.0) joined_view becomes
-
-      pub closes : IsClosed (closed_value size next.0) (lists_in low.0) (lists_in high.0)
-      closes = let w = whole in let history = w.both.history in subst (λ x. IsClosed (closed_value size x) (lists_in low.0) (lists_in high.0)) (sym w.is) record {
-        both = w.both;
-        low = refl;
-        high = refl;
-        shut = all_given w.all (lists_in low.0).holds (lists_in high.0).holds history.holds w.both.lower w.both.higher are.free are.free';
-      }
-
-      pub keeps_history : next.1 ≡ slots_of next.0 → KeepsHistory size next
-      keeps_history out = let w = whole in record {
-        view = subst (λ x. x ≡ Settled (holds_in x) (low_in x) (high_in x) (now_in x)) (sym w.is) refl;
-        slots = out;
-        are = subst (λ x. AreNow size (holds_in x) (now_in x)) (sym w.is) w.are;
-      }
+    pub closes : (next : M) → BecomesWhole me.0 next.0 → IsClosed (closed_value size next.0) (lists_in low.0) (lists_in high.0)
+    closes next becomes =
+        let w : IsWhole size (lists_in low.0) (lists_in high.0) next.0 = subst (λ (m : M). BecomesWhole m.0 next.0) joined_view becomes in let history = w.both.history in
+        subst (λ x. IsClosed (closed_value size x) (lists_in low.0) (lists_in high.0)) (sym w.is) record {
+          both = w.both;
+          low = refl;
+          high = refl;
+          shut = all_given w.all (lists_in low.0).holds (lists_in high.0).holds history.holds w.both.lower w.both.higher are.free are.free';
+        }
