@@ -5,10 +5,9 @@ use Rattle.atomic_table.specs.Table.{Step, rest}
 use Rattle.edge_lock.specs.declared.history.Access.{Access}
 use Rattle.edge_lock.specs.declared.history.Hold.{Hold}
 use Rattle.edge_lock.specs.declared.history.Refusal.{Refusal}
-use Rattle.edge_lock.specs.declared.edge_steps.View.{View}
 use Rattle.edge_lock.specs.declared.edge_steps.View.TheVariants.{Paired}
 use Rattle.edge_lock.specs.declared.history.Access.TheVariants.{Read, Write}
-use Rattle.edge_lock.specs.EndLists.{EndLists, IsHeld, IsFree, with_access, closed_hold}
+use Rattle.edge_lock.specs.EndLists.{IsHeld, IsFree, with_access, closed_hold}
 use Rattle.edge_lock.specs.Passes.{EdgeValue, PassValue, edge_value, pass_value, IsPaired}
 use Rattle.edge_lock.specs.SharedRule.{lists_in, registers_in, now_in, slots_of, attempt_in, view_after_try, view_after_change, now_after, Tries, IsNoted}
 use Rattle.edge_lock.proofs.BoardLaws.{held_accessed, free_given}

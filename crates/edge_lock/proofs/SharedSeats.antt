@@ -1,5 +1,5 @@
 -- How the two passes of an edge come to be, and how they are put together again.
-use Rattle.std.proofs.Common.{◌≡◌, ◌≢◌, ◌⊎◌, ℕ, zero, suc, ◌+◌, ◌-◌, ◌*◌, ◌%◌, ◌^◌, ◌<◌, ◌≤◌, true, false, cond, true≢false, List, [], ◌∷◌, ◌++◌, length, get_or, set, replicate, refl, sym, ap, ◌∙◌, subst, inl, inr, ⊎_elim, arith, length-set, length-append, get_or-set_same, get_or-set_other, Some, None}
+use Rattle.std.proofs.Common.{◌≡◌, ◌≢◌, ◌⊎◌, ℕ, zero, suc, ◌+◌, ◌*◌, ◌%◌, ◌^◌, ◌<◌, ◌≤◌, true, false, cond, true≢false, List, [], ◌∷◌, ◌++◌, length, get_or, set, replicate, refl, sym, ap, ◌∙◌, subst, inl, inr, ⊎_elim, arith, length-set, length-append, get_or-set_same, get_or-set_other, Some, None}
 use Rattle.std.proofs.lemmas.List.{set-get_or, get_or-replicate, length-replicate}
 use mathlib.Core.Logic.{dite}
 use mathlib.Core.Option.{none, some, some-injective, some-ne-none}
@@ -12,11 +12,11 @@ use Rattle.edge_lock.specs.declared.history.Refusal.{Refusal}
 use Rattle.edge_lock.specs.declared.edge_steps.View.{View}
 use Rattle.edge_lock.specs.declared.edge_steps.View.TheVariants.{First, Alone, Second, Paired, Joined, Settled, Spent}
 use Rattle.std.specs.Prelude.{All}
-use Rattle.edge_lock.specs.EndLists.{EndLists, is_last_open, IsFree}
-use Rattle.edge_lock.specs.Passes.{closed_value, holds_in, low_in, high_in, IsPaired, IsClosed}
+use Rattle.edge_lock.specs.EndLists.{is_last_open, IsFree}
+use Rattle.edge_lock.specs.Passes.{closed_value, IsPaired, IsClosed}
 use Rattle.edge_lock.proofs.LastHolds.{ends_open, is_held-snoc, keys-snoc, none_or_held}
-use Rattle.edge_lock.specs.History.{own, register_value, ReadsTrue, open_hold, key, keys, NamesHold, IsEnd, IsAllowedAccess, IsSide, IsHistory}
-use Rattle.edge_lock.specs.SharedRule.{claims_of, claims, AreNow, IsAtHome, Stage, apart, together, done, IsPart, IsShared, Claims, lists_in, now_in, slots_of, both_of, IsWhole, BecomesWhole, Settles, low_view, high_view}
+use Rattle.edge_lock.specs.History.{own, ReadsTrue, open_hold, key, keys, NamesHold, IsEnd, IsAllowedAccess, IsSide, IsHistory}
+use Rattle.edge_lock.specs.SharedRule.{claims_of, claims, IsAtHome, apart, together, done, IsPart, IsShared, Claims, lists_in, now_in, slots_of, both_of, IsWhole, BecomesWhole, Settles, low_view, high_view}
 use Rattle.edge_lock.proofs.HistorySteps.{all-none, all-last, own-here}
 use Rattle.edge_lock.proofs.SharedSteps.{S, M}
 

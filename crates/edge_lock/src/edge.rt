@@ -9,7 +9,8 @@ ghost use Rattle.feast_base.specs.declared.limits.TheConstants.{MOST_ATTEMPTS};
 
 use crate::board::Take;
 use crate::edge_steps::{
-    CLAIMS, Claim, EdgeRule, Ends, Give, LOCK, NOTES, REGISTERS, Settle, Try, View, WORDS, note_access,
+    CLAIMS, Claim, EdgeRule, Ends, Give, LOCK, NOTES, REGISTERS, Settle, Try, View, WORDS,
+    note_access,
 };
 use crate::registers::Registers;
 use atomic_table::{Refused, Seat, Table};
@@ -191,6 +192,7 @@ impl Edge {
     }
 
     /// What a register has.
+    #[inline]
     pub(crate) fn read(&self, pass: &mut Pass, register: u32) -> u64
         requires edge { pass.old.of ≡ self.now }
         requires register { register < self.now.registers }
@@ -206,6 +208,7 @@ impl Edge {
     }
 
     /// Changes a register.
+    #[inline]
     pub(crate) fn write(&self, pass: &mut Pass, register: u32, value: u64)
         requires edge { pass.old.of ≡ self.now }
         requires register { register < self.now.registers }
@@ -219,6 +222,7 @@ impl Edge {
     }
 
     /// Gives the edge back.
+    #[inline]
     pub(crate) fn give(&self, pass: &mut Pass)
         requires edge { pass.old.of ≡ self.now }
         requires held { IsHeld pass.old.lists }
