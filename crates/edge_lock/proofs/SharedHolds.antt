@@ -18,7 +18,8 @@ use Rattle.edge_lock.specs.declared.edge_steps.View.TheVariants.{Paired}
 use Rattle.edge_lock.specs.History.{own, trace, last_value, register_value, ReadsTrue, IsAllowed, IsAllowedAccess, OnlyLastOpen, open_hold, key, keys, site_count, IsSide, IsHistory}
 use Rattle.edge_lock.specs.EndLists.{end_lists, is_last_open, change_last, with_access, closed_hold, last_accesses, last_shown, Shows, known_value, IsHeld}
 use Rattle.edge_lock.specs.Passes.{IsPaired}
-use Rattle.edge_lock.specs.SharedRule.{lock_word, AreNow, IsAtHome, IsPart, IsShared, lists_in, now_in, slots_of, now_after, HasEdge, CanNote, IsShown, IsNoted, GivesBack}
+use Rattle.edge_lock.specs.RegistersNow.{AreNow}
+use Rattle.edge_lock.specs.SharedRule.{lock_word, IsAtHome, IsPart, IsShared, lists_in, now_in, slots_of, now_after, HasEdge, CanNote, IsShown, IsNoted, GivesBack}
 use Rattle.edge_lock.proofs.LastHolds.{open_hold-snoc, ends_open, change_last-snoc, last_accesses-snoc, none_or_held, trace-snoc, written-append}
 use Rattle.edge_lock.proofs.HistorySteps.{all-cons, all-none, all-tail, all-head, history_accesses, history_ends, keys-change, register_value-read, register_value-write, register_value-ended, own-here, own-there}
 use Rattle.edge_lock.proofs.SharedSteps.{S, M, GoesOn, moved}

@@ -15,7 +15,8 @@ use Rattle.edge_lock.specs.declared.edge_steps.View.TheVariants.{First, Alone, S
 use Rattle.edge_lock.specs.History.{own, open_hold, key, keys, site_count, IsEnd, IsSide, IsHistory}
 use Rattle.edge_lock.specs.EndLists.{new_hold, refusal_of, is_last_open, IsHoldBelow, IsRefusalBelow, IsFree, IsNew}
 use Rattle.edge_lock.specs.Passes.{IsPaired}
-use Rattle.edge_lock.specs.SharedRule.{lock_word, attempt_in, claims_of, claims, AreNow, IsAtHome, apart, done, IsPart, IsShared, lists_in, now_in, slots_of, view_after_try, Tries}
+use Rattle.edge_lock.specs.RegistersNow.{AreNow}
+use Rattle.edge_lock.specs.SharedRule.{lock_word, attempt_in, claims_of, claims, IsAtHome, apart, done, IsPart, IsShared, lists_in, now_in, slots_of, view_after_try, Tries}
 use Rattle.edge_lock.proofs.LastHolds.{open_hold-snoc, ends_open, is_held-snoc, keys-snoc, none_or_held}
 use Rattle.edge_lock.proofs.HistorySteps.{all-last, own_below, side_takes, side_stays, side_refuses, history_takes, register_value-opened, own-here, own-there}
 

@@ -8,7 +8,8 @@ use Rattle.edge_lock.specs.declared.edge_steps.View.{View}
 use Rattle.edge_lock.specs.declared.edge_steps.View.TheVariants.{Paired, Settled}
 use Rattle.edge_lock.specs.History.{site_count, open_hold}
 use Rattle.edge_lock.specs.EndLists.{EndLists, end_lists}
-use Rattle.edge_lock.specs.SharedRule.{lists_in, now_in, slots_of, AreNow, IsBoth}
+use Rattle.edge_lock.specs.RegistersNow.{AreNow}
+use Rattle.edge_lock.specs.SharedRule.{lists_in, now_in, slots_of, IsBoth}
 
 -- an edge: its table, its number and how many registers it has
 pub record EdgeValue : Type 0 where

@@ -11,7 +11,8 @@ use Rattle.edge_lock.specs.declared.history.Access.TheVariants.{Read, Write}
 use Rattle.edge_lock.specs.declared.history.Hold.{Hold}
 use Rattle.edge_lock.specs.declared.edge_steps.View.{View}
 use Rattle.edge_lock.specs.declared.edge_steps.View.TheVariants.{First, Alone, Second, Paired, Joined, Settled, Spent}
-use Rattle.edge_lock.specs.History.{own, register_value, open_hold, keys, site_count, IsAllowed, IsHistory, IsSide, IsEdgeHistory}
+use Rattle.edge_lock.specs.History.{own, open_hold, keys, site_count, IsAllowed, IsHistory, IsSide, IsEdgeHistory}
+use Rattle.edge_lock.specs.RegistersNow.{AreNow}
 use Rattle.edge_lock.specs.EndLists.{EndLists, end_lists, new_hold, refusal_of, with_access, closed_hold, change_last, is_last_open, known_value, IsHeld, Shows}
 
 -- the lock word: 0 if nobody has the edge, otherwise the attempt and the end that have it
@@ -36,11 +37,6 @@ claims_of Spent = 0
 abbrev pub claims : List View → ℕ
 claims [] = 0
 claims (view ∷ views) = claims_of view + claims views
-
--- these are the values of this many registers after these holds
-pub record AreNow (count : ℕ) (holds : List Hold) (now : List ℕ) : Type 0 where
-  pub long : length now ≡ count
-  pub values : (register : ℕ) → register < count → slice_index now register ≡ register_value holds register
 
 -- the slot is at home, with the values of this many registers after these holds
 pub record IsAtHome (count : ℕ) (holds : List Hold) (homes : List (mathlib.Core.Option.Option (List ℕ))) : Type 0 where

@@ -102,7 +102,7 @@ impl Edge {
     /// end 0. Its registers are the clock, two for each site and the news words of both ends, all
     /// of them 0.
     ///
-    /// `NoMemory` if there was no memory for the words.
+    /// `NoMemory` if there was no memory for the words or the registers.
     pub fn new(alloc: Global, edge: u32, sites: u32) -> Result<(Edge, Pass, Pass), NoMemory>
         requires fits { registers_of sites < 2 ^ 32 }
         ensures edge { IfOk result (λ r. (r.0.number ≡ edge) × (r.0.registers ≡ registers_of sites)) }

@@ -7,20 +7,17 @@
 ghost use Rattle.std.specs.Prelude.{◌≡◌};
 ghost use Rattle.edge_lock.specs.SharedRule.{HasEdge, CanNote, IsNoted, now_in};
 
-use crate::history::{Access, Hold, Refusal};
+use crate::history::{Hold, Refusal, Said};
 use crate::registers::Registers;
 use atomic_table::{Join, Play, Seat, Shared, Split, TableRule};
 use std::collections::LinkedList;
-use std::marker::{Brand, PhantomData};
+use std::marker::PhantomData;
 
 /// The word that says who has the edge.
 pub(crate) const LOCK: usize = 1;
 
 /// The word that counts the ends that are claimed.
 pub(crate) const CLAIMS: usize = 2;
-
-/// The word of register 0 of a plain edge.
-pub(crate) const FIRST_REGISTER: usize = 3;
 
 /// The word that is loaded at each read and write of a register. It is never written, and lies
 /// more than 64 bytes behind the lock word, so that a try of the other end leaves it in the cache.
@@ -80,19 +77,6 @@ impl Play<Registers, View> for Try {
     ghost use Rattle.edge_lock.specs.SharedRule.{Tries};
 
     ghost then = { Tries };
-}
-
-/// A read or write of a register, as a proof says it.
-pub trait Said {
-    ghost use Rattle.edge_lock.specs.declared.history.Access.{Access};
-
-    ghost access: { Access };
-}
-
-impl Said for Brand {
-    ghost use Rattle.edge_lock.specs.declared.history.Access.TheVariants.{Read};
-
-    ghost access = { Read 0 0 };
 }
 
 /// The load at a read or write of a register in a hold.

@@ -1,6 +1,7 @@
 //! What the history of one edge is made of. Contracts use these types as lists and records; no
 //! running code makes a value of them.
 use std::collections::LinkedList;
+use std::marker::Brand;
 
 /// One read or write of a register in a hold: the register's number and the value.
 pub enum Access {
@@ -28,4 +29,17 @@ pub struct Refusal {
     pub attempt: u64,
     /// The attempt of the other end's tile that had the edge.
     pub holder: u64,
+}
+
+/// A read or write of a register in plain memory, as a proof says it to the history. No code has it.
+pub trait Said {
+    ghost use Rattle.edge_lock.specs.declared.history.Access.{Access};
+
+    ghost access: { Access };
+}
+
+impl Said for Brand {
+    ghost use Rattle.edge_lock.specs.declared.history.Access.TheVariants.{Read};
+
+    ghost access = { Read 0 0 };
 }

@@ -4,11 +4,11 @@ ghost use Rattle.std.specs.Prelude.{◌≡◌, []};
 ghost use Rattle.edge_lock.specs.EndLists.{with_access};
 ghost use Rattle.edge_lock.specs.PlainEdges.{IsKept, MayNote, plain_view_after_change};
 
-use crate::history::{Hold, Refusal};
+use crate::history::{Hold, Refusal, Said};
 use atomic_table::{Play, Seat, Table, TableRule};
 use std::alloc::Global;
 use std::collections::LinkedList;
-use std::marker::{Brand, PhantomData};
+use std::marker::PhantomData;
 
 /// How many words the table has: the base's own, the lock and the notes.
 pub(crate) const WORDS: usize = 3;
@@ -57,19 +57,6 @@ impl Play<(), PlainView> for PlainGive {
     ghost use Rattle.edge_lock.specs.PlainEdges.{PlainGives};
 
     ghost then = { PlainGives };
-}
-
-/// One read or write of a register, as a note puts it into the history.
-pub trait Said {
-    ghost use Rattle.edge_lock.specs.declared.history.Access.{Access};
-
-    ghost access: { Access };
-}
-
-impl Said for Brand {
-    ghost use Rattle.edge_lock.specs.declared.history.Access.TheVariants.{Read};
-
-    ghost access = { Read 0 0 };
 }
 
 /// The load that adds an access to the open hold.
