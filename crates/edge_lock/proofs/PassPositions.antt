@@ -42,18 +42,6 @@ position_inside (x ∷ ps) e some = go (eqb x.of.number e) some (position_inside
     go true some f = omega arith
     go false some f = omega (arith, f some)
 
--- positions tell of the edges of passes alone
-pub position_kept : (ps qs : List PassValue) (e : ℕ) → map edge_and_end qs ≡ map edge_and_end ps → pass_position qs e ≡ pass_position ps e
-position_kept ps qs e same = by_edges qs ∙ (ap first same ∙ sym (by_edges ps))
-  where
-    first : List EdgeAndEnd → ℕ
-    first [] = 0
-    first (x ∷ xs) = cond (eqb x.of.number e) 0 (suc (first xs))
-
-    by_edges : (ps : List PassValue) → pass_position ps e ≡ first (map edge_and_end ps)
-    by_edges [] = refl
-    by_edges (x ∷ ps) = ap (λ k. cond (eqb x.of.number e) 0 (suc k)) (by_edges ps)
-
 -- what stands at the position of the pass of an edge
 pub record Stood (ps : List PassValue) (e : ℕ) (p : PassValue) : Type 0 where
   pub number : p.of.number ≡ e
@@ -181,11 +169,6 @@ acts es ps ns tile v e i seen all same is inside =
       };
     }
 
--- the same where the end is seen as u, which is v
-pub acts_at : (es : List EdgeValue) (ps : List PassValue) (tile : ℕ) (u v : SharedEndValue) (e i : ℕ) → shared_end_value tile ps ≡ u → u ≡ v → All (IsPassOf es) ps → i ≡ pass_position v.passes e → i < length v.passes → Acts es ps tile v e i
-acts_at es ps tile u v e i seen same all is inside = acts es ps v.passes tile v e i (seen ∙ same) all (sym (ap (λ (y : SharedEndValue). y.passes) (seen ∙ same))) is inside
-
--- the place that is kept stays the place of its edge
-pub place_stays : (ps qs : List PassValue) (tile : ℕ) (u v : SharedEndValue) (e recent place : ℕ) (f : EndLists → EndLists) → shared_end_value tile ps ≡ u → u ≡ v → Acted v e f (shared_end_value tile qs) → place ≡ pass_position ps recent → place ≡ pass_position qs recent
-place_stays ps qs tile u v e recent place f seen same d is =
-    is ∙ (ap (λ (y : SharedEndValue). pass_position y.passes recent) (seen ∙ same) ∙ sym (position_kept v.passes qs recent d.moved.passes))
+-- the same, with the place as the passes that are seen tell it
+pub acts_at : (es : List EdgeValue) (ps : List PassValue) (tile : ℕ) (v : SharedEndValue) (e i : ℕ) → shared_end_value tile ps ≡ v → All (IsPassOf es) ps → i ≡ pass_position v.passes e → i < length v.passes → Acts es ps tile v e i
+acts_at es ps tile v e i seen all is inside = acts es ps v.passes tile v e i seen all (sym (ap (λ (y : SharedEndValue). y.passes) seen)) is inside

@@ -6,9 +6,6 @@ use crate::board::{Board, Take};
 use crate::edge::{Edge, Pass};
 use std::marker::Model;
 
-/// How many idle words keep what two processors change apart: two lines of their caches.
-const IDLE: usize = 16;
-
 /// One tile's end of its shared edges: the edges of the plane, and the tile's own passes.
 /// Contracts see the tile and the passes.
 ///
@@ -16,29 +13,24 @@ const IDLE: usize = 16;
 /// attempt. The pass keeps it as a refusal. When the edge is closed, that hold is in the history of
 /// the other end.
 ///
-/// The edge that was used last is kept with the position of its pass: an event reads and writes one
-/// edge many times in a row. Idle words lie behind them, since what is next in memory may be another
-/// thread's (workers lie side by side in a list): otherwise the processors would take the same lines of
-/// memory from each other all the time.
+/// Only a try looks a pass up while the program runs, for its end. What reads, writes and gives edges
+/// back does so in the code alone: the pass says what the end did, and nothing of that is kept.
 #[derive(Drop)]
 pub struct SharedEnd<'a> {
     edges: &'a [Edge],
     passes: Vec<Pass>,
     tile: u32,
-    recent: u32,
-    recent_position: usize,
-    idle: [u64; IDLE],
 }
 
 impl<'a> Model for SharedEnd<'a> {
-    ghost use Rattle.std.specs.Prelude.{◌≡◌, All};
-    ghost use Rattle.edge_lock.specs.SharedEnds.{SharedEndValue, shared_end_value, IsPassOf, pass_position};
+    ghost use Rattle.std.specs.Prelude.{All};
+    ghost use Rattle.edge_lock.specs.SharedEnds.{SharedEndValue, shared_end_value, IsPassOf};
 
     ghost Value = { SharedEndValue };
 
     ghost view = { λ s. shared_end_value s.tile s.passes.items };
 
-    ghost invariant = { λ s. All (IsPassOf s.edges.now) s.passes.items × (s.recent_position ≡ pass_position s.passes.items s.recent) };
+    ghost invariant = { λ s. All (IsPassOf s.edges.now) s.passes.items };
 }
 
 /// The position of the pass of an edge, or the number of passes if none has it. A tile has at most
@@ -62,34 +54,22 @@ impl<'a> SharedEnd<'a> {
         ensures tile { result.tile ≡ tile }
         ensures passes { result.passes ≡ passes.items }
     {
-        // No edge was used yet: edge 0 stands for it, wherever its pass is.
-        let recent_position = pass_position(passes.as_slice(), 0);
         SharedEnd {
             edges,
             passes,
             tile,
-            recent: 0,
-            recent_position,
-            idle: [0; IDLE],
         }
     }
 
-    /// The position of the pass of an edge, which is looked for only if another edge was used last.
+    /// The position of the pass of an edge.
     #[inline]
     #[tactic(auto, using(crate::proofs::PassPositions::position_inside))]
-    fn position(&mut self, edge: u32) -> usize
-        requires { 0 < pass_registers self.old.passes edge }
-        ensures same { self.new ≡ self.old }
-        ensures is { result ≡ pass_position self.old.passes edge }
-        ensures inside { result < length self.old.passes }
+    fn position(&self, edge: u32) -> usize
+        requires { 0 < pass_registers self.now.passes edge }
+        ensures is { result ≡ pass_position self.now.passes edge }
+        ensures inside { result < length self.now.passes }
     {
-        if self.recent == edge {
-            return self.recent_position;
-        }
-        let position = pass_position(self.passes.as_slice(), edge);
-        self.recent = edge;
-        self.recent_position = position;
-        position
+        pass_position(self.passes.as_slice(), edge)
     }
 
     /// Hands the passes back, in the same order.
@@ -100,9 +80,6 @@ impl<'a> SharedEnd<'a> {
             edges: _,
             passes,
             tile: _,
-            recent: _,
-            recent_position: _,
-            idle: _,
         } = self;
         passes
     }
