@@ -1,15 +1,13 @@
 -- Rows of what a tile reaches that are stamped one by one.
-use Rattle.std.proofs.Common.{◌≡◌, ℕ, ◌+◌, ◌-◌, ◌*◌, ◌/◌, ◌%◌, ◌<◌, ◌≤◌, ◌⊎◌, inl, inr, ⊎_elim, true, false, true≢false, List, length, refl, sym, ap, ◌∙◌, subst, arith, min, Some, None, Option, lt-ltb}
-use Rattle.std.specs.Prelude.{slice_index, slice_index_or}
+use Rattle.std.proofs.Common.{◌≡◌, ℕ, ◌+◌, ◌-◌, ◌*◌, ◌/◌, ◌%◌, ◌<◌, ◌≤◌, inl, inr, ⊎_elim, true, true≢false, List, length, refl, sym, ap, ◌∙◌, subst, arith, Some}
+use Rattle.std.specs.Prelude.{slice_index_or}
 use Rattle.list_laws.proofs.Numbers.{less_or_same}
 use Rattle.list_laws.proofs.Tests.{together}
 use Rattle.bit_field.specs.Atom.{AtomValue, empty_atom}
-use Rattle.tile_map.specs.declared.span.Area.{Area}
 use Rattle.tile_map.specs.Plane.{Site, MapValue, IsMap, site, tiles_of, is_whole, is_live, is_held, in_window}
 use Rattle.tile_map.specs.Spans.{low, high, left_of, right_of, top_of, bottom_of}
-use Rattle.tile_map.specs.Tables.{reach_of, sites_in, IsSmall}
+use Rattle.tile_map.specs.Tables.{reach_of, sites_in}
 use Rattle.tile_map.specs.Edges.{window_site}
-use Rattle.tile_map.specs.declared.limits.TheConstants.{MOST_REACH}
 use Rattle.tile_map.proofs.Spans.{times_more, le_test, held_span, held_parts, held_whole, reached_inside, plane_test}
 use Rattle.tile_map.proofs.Near.{window_site-near, window_apart}
 use Rattle.tile_map.proofs.Numbers.{size_low}
@@ -21,7 +19,7 @@ use Rattle.border_cache.specs.Cells.{CellValue, cell_value, paired_cells}
 use Rattle.border_cache.specs.News.{no_cell}
 use Rattle.border_cache.specs.Rows.{StampsRun, StampsCells}
 use Rattle.border_cache.specs.Windows.{IsNear, IsRunOf}
-use Rattle.border_cache.specs.Copies.{CacheValue, cache_of, columns_of, rows_of, place_held, held_cell, cell_for, window_cells, HoldsWindow, Stamped}
+use Rattle.border_cache.specs.Copies.{CacheValue, cache_of, columns_of, rows_of, place_held, held_cell, cell_for, HoldsWindow, Stamped}
 use Rattle.border_cache.specs.BorderRows.{reach, kept_at, StampsRow, StampsRows}
 use Rattle.border_cache.proofs.Planes.{length-cells, cell_in_both}
 use Rattle.border_cache.proofs.InnerPlaces.{in_or_out}
@@ -115,10 +113,23 @@ rows_next c j stamp old mid new r s = record {
     here = λ i. reach_of (r.map i) (r.tile i)
 
 -- a site that the tile reaches is live and held where no tile is off
-reached : (m : MapValue) (t : ℕ) (c : Site) (k u w : ℕ) → IsMap m → is_whole m ≡ true → IsNear (reach_of m t) c k u w → is_live m (site u w) ≡ true
+pub reached : (m : MapValue) (t : ℕ) (c : Site) (k u w : ℕ) → IsMap m → is_whole m ≡ true → IsNear (reach_of m t) c k u w → is_live m (site u w) ≡ true
 reached m t c k u w valid whole n =
     let plane = plane_test m u w (omega (arith, n.east)) (omega (arith, n.south)) in
     together _ _ plane (whole_on m valid whole (site u w) plane)
+
+-- a live site of a window is near, where the tile holds it
+pub window_near : (m : MapValue) (t : ℕ) (c : Site) → HoldsWindow m t c → (n : ℕ) (s : Site) → n < 41 → window_site m c n ≡ Some s → IsNear (reach_of m t) c (place_held m t s) s.x s.y
+window_near m t c holds n s lt at =
+    let span = held_span m t s.x s.y (holds n s lt at) in
+    record {
+      west = span.1;
+      east = span.2;
+      north = span.3;
+      south = span.4;
+      place = refl;
+      close = window_apart m c s (window_site-near m c s n (omega (arith, lt)) at);
+    }
 
 -- after nine rows
 pub rows_stamped : (c : Site) (stamp : ℕ) (old new : CacheValue) → IsMap old.map → is_whole old.map ≡ true → HoldsWindow old.map old.tile c → StampsRows c 9 stamp old new → Stamped c stamp old new
@@ -135,16 +146,7 @@ rows_stamped c stamp old new valid whole holds r = record {
     here s = λ i. slice_index_or new.cells (place_held (r.map i) (r.tile i) s) no_cell
 
     near : (n : ℕ) (s : Site) → n < 41 → window_site old.map c n ≡ Some s → IsNear (reach old) c (place_held old.map old.tile s) s.x s.y
-    near n s lt at =
-        let span = held_span old.map old.tile s.x s.y (holds n s lt at) in
-        record {
-          west = span.1;
-          east = span.2;
-          north = span.3;
-          south = span.4;
-          place = refl;
-          close = window_apart old.map c s (window_site-near old.map c s n (omega (arith, lt)) at);
-        }
+    near n s lt at = window_near old.map old.tile c holds n s lt at
 
     inside : (s : Site) → is_held old.map old.tile s ≡ true → (u w : ℕ) → IsNear (reach old) c (place_held old.map old.tile s) u w → in_window old.map c s ≡ true
     inside s h u w n =

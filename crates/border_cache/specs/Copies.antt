@@ -4,7 +4,7 @@ use Rattle.edge_lock.specs.Edges.{registers_of}
 use Rattle.bit_field.specs.Atom.{AtomValue, empty_atom}
 use Rattle.window_sites.specs.Inner.{inner_place}
 use Rattle.window_sites.specs.Window.{WindowValue, atom_at}
-use Rattle.tile_map.specs.Plane.{Site, MapValue, IsMap, site, tiles_of, owner_of, is_live, is_held, in_window}
+use Rattle.tile_map.specs.Plane.{Site, MapValue, IsMap, tiles_of, owner_of, is_live, is_held, in_window}
 use Rattle.tile_map.specs.Spans.{left_of, right_of, top_of, bottom_of}
 use Rattle.tile_map.specs.Edges.{window_site, has_end}
 use Rattle.cell_grid.specs.Grid.{GridValue, site_atom}

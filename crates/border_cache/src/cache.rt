@@ -23,6 +23,7 @@ use crate::cell::Cell;
 use crate::cells::Cells;
 use crate::places::{is_whole, site_at};
 use crate::publish::publish_needs;
+use crate::reached::{mark_reached, view_reached};
 use crate::refresh::refresh_needs;
 use crate::row_runs::run_of;
 use crate::view::view_of;
@@ -135,6 +136,7 @@ impl Cache {
         map.laws();
         match self.corner(map, x, y) {
             Some(low) => self.cells.read_window(low, self.width as usize, window),
+            None if map.is_whole() => *window = view_reached(self, Centre { x, y }),
             None => *window = view_of(map, self, Centre { x, y }),
         }
     }
@@ -149,6 +151,7 @@ impl Cache {
         map.laws();
         match self.corner(map, x, y) {
             Some(low) => self.cells.mark(low, self.width as usize, window, stamp),
+            None if map.is_whole() => mark_reached(self, Centre { x, y }, window, stamp),
             None => self.mark_sites(map, Centre { x, y }, window, stamp),
         }
     }
@@ -323,7 +326,7 @@ impl Cache {
     }
 
     /// The columns and rows that the tile reaches.
-    fn reach(&self) -> Area
+    pub(crate) fn reach(&self) -> Area
         ensures value { result ≡ reach self.now }
         ensures small { IsSmall result }
     {
@@ -351,7 +354,7 @@ impl Cache {
     }
 
     /// Gives a site that the tile holds a cell.
-    fn put(&mut self, x: u32, y: u32, cell: Cell)
+    pub(crate) fn put(&mut self, x: u32, y: u32, cell: Cell)
         requires { IsTrue (is_held self.old.map self.old.tile (site x y)) }
         ensures { Puts (site x y) cell self.old self.new }
     {

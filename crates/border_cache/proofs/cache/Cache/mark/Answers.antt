@@ -1,11 +1,12 @@
 use Rattle.std.proofs.Common.{rules, ℕ, sym, subst}
 use Rattle.window_sites.specs.Window.{atom_at}
-use Rattle.tile_map.specs.Plane.{site}
+use Rattle.tile_map.specs.Plane.{IsMap, site}
 use Rattle.tile_map.specs.Laws.{IsPlane}
 use Rattle.border_cache.specs.Cells.{CellValue, cell_value}
 use Rattle.border_cache.specs.Rows.{GivesWhole}
 use Rattle.border_cache.specs.Copies.{cache_of, HoldsWindow, Stores, IsCorner}
 use Rattle.border_cache.proofs.Stored.{centre_holds}
+use Rattle.border_cache.proofs.ReachedWindows.{own_centre}
 use Rattle.border_cache.proofs.Given.{gives_stores}
 use Rattle.border_cache.proofs.cache.Cache.mark.Goals as goal
 
@@ -17,6 +18,9 @@ mark_sites-requires c = record {
     holds = centre_holds c.args.self.now.map (subst IsPlane c.requires.map c.laws.ensures.plane) c.args.self.now.tile (site c.args.x c.args.y) c.requires.centre;
   };
 }
+
+pub mark_reached-requires-clause-centre : goal.mark_reached-requires-clause-centre
+mark_reached-requires-clause-centre c = own_centre c.args.self.now (record { x = c.args.x; y = c.args.y }) (subst IsMap c.requires.map (search rules)) (subst IsPlane c.requires.map c.laws.ensures.plane) c.requires.centre
 
 pub returns-in-Some : goal.returns-in-Some
 returns-in-Some c =

@@ -1,11 +1,12 @@
 use Rattle.std.proofs.Common.{rules, sym, ap, ◌∙◌, subst}
 use Rattle.window_sites.specs.Inner.{inner_window}
-use Rattle.tile_map.specs.Plane.{site}
+use Rattle.tile_map.specs.Plane.{IsMap, site}
 use Rattle.tile_map.specs.Laws.{IsPlane}
 use Rattle.border_cache.specs.Cells.{cell_atoms}
 use Rattle.border_cache.specs.Copies.{cache_of, window_cells, IsCorner}
 use Rattle.border_cache.specs.Windows.{IsView}
 use Rattle.border_cache.proofs.Stored.{centre_holds}
+use Rattle.border_cache.proofs.ReachedWindows.{own_centre}
 use Rattle.border_cache.proofs.Given.{view_whole}
 use Rattle.border_cache.proofs.cache.Cache.read_window.Goals as goal
 
@@ -26,7 +27,5 @@ returns-in-Some c =
     let same = ap (inner_window (cell_atoms f.cells) low) (sym c.self.invariant.width_is) ∙ sym c.read_window.ensures in
     subst (λ w. IsView w.map s (window_cells w s) c.read_window.new.window) c.self.view_is (subst (IsView f.plane s (window_cells v s)) same (view_whole v s low corner))
 
-pub returns-in-None : goal.returns-in-None
-returns-in-None c =
-    let s = site c.args.x c.args.y in
-    subst (λ m. IsView m s (window_cells c.args.self.now s) c.view_of.result) c.requires.map c.view_of.ensures
+pub view_reached-requires-clause-centre : goal.view_reached-requires-clause-centre
+view_reached-requires-clause-centre c = own_centre c.args.self.now (record { x = c.args.x; y = c.args.y }) (subst IsMap c.requires.map (search rules)) (subst IsPlane c.requires.map c.laws.ensures.plane) c.requires.centre
