@@ -2,12 +2,12 @@
 use Rattle.std.proofs.Common.{◌≡◌, ◌≢◌, ℕ, ◌+◌, ◌-◌, ◌*◌, ◌/◌, ◌%◌, ◌^◌, ◌<◌, ◌≤◌, List, length, sym, ap, ◌∙◌, subst, arith, ◌⊎◌, ⊎_elim}
 use mathlib.Core.Logic.{dite}
 use native.Mathlib.Decide.{ℕ_discrete}
-use Rattle.std.specs.Prelude.{slice_index_or, slice_set, bit_or}
+use Rattle.std.specs.Prelude.{slice_index_or, slice_set, bit_and, bit_or}
 use Rattle.std.specs.Int.{bit_at}
-use Rattle.std.proofs.lemmas.Nat.Bits.{bit_at-zero, bit_at-lt, bit_at_or, bit_at_ones, bit_at_ones_above, bit_at_cat_low, bit_at_cat_high}
+use Rattle.std.proofs.lemmas.Nat.Bits.{bit_at-zero, bit_at-lt, bit_at_and, bit_at_or, bit_at_ones, bit_at_ones_above, bit_at_cat_low, bit_at_cat_high}
 use Rattle.std.proofs.lemmas.Nat.{pow_pos, shr-shr}
 use Rattle.std.proofs.lemmas.List.{get_or-set_same, get_or-set_other, length-set}
-use Rattle.border_cache.specs.News.{bit_in, SetsRun}
+use Rattle.border_cache.specs.News.{bit_in, AreClearIn, SetsRun}
 
 -- the bits of a run in word w are set
 pub record SetsIn (w start end : ℕ) (old new : List ℕ) : Type 0 where
@@ -140,3 +140,28 @@ run_in_two masks start end bits is some short lt =
     two_words start end masks (with_first masks start bits) (with_next (with_first masks start bits) start bits) some short
     (first_set masks start end bits is some (omega (arith, lt)))
     (next_set (with_first masks start bits) start end bits is some (omega (arith, lt, length-set masks (start / 64) (bit_or (slice_index_or masks (start / 64) 0) (bits * 2 ^ (start % 64) % 2 ^ 64)))))
+
+-- words that have none of the bits of a run
+clear_at : (w start end mask : ℕ) (words : List ℕ) → HasRun w start end mask → bit_and (slice_index_or words w 0) mask ≡ 0 → (k : ℕ) → k / 64 ≡ w → start ≤ k → k < end → bit_in words k ≡ 0
+clear_at w start end mask words h none k is from to =
+    let word : ℕ = slice_index_or words w 0 in
+    let one = h.hit k is from to in
+    let low = bit_at-lt word (k % 64) in
+    let zero : bit_at (bit_and word mask) (k % 64) ≡ 0 = ap (λ x. bit_at x (k % 64)) none ∙ bit_at-zero (k % 64) in
+    let clear : bit_at word (k % 64) ≡ 0 = omega (arith, bit_at_and word mask (k % 64), one, low, zero) in
+    ap (λ v. bit_at (slice_index_or words v 0) (k % 64)) is ∙ clear
+
+pub clear_in_one : (words : List ℕ) (start end bits : ℕ) → bits ≡ 2 ^ (end - start) - 1 → start < end → start % 64 + (end - start) ≤ 64 → bit_and (slice_index_or words (start / 64) 0) (bits * 2 ^ (start % 64) % 2 ^ 64) ≡ 0 → AreClearIn start end words
+clear_in_one words start end bits is some fits none k from to =
+    clear_at (start / 64) start end ((2 ^ (end - start) - 1) * 2 ^ (start % 64) % 2 ^ 64) words (first_run start end some) (subst (λ b. bit_and (slice_index_or words (start / 64) 0) (b * 2 ^ (start % 64) % 2 ^ 64) ≡ 0) is none) k (omega (arith, fits, from, to)) from to
+
+pub clear_in_two : (words : List ℕ) (start end bits : ℕ) → bits ≡ 2 ^ (end - start) - 1 → start < end → end ≤ start + 9 → bit_and (slice_index_or words (start / 64) 0) (bits * 2 ^ (start % 64) % 2 ^ 64) ≡ 0
+    → bit_and (slice_index_or words (start / 64 + 1) 0) (bits / 2 ^ (64 - start % 64)) ≡ 0 → AreClearIn start end words
+clear_in_two words start end bits is some short none empty k from to = dite (ℕ_discrete (k / 64) (start / 64))
+    (λ (same : k / 64 ≡ start / 64).
+    clear_at (start / 64) start end ((2 ^ (end - start) - 1) * 2 ^ (start % 64) % 2 ^ 64) words (first_run start end some) (subst (λ b. bit_and (slice_index_or words (start / 64) 0) (b * 2 ^ (start % 64) % 2 ^ 64) ≡ 0) is none) k same from to)
+    (λ (ne : k / 64 ≢ start / 64).
+    clear_at (start / 64 + 1) start end ((2 ^ (end - start) - 1) / 2 ^ (64 - start % 64)) words (next_run start end some) (subst (λ b. bit_and (slice_index_or words (start / 64 + 1) 0) (b / 2 ^ (64 - start % 64)) ≡ 0) is empty) k (next k ne from to) from to)
+  where
+    next : (k : ℕ) → k / 64 ≢ start / 64 → start ≤ k → k < end → k / 64 ≡ start / 64 + 1
+    next k ne from to = grind (arith, ne, from, to, short)

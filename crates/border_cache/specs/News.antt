@@ -49,6 +49,10 @@ pub record SetsRun (start end : ℕ) (old new : List ℕ) : Type 0 where
   pub inside : (k : ℕ) → start ≤ k → k < end → bit_in new k ≡ 1
   pub outside : (k : ℕ) → (k < start) ⊎ (end ≤ k) → bit_in new k ≡ bit_in old k
 
+-- the bits of the places from `start` up to `end` and without it are not set
+abbrev pub AreClearIn : ℕ → ℕ → List ℕ → Type 0
+AreClearIn start end words = (k : ℕ) → start ≤ k → k < end → bit_in words k ≡ 0
+
 -- the register of the news word of an end that has the bit of place k
 abbrev pub word_of : ℕ → ℕ → ℕ → ℕ
 word_of sites end k = news_register sites end (k / 64)

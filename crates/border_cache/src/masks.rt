@@ -1,9 +1,9 @@
 //! The sites of a window in the news words of an edge, where each has a bit.
-ghost use Rattle.std.specs.Prelude.{◌≡◌, ◌+◌, ◌-◌, ◌^◌, ◌==◌, ◌<◌, ◌≤◌, ℕ, length};
+ghost use Rattle.std.specs.Prelude.{◌≡◌, ◌+◌, ◌-◌, ◌^◌, ◌==◌, ◌<◌, ◌≤◌, ℕ, length, IsTrue};
 ghost use Rattle.std.specs.List.{list_all};
 ghost use Rattle.tile_map.specs.Tables.{sites_in, IsSmall};
 ghost use Rattle.border_cache.specs.Borders.{site_of};
-ghost use Rattle.border_cache.specs.News.{nth_place, IsPlace, AreMasks, SetsPlace, SetsRun};
+ghost use Rattle.border_cache.specs.News.{nth_place, AreClearIn, IsPlace, AreMasks, SetsPlace, SetsRun};
 ghost use Rattle.border_cache.specs.Windows.{place_at, SetsRow};
 ghost use Rattle.border_cache.specs.Published.{IsWithMask};
 ghost use Rattle.tile_map.specs.declared.limits.TheConstants.{MOST_SHARED};
@@ -63,6 +63,26 @@ pub(crate) fn set_run(masks: &mut [u64], start: u32, end: u32)
     if over {
         masks[word + 1] |= bits >> (64 - low);
     }
+}
+
+/// Whether none of the bits of the places from `start` up to `end` and without it is set.
+pub(crate) fn are_clear_in(words: &[u64], start: u32, end: u32) -> bool
+    requires count { length words.now ≡ 9 }
+    requires some { start < end }
+    requires short { end ≤ start + 9 }
+    requires few { end ≤ MOST_SHARED }
+    ensures { IsTrue result → AreClearIn start end words.now }
+{
+    let bits = ones(end - start);
+    let word = (start / 64) as usize;
+    let low = start % 64;
+    if words[word] & (bits << low) != 0 {
+        return false;
+    }
+    if low + (end - start) <= 64 {
+        return true;
+    }
+    words[word + 1] & (bits >> (64 - low)) == 0
 }
 
 /// Sets the bits of row `j` of the window at a site, by their places in an area. The sites of a row

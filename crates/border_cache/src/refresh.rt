@@ -13,7 +13,7 @@ ghost use Rattle.border_cache.specs.Shared.{IsInRow, IsInRun, IsInWindowOf, IsPl
 
 use crate::border::{Border, Centre, News};
 use crate::cache::Cache;
-use crate::masks::are_clear;
+use crate::masks::{are_clear, are_clear_in};
 use crate::news::{read_news, read_site};
 use crate::places::{end_of, masks_of, place_in, site_at};
 use crate::row_runs::{Run, rows_of, run_of};
@@ -80,7 +80,9 @@ fn refresh_row<D: Board>(
     ensures moved { D.moved board.old board.new }
 {
     if let Some(run) = run_of(area, centre, j) {
-        refresh_run(cache, run, news, board);
+        if !are_clear_in(&news.words, run.start, run.start + (run.east - run.west)) {
+            refresh_run(cache, run, news, board);
+        }
     }
 }
 
