@@ -1,5 +1,5 @@
 -- What a publishing does on one edge: it writes cells, and marks them as no news for the one end and as news for the other.
-use Rattle.std.specs.Prelude.{ℕ, ◌≡◌, ◌≢◌, ◌+◌, ◌*◌, ◌/◌, ◌-◌, ◌<◌, ◌⊎◌, Bool, true, false, List, [], ◌∷◌, Option, Some, None}
+use Rattle.std.specs.Prelude.{ℕ, ◌≡◌, ◌≢◌, ◌+◌, ◌*◌, ◌/◌, ◌-◌, ◌<◌, ◌⊎◌, Bool, true, false, List, [], ◌∷◌, ◌++◌, Option, Some, None}
 use Rattle.std.specs.Int.{bit_at}
 use Rattle.list_laws.specs.Booleans.{digit}
 use Rattle.edge_lock.specs.Edges.{news_register}
@@ -8,7 +8,7 @@ use Rattle.edge_lock.specs.declared.history.Access.TheVariants.{Read, Write}
 use Rattle.edge_lock.specs.History.{found_value}
 use Rattle.border_cache.specs.Accesses.{last_write, is_read, reads_nothing}
 use Rattle.border_cache.specs.Cells.{CellValue, cell_of}
-use Rattle.border_cache.specs.News.{WindowBorder, border, Covers, AreMasks, word_of, IsCoveredWord, IsOfCell}
+use Rattle.border_cache.specs.News.{WindowBorder, border, Covers, AreMasks, word_of, IsOfCell}
 
 -- the same edge, from its other end
 abbrev pub across : WindowBorder → WindowBorder
@@ -29,21 +29,31 @@ pub record IsWordMarked (b : WindowBorder) (bit : Bool) (accesses : List Access)
   pub marked : (i : ℕ) → i < 64 → Covers b.places b.count (64 * j + i) → bit_at last i ≡ digit bit
   pub kept : (i : ℕ) → i < 64 → (Covers b.places b.count (64 * j + i) → ⊥) → bit_at last i ≡ bit_at first i
 
--- the news words of an end after the bits of the covered places were set, or cleared
-pub record IsMarked (b : WindowBorder) (bit : Bool) (accesses : List Access) : Type 0 where
-  pub words : (k : ℕ) → Covers b.places b.count k → IsWordMarked b bit accesses (k / 64)
-  pub only_read : (register : ℕ) → is_read accesses register ≡ true → IsCoveredWord b register
-  pub only_written : (register value : ℕ) → last_write accesses register None ≡ Some value → IsCoveredWord b register
+-- the register is the news word of a covered place, of either end
+abbrev pub IsEitherWord : WindowBorder → ℕ → Type 0
+IsEitherWord b register = (k : ℕ) × Covers b.places b.count k × ((register ≡ word_of b.sites b.end k) ⊎ (register ≡ word_of b.sites (1 - b.end) k))
 
--- a news word is read, and written with the bits of a mask changed, unless there are none
+-- the news words of both ends after the bits of the covered places were cleared at the one end and set at the other
+pub record AreMarked (b : WindowBorder) (accesses : List Access) : Type 0 where
+  pub mine : (k : ℕ) → Covers b.places b.count k → IsWordMarked b false accesses (k / 64)
+  pub theirs : (k : ℕ) → Covers b.places b.count k → IsWordMarked (across b) true accesses (k / 64)
+  pub only_read : (register : ℕ) → is_read accesses register ≡ true → IsEitherWord b register
+  pub only_written : (register value : ℕ) → last_write accesses register None ≡ Some value → IsEitherWord b register
+
+-- a news word is read, and written with the bits of a mask changed
 abbrev pub IsWordPut : ℕ → ℕ → Bool → List Access → Type 0
-IsWordPut register mask bit accesses =
-    ((mask ≡ 0) × (accesses ≡ [])) ⊎ ((mask ≢ 0) × (old : ℕ) × (new : ℕ) × (accesses ≡ Read register old ∷ Write register new ∷ []) × IsWithMask old mask bit new)
+IsWordPut register mask bit accesses = (old : ℕ) × (new : ℕ) × (accesses ≡ Read register old ∷ Write register new ∷ []) × IsWithMask old mask bit new
 
--- the news words of an end after the bits of these masks were set, or cleared: whichever places have these bits
-abbrev pub AreBitsPut : ℕ → ℕ → Bool → List ℕ → List Access → Type 0
-AreBitsPut sites end bit masks accesses =
-    (places : ℕ → Option ℕ) (n : ℕ) → AreMasks places n masks → ((k : ℕ) → Covers places n k → k < sites) → IsMarked (border sites end places n) bit accesses
+-- news word j of an end is written with the bits of a mask cleared, and that of the other end with them set, unless there are none
+abbrev pub AreWordsPut : ℕ → ℕ → ℕ → ℕ → List Access → Type 0
+AreWordsPut sites end j mask accesses =
+    ((mask ≡ 0) × (accesses ≡ []))
+    ⊎ ((mask ≢ 0) × (own : List Access) × (other : List Access) × (accesses ≡ own ++ other) × IsWordPut (news_register sites end j) mask false own × IsWordPut (news_register sites (1 - end) j) mask true other)
+
+-- the news words of both ends after the bits of these masks were cleared and set: whichever places have these bits
+abbrev pub AreBitsPut : ℕ → ℕ → List ℕ → List Access → Type 0
+AreBitsPut sites end masks accesses =
+    (places : ℕ → Option ℕ) (n : ℕ) → AreMasks places n masks → ((k : ℕ) → Covers places n k → k < sites) → AreMarked (border sites end places n) accesses
 
 -- no two of the first n sites of a window are at one place
 abbrev pub ArePlaces : (ℕ → Option ℕ) → ℕ → Type 0
@@ -62,10 +72,6 @@ pub record PutsAt (at : ℕ → Type 0) (cell : ℕ → CellValue) (accesses : L
 -- one cell is written
 abbrev pub IsCellPut : CellValue → ℕ → List Access → Type 0
 IsCellPut cell k accesses = (low : ℕ) × (high : ℕ) × (accesses ≡ Write (1 + 2 * k) low ∷ Write (2 + 2 * k) high ∷ []) × (cell_of low high ≡ cell)
-
--- the register is the news word of a covered place, of either end
-abbrev pub IsEitherWord : WindowBorder → ℕ → Type 0
-IsEitherWord b register = (k : ℕ) × Covers b.places b.count k × ((register ≡ word_of b.sites b.end k) ⊎ (register ≡ word_of b.sites (1 - b.end) k))
 
 -- the register has a word of the cell of a covered place, or is the news word of one, of either end
 abbrev pub IsPublished : WindowBorder → ℕ → Type 0

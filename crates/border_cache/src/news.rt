@@ -5,7 +5,7 @@ ghost use Rattle.edge_lock.specs.EndValues.{SameEnd};
 ghost use Rattle.border_cache.specs.Accesses.{AddsSome};
 ghost use Rattle.border_cache.specs.Borders.{IsOpen};
 ghost use Rattle.border_cache.specs.News.{bit_in, AreNewsRead, IsSiteRead, IsWordRead};
-ghost use Rattle.border_cache.specs.Published.{AreBitsPut, IsCellPut, IsWordPut};
+ghost use Rattle.border_cache.specs.Published.{AreBitsPut, AreWordsPut, IsCellPut, IsWordPut};
 ghost use Rattle.tile_map.specs.declared.limits.TheConstants.{MOST_SHARED};
 
 use crate::border::{Border, News};
@@ -86,25 +86,42 @@ fn put_word<D: Board>(board: &mut D, border: Border, word: u32, mask: u64, bit: 
     ensures same { SameEnd (D.end board.old) (D.end board.new) }
     ensures moved { D.moved board.old board.new }
 {
-    if mask == 0 {
-        return;
-    }
     let register = news_word(border, word);
     let old = board.read(border.edge, register);
     board.write(border.edge, register, with_mask(old, mask, bit));
 }
 
-/// Sets or clears the bits of these masks in the news words of an end.
-pub(crate) fn put_bits<D: Board>(board: &mut D, border: Border, masks: &[u64], bit: bool)
+/// Clears the bits of a mask in a news word of an end, and sets them in that of the other end.
+fn put_words<D: Board>(board: &mut D, border: Border, word: u32, mask: u64)
+    requires word { word < news_words border.sites }
+    requires hold { IsOpen (D.end board.old) border }
+    ensures put { AddsSome border.edge (AreWordsPut border.sites border.end word mask) (D.end board.old) (D.end board.new) }
+    ensures same { SameEnd (D.end board.old) (D.end board.new) }
+    ensures moved { D.moved board.old board.new }
+{
+    if mask == 0 {
+        return;
+    }
+    put_word(board, border, word, mask, false);
+    let other = Border {
+        edge: border.edge,
+        sites: border.sites,
+        end: 1 - border.end,
+    };
+    put_word(board, other, word, mask, true);
+}
+
+/// Clears the bits of these masks in the news words of an end, and sets them in those of the other end.
+pub(crate) fn put_bits<D: Board>(board: &mut D, border: Border, masks: &[u64])
     requires count { length masks.now ≡ 9 }
     requires hold { IsOpen (D.end board.old) border }
-    ensures put { AddsSome border.edge (AreBitsPut border.sites border.end bit masks.now) (D.end board.old) (D.end board.new) }
+    ensures put { AddsSome border.edge (AreBitsPut border.sites border.end masks.now) (D.end board.old) (D.end board.new) }
     ensures same { SameEnd (D.end board.old) (D.end board.new) }
     ensures moved { D.moved board.old board.new }
 {
     let words = (border.sites + 63) / 64;
     for word in 0..words {
-        put_word(board, border, word, masks[word as usize], bit);
+        put_words(board, border, word, masks[word as usize]);
     }
 }
 

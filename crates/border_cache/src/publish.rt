@@ -165,13 +165,7 @@ fn publish_on<D: Board>(cache: &Cache, map: &Map, centre: Centre, edge: u32, boa
     let end = end_of(map, cache.tile(), edge);
     let border = Border { edge, sites, end };
     let masks = put_window(cache, map, centre, border, board);
-    put_bits(board, border, &masks, false);
-    let other = Border {
-        edge,
-        sites,
-        end: 1 - end,
-    };
-    put_bits(board, other, &masks, true);
+    put_bits(board, border, &masks);
 }
 
 /// Writes the cells of a window to the needed edges.

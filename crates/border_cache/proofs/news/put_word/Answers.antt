@@ -1,14 +1,10 @@
-use Rattle.std.proofs.Common.{◌≡◌, [], ◌∷◌, inl, inr, refl, ap, sym, ◌∙◌, subst}
+use Rattle.std.proofs.Common.{◌≡◌, [], ◌∷◌, ap, sym, ◌∙◌, subst}
 use Rattle.edge_lock.specs.declared.history.Access.TheVariants.{Read, Write}
 use Rattle.edge_lock.specs.History.{site_count, IsAllowed}
 use Rattle.edge_lock.proofs.Counts.{sites_back}
-use Rattle.border_cache.proofs.Runs.{adds_read, adds_write, adds_then, adds_none, held_adds}
+use Rattle.border_cache.proofs.Runs.{adds_read, adds_write, adds_then, held_adds}
 use Rattle.border_cache.proofs.Words.{word_allowed}
 use Rattle.border_cache.proofs.news.put_word.Goals as goal
-
-pub returns-then-mask-eq0-clause-put : goal.returns-then-mask-eq0-clause-put
-returns-then-mask-eq0-clause-put g c =
-    ([], adds_none (g.D.Board.end c.args.board.now).lists c.args.border.edge, inl (c.if-mask-eq0.true, refl))
 
 pub write-requires-clause-held : goal.write-requires-clause-held
 write-requires-clause-held g c =
@@ -40,5 +36,5 @@ returns-clause-put g c =
     let two = adds_write b d e w u c.write.ensures.change.lists in (
       Read w v ∷ Write w u ∷ [],
       adds_then a b d e (Read w v ∷ []) (Write w u ∷ []) c.requires.hold.held one two,
-      inr (c.if-mask-eq0.false, v, u, ap (λ r. Read r v ∷ Write r u ∷ []) c.news_word-register.ensures.value, c.with_mask.ensures),
+      (v, u, ap (λ r. Read r v ∷ Write r u ∷ []) c.news_word-register.ensures.value, c.with_mask.ensures),
     )
