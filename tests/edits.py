@@ -71,7 +71,6 @@ SPARED = {
     "it gives a field, or puts its arguments, or copies of them, into fields": {
         "code_gen": "make::seq make::pick make::only make::test_loop make::ever",
         "draw_stream": "AttemptPlan::seeded",
-        "edge_lock": "SharedEnd::new",
         "event_film": "Film::new",
         "event_machine": "CountLedger::new Steps::new",
         "feast_base": "FileShelf::new MemShelf::new MemSink::stopping Name::new Source::new StdSink::new",

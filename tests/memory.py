@@ -27,8 +27,8 @@ REASONS = {
 MADE = re.compile(r"\b(?:\w+::)*(?:NoMemory|AllocError)\b")
 # An import of it under another name.
 RENAMED = re.compile(r"(?m)^\s*(?:pub(?:\([^)]*\))?\s+)?use\s[^;]*\b(?:NoMemory|AllocError)\s+as\b")
-# The errors of an allocation.
-REFUSED = re.compile(r"\b(AllocError|AllocFailed|OutOfMemory|NoMemory)\b")
+# The errors of an allocation; `Refused {..}` is that of a table of words and slots.
+REFUSED = re.compile(r"\b(?:AllocError|AllocFailed|OutOfMemory|NoMemory)\b|\bRefused \{")
 # A call that allocates: std's constructors in an allocator, and what makes a collection grow.
 CALLS = "with_capacity|from_slice|from_array|push|push_str|insert|reserve|append|extend_from_slice"
 GROWS = re.compile(

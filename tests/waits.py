@@ -28,10 +28,14 @@ PAUSES = {
     "tile_threads/src/stride.rt": {"wait": {"yield_now"}},
 }
 # The steps on an edge's words, and the calls that come to them.
-STEP = re.compile(r"\.\s*(compare_exchange\w*|load|store|swap|fetch_\w+|try_take|read|write|give|give_back)\s*(?:::<\w+>)?\s*\(")
+STEP = re.compile(
+    r"(?:\.\s*|\b)(compare_exchange\w*|load|store|swap|fetch_\w+|note_access|try_take|read|write|give|give_back)"
+    r"\s*(?:::<[\w<>]+>)?\s*\("
+)
 # For a file and a function, the one step that it makes.
 STEPS = {
-    "edge_lock/src/edge.rt": {"try_take": "compare_exchange", "read": "load", "write": "store", "give": "store"},
+    "edge_lock/src/edge.rt": {"try_take": "compare_exchange", "read": "note_access", "write": "note_access", "give": "store"},
+    "edge_lock/src/edge_steps.rt": {"note_access": "load"},
     "edge_lock/src/shared_end.rt": {
         "try_take": "try_take",
         "read": "read",
