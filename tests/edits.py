@@ -52,7 +52,7 @@ CASES = "cases_"
 FAR = 2
 # public calls that only begin a long way down, and how many calls below an edit of them may be
 FURTHER = {
-    "border_cache": {"Cache::refresh": 3, "Cache::read_window": 3},
+    "border_cache": {"Cache::refresh": 3},
     "code_file": {"write": 7},
     "code_gen": {"build": 3},
     "event_journal": {"Journal::walk": 5},
