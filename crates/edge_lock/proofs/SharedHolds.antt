@@ -138,24 +138,24 @@ module _ (e : ℕ) (mine : List Hold) (rs : List Refusal) (u : List ℕ) (held :
       (subst (λ ks. IsSide ks e rs) (ap keys has.is ∙ sym (keys-change has.past has.h (f has.h) same)) mine_is.4)
       (λ _. now)
 
-  -- the last hold has one more access, of which a load of the word 10 tells
+  -- the last hold has one more access, of which a load of the word 18 tells
   notes_one : (x : Access) (w : List ℕ) → IsHistory (site_count size) (has.past ++ with_access x has.h ∷ []) → AreNow size (has.past ++ with_access x has.h ∷ []) w
-      → IsShared size (stepped s 10 (get_or s.words 10 0) id [] (Paired size e (change_last (with_access x) mine) rs w) keeps)
+      → IsShared size (stepped s 18 (get_or s.words 18 0) id [] (Paired size e (change_last (with_access x) mine) rs w) keeps)
   notes_one x w i now =
-      turned 10 (get_or s.words 10 0) (with_access x) w s.homes (λ h. omega arith) refl i
-      (ap (λ l. get_or l 1 0) (set-get_or s.words 10 0) ∙ (r.lock ∙ (ap (λ l. lock_word (open_hold l)) has.is ∙ sym (same_word has.past has.h x))))
+      turned 18 (get_or s.words 18 0) (with_access x) w s.homes (λ h. omega arith) refl i
+      (ap (λ l. get_or l 1 0) (set-get_or s.words 18 0) ∙ (r.lock ∙ (ap (λ l. lock_word (open_hold l)) has.is ∙ sym (same_word has.past has.h x))))
       r.room
       (λ nobody. absurd (none-some (with_access x has.h) (sym nobody ∙ (open_hold-snoc has.past (with_access x has.h) ∙ ap (λ b. cond b (Some (with_access x has.h)) None) has.is_open))))
       now
 
-  reads_one : (q v : ℕ) → q < size → v ≡ get_or u q 0 → IsShared size (stepped s 10 (get_or s.words 10 0) id [] (Paired size e (change_last (with_access (Read q v)) mine) rs u) keeps)
+  reads_one : (q v : ℕ) → q < size → v ≡ get_or u q 0 → IsShared size (stepped s 18 (get_or s.words 18 0) id [] (Paired size e (change_last (with_access (Read q v)) mine) rs u) keeps)
   reads_one q v inside is =
       let found : v ≡ register_value (has.past ++ has.h ∷ []) q = is ∙ are.values q inside in
       notes_one (Read q v) u
       (history_accesses has.past has.h (Read q v) history (λ p w x. let a : q ≡ p = cc in let b : v ≡ w = cc in sym b ∙ (found ∙ ap (register_value (has.past ++ has.h ∷ [])) a)) tt)
       record { long = are.long; values = λ k l. are.values k l ∙ sym (register_value-read has.past has.h q v k) }
 
-  writes_one : (q v : ℕ) → q < size → IsAllowed (site_count size) q v → IsShared size (stepped s 10 (get_or s.words 10 0) id [] (Paired size e (change_last (with_access (Write q v)) mine) rs (set u q v)) keeps)
+  writes_one : (q v : ℕ) → q < size → IsAllowed (site_count size) q v → IsShared size (stepped s 18 (get_or s.words 18 0) id [] (Paired size e (change_last (with_access (Write q v)) mine) rs (set u q v)) keeps)
   writes_one q v inside ok =
       let long = are.long in
       notes_one (Write q v) (set u q v)
@@ -187,13 +187,13 @@ module _ (e : ℕ) (mine : List Hold) (rs : List Refusal) (u : List ℕ) (held :
       )
 
   notes_as : (x : Access) → CanNote size u x
-      → IsShared size (stepped s 10 (get_or s.words 10 0) id [] (Paired size e (change_last (with_access x) mine) rs (now_after x u)) keeps) × IsShown size (end_lists mine rs) x
+      → IsShared size (stepped s 18 (get_or s.words 18 0) id [] (Paired size e (change_last (with_access x) mine) rs (now_after x u)) keeps) × IsShown size (end_lists mine rs) x
   notes_as (Read q v) can = (reads_one q v can.0 can.1, shows_one q v can.0 can.1)
   notes_as (Write q v) can = (writes_one q v can.0 can.1, tt)
 
-pub notes : (size slots id : ℕ) (me : M) (x : Access) → HasEdge size me.0 → CanNote size (now_in me.0) x → Allows (IsShared size) slots id me 10 (λ n. n) (λ _. IsNoted x me)
+pub notes : (size slots id : ℕ) (me : M) (x : Access) → HasEdge size me.0 → CanNote size (now_in me.0) x → Allows (IsShared size) slots id me 18 (λ n. n) (λ _. IsNoted x me)
 notes size slots id me x has can =
-    subst (λ v. CanNote size (now_in v) x → Allows (IsShared size) slots id (v, me.1) 10 (λ n. n) (λ _. IsNoted x (v, me.1))) (sym has.1)
+    subst (λ v. CanNote size (now_in v) x → Allows (IsShared size) slots id (v, me.1) 18 (λ n. n) (λ _. IsNoted x (v, me.1))) (sym has.1)
     (λ can s r _ at _. let mine = (lists_in me.0).holds in let rs = (lists_in me.0).refusals in let u = now_in me.0 in
     let both = notes_as has.0 mine rs u has.2 size s r id at x can in
     (Paired size has.0 (change_last (with_access x) mine) rs (now_after x u), keeps, tt, both.0, record { view = refl; slots = refl; shown = both.1 }))

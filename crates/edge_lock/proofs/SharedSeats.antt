@@ -183,9 +183,9 @@ module _ (size : ℕ) (low high : List Hold) (rs qs : List Refusal) (free : is_l
   joined = Joined size low rs high qs
 
   takes_all : (s : S) (r : IsShared size s) (id : ℕ) → get_elem? s.views id ≡ some joined → (h : IsAtHome size r.hs s.homes)
-      → IsShared size (stepped s 10 (get_or s.words 10 0) id [] (Settled r.hs rs qs h.now) (takes 0 h.now))
+      → IsShared size (stepped s 18 (get_or s.words 18 0) id [] (Settled r.hs rs qs h.now) (takes 0 h.now))
   takes_all s r id at home =
-      let mine = r.views id joined at in let words = set-get_or s.words 10 0 in let w : View = Settled r.hs rs qs home.now in
+      let mine = r.views id joined at in let words = set-get_or s.words 18 0 in let w : View = Settled r.hs rs qs home.now in
       let change = claims-change s.views id joined w at in record {
         hs = r.hs;
         stage = done;
@@ -202,7 +202,7 @@ module _ (size : ℕ) (low high : List Hold) (rs qs : List Refusal) (free : is_l
             (at_set s.views id j w v p));
       }
 
-  pub settles : (slots id : ℕ) → Allows (IsShared size) slots id (joined, []) 10 (λ n. n) (Settles (step slots 10 0 0 none) (joined, []))
+  pub settles : (slots id : ℕ) → Allows (IsShared size) slots id (joined, []) 18 (λ n. n) (Settles (step slots 18 0 0 none) (joined, []))
   settles slots id s r _ at _ = let mine = r.views id joined at in
       let home = r.home (λ h. let is : together ≡ done = sym mine.0 ∙ h in cc) (all_given r.hs low high r.history mine.2 mine.4 free free') in (
         Settled r.hs rs qs home.now,
@@ -212,7 +212,7 @@ module _ (size : ℕ) (low high : List Hold) (rs qs : List Refusal) (free : is_l
         (record { all = r.hs; now = home.now; is = refl; both = record { history = record { holds = r.history; lower = mine.3; higher = mine.5 }; lower = mine.2; higher = mine.4 }; are = home.are }, refl),
       )
 
-pub opens : (size : ℕ) (words : List ℕ) (slots : List (List ℕ)) → words ≡ replicate 11 0 → slots ≡ replicate size 0 ∷ [] → IsShared size (opening words slots (First size))
+pub opens : (size : ℕ) (words : List ℕ) (slots : List (List ℕ)) → words ≡ replicate 35 0 → slots ≡ replicate size 0 ∷ [] → IsShared size (opening words slots (First size))
 opens size words slots is has = subst (λ (x : List ℕ × List (List ℕ)). IsShared size (opening x.0 x.1 (First size))) (λ i. (sym is i, sym has i)) record {
   hs = [];
   stage = apart;
@@ -254,8 +254,8 @@ module _ (size : ℕ) (low high : M) (are : AreBoth size low high) where
     joined_view : me ≡ (joined size (lists_in low.0).holds (lists_in high.0).holds (lists_in low.0).refusals (lists_in high.0).refusals are.free are.free', [])
     joined_view = is ∙ (λ i. (both_of (are.first.view i) (are.second.view i), none_out size 0 low are.first are.free i))
 
-    pub settles_as : (slots id : ℕ) → Allows (IsShared size) slots id me 10 (λ n. n) (Settles (step slots 10 0 0 none) me)
-    settles_as slots id = subst (λ m. Allows (IsShared size) slots id m 10 (λ n. n) (Settles (step slots 10 0 0 none) m)) (sym joined_view)
+    pub settles_as : (slots id : ℕ) → Allows (IsShared size) slots id me 18 (λ n. n) (Settles (step slots 18 0 0 none) me)
+    settles_as slots id = subst (λ m. Allows (IsShared size) slots id m 18 (λ n. n) (Settles (step slots 18 0 0 none) m)) (sym joined_view)
         (settles size (lists_in low.0).holds (lists_in high.0).holds (lists_in low.0).refusals (lists_in high.0).refusals are.free are.free' slots id)
 
     pub closes : (next : M) → BecomesWhole me.0 next.0 → IsClosed (closed_value size next.0) (lists_in low.0) (lists_in high.0)

@@ -69,7 +69,7 @@ pub record IsShared (registers_count : ℕ) (s : State (List ℕ) View) : Type 0
   pub hs : List Hold
   pub stage : Stage
   pub history : IsHistory (site_count registers_count) hs
-  pub long : length s.words ≡ 11
+  pub long : length s.words ≡ 35
   pub lock : slice_index s.words 1 ≡ lock_word (open_hold hs)
   pub claimed : slice_index s.words 2 ≡ claims s.views
   pub room : length s.homes ≡ 1

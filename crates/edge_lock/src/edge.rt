@@ -33,7 +33,7 @@ impl Model for Edge {
 
     ghost view = { λ e. edge_value e.table.shared.table_id e.number e.table.shared.key };
 
-    ghost invariant = { λ e. e.table.shared.table_id.words ≡ 11 };
+    ghost invariant = { λ e. e.table.shared.table_id.words ≡ 35 };
 }
 
 /// One end's right to take an edge. Contracts see which edge and which end it is, and what that end

@@ -19,12 +19,13 @@ pub(crate) const LOCK: usize = 1;
 /// The word that counts the ends that are claimed.
 pub(crate) const CLAIMS: usize = 2;
 
-/// The word that is loaded at each read and write of a register. It is never written, and lies
-/// more than 64 bytes behind the lock word, so that a try of the other end leaves it in the cache.
-pub(crate) const NOTES: usize = 10;
+/// The word that is loaded at each read and write of a register. It is never written. Idle words lie
+/// before and behind it, two lines of a processor's cache: otherwise tries of the other end, or what
+/// is next in memory, would take its line away all the time.
+pub(crate) const NOTES: usize = 18;
 
 /// How many words the table of a shared edge has.
-pub(crate) const WORDS: usize = 11;
+pub(crate) const WORDS: usize = 35;
 
 /// The slot with the registers.
 pub(crate) const REGISTERS: usize = 0;
@@ -96,7 +97,7 @@ pub(crate) fn note_access<B: Said>(
     _register: u32,
     _value: u64,
 )
-    requires table { (seat.old.table_id ≡ table.now.table_id) × (table.now.table_id.words ≡ 11) }
+    requires table { (seat.old.table_id ≡ table.now.table_id) × (table.now.table_id.words ≡ 35) }
     requires held { HasEdge table.now.key seat.old.me.0 }
     requires can { CanNote table.now.key (now_in seat.old.me.0) B.access }
     ensures table { seat.new.table_id ≡ seat.old.table_id }

@@ -5,11 +5,19 @@ use feast_base::NoMemory;
 use std::alloc::Global;
 use std::marker::Model;
 
+/// How many idle words keep what two processors change apart: two lines of their caches.
+const IDLE: usize = 16;
+
 /// The registers of an edge side by side, which only the end that has the edge reads and writes.
 /// Contracts see their values as a list.
+///
+/// Each access begins with where they lie. Idle words stand around that, since what is next to it in
+/// memory may be the registers of another edge, which other processors change.
 #[derive(Drop)]
 pub struct Registers {
+    idle_before: [u64; IDLE],
     words: Vec<u64>,
+    idle_behind: [u64; IDLE],
 }
 
 impl Model for Registers {
@@ -26,7 +34,9 @@ impl Registers {
         ensures { IfOk result (λ r. r ≡ replicate count 0) }
     {
         Ok(Registers {
+            idle_before: [0; IDLE],
             words: Vec::from_elem(alloc, 0u64, count as usize)?,
+            idle_behind: [0; IDLE],
         })
     }
 
