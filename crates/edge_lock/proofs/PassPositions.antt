@@ -8,7 +8,7 @@ use native.Mathlib.Decide.{ℕ_discrete}
 use Rattle.edge_lock.specs.EndLists.{EndLists, replace_at}
 use Rattle.edge_lock.specs.EndValues.{ChangesAt}
 use Rattle.edge_lock.specs.Passes.{EdgeValue, PassValue, with_lists}
-use Rattle.edge_lock.specs.SharedEnds.{SharedEndValue, shared_end_value, shared_end, SamePasses, IsPassOf, pass_registers, pass_end, pass_lists, pass_position, EdgeAndEnd, edge_and_end}
+use Rattle.edge_lock.specs.SharedEnds.{SharedEndValue, shared_end_value, shared_end, SamePasses, IsPassOf, pass_registers, pass_end, pass_lists, pass_position, edge_and_end}
 
 pub record Looked (ps : List PassValue) (e i : ℕ) : Type 0 where
   pub place : pass_position ps e ≡ i + pass_position (drop i ps) e

@@ -1,4 +1,4 @@
-use Rattle.std.proofs.Common.{subst, ◌∙◌, rules, set}
+use Rattle.std.proofs.Common.{subst, ◌∙◌}
 use Rattle.edge_lock.specs.EndLists.{IsHeld, after_give}
 use Rattle.edge_lock.proofs.PassPositions.{acts_at}
 use Rattle.edge_lock.proofs.shared_end.SharedEndBoard.give.Goals as goal

@@ -1,4 +1,4 @@
-use Rattle.std.proofs.Common.{sym, subst, ◌∙◌, ap, rules, set}
+use Rattle.std.proofs.Common.{sym, subst, ◌∙◌, ap}
 use Rattle.edge_lock.specs.EndLists.{EndLists, IsHeld, Shows, known_value, after_access}
 use Rattle.std.proofs.Common.{◌<◌}
 use Rattle.edge_lock.specs.declared.history.Access.TheVariants.{Read}

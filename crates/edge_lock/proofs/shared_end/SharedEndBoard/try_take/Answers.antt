@@ -1,6 +1,5 @@
-use Rattle.std.proofs.Common.{◌<◌, sym, subst, ◌∙◌, rules, set}
+use Rattle.std.proofs.Common.{◌<◌, sym, subst, ◌∙◌}
 use Rattle.edge_lock.specs.EndLists.{IsFree, IsNew, after_try}
-use Rattle.edge_lock.specs.SharedEnds.{pass_end}
 use Rattle.edge_lock.proofs.PassPositions.{acts_at}
 use Rattle.edge_lock.proofs.shared_end.SharedEndBoard.try_take.Goals as goal
 

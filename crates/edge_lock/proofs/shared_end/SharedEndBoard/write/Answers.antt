@@ -1,4 +1,4 @@
-use Rattle.std.proofs.Common.{subst, ◌∙◌, ap, rules, set}
+use Rattle.std.proofs.Common.{subst, ◌∙◌, ap}
 use Rattle.edge_lock.specs.EndLists.{IsHeld, after_access}
 use Rattle.std.proofs.Common.{◌<◌}
 use Rattle.edge_lock.specs.declared.history.Access.TheVariants.{Write}
