@@ -12,6 +12,7 @@ import math
 import os
 import random
 import statistics
+import subprocess
 import sys
 import time
 from typing import Collection, NamedTuple, Optional, Sequence
@@ -255,6 +256,9 @@ def alone(bench: Bench) -> None:
     for name in ("w", "e"):
         (bench.folder / name).chmod(0o644)
     bench.folder.chmod(0o755)
+    if subprocess.run([*before, b"test", b"-x", bench.program.encode()]).returncode != 0:
+        bench.note("runs without threads: left out, since the user that they need can't reach the program")
+        return
     times: dict[str, float] = {}
     ways: tuple[tuple[str, Sequence[bytes]], ...] = (("with threads", []), ("without threads", before))
     for name, words in ways:
