@@ -1,5 +1,6 @@
 """Calls of programs, measured from outside: their time, their memory at the peak, and their instructions."""
 
+import concurrent.futures
 import dataclasses
 import os
 import pathlib
@@ -70,6 +71,12 @@ def in_turn(calls: dict[str, Words], rounds: int) -> dict[str, Used]:
         for name, words in calls.items():
             runs[name].append(made(words))
     return {name: best(of) for name, of in runs.items()}
+
+
+def at_once(calls: list[Words]) -> float:
+    """Calls side by side, that all have to end well: the seconds of the one that takes longest."""
+    with concurrent.futures.ThreadPoolExecutor(len(calls)) as pool:
+        return max(used.seconds for used in pool.map(made, calls))
 
 
 def best(runs: list[Used]) -> Used:

@@ -5,7 +5,7 @@ import pathlib
 import shutil
 from typing import Callable, Iterator
 
-from calls import Failed, Used, Words, in_turn, made
+from calls import Failed, Used, Words, at_once, in_turn, made
 from check import CLASSES, FILES, source_files
 from reports import events_of, placed, start_of
 from worlds import ATTEMPTS, HORDE, LIFE, SIDE, SORTERS, WALKER, WANDERERS, Mix, lines_of_tries, world
@@ -200,17 +200,40 @@ def sorters(bench: Bench) -> Iterator[Line]:
     yield from compared(bench, 8, SORTERS, "run, 8 by 8 tiles, sorters", Aims(Aim(1.3), at_least(2)))
 
 
+def taskset() -> str:
+    """The program that holds others to some processors."""
+    found = shutil.which("taskset")
+    if not found:
+        raise Failed("there is no taskset")
+    return found
+
+
+def machine(bench: Bench) -> Iterator[Line]:
+    """How much all processors do together beside one of them: calls that have nothing to do with each other, one on each."""
+    elements = bench.file("elements", LIFE.text)
+    works: dict[str, Words] = {
+        "flat.rs, one tile": [bench.flat, bench.world(1)],
+        "run, life, one tile": [bench.program, "run", bench.file("life", LIFE.repeated(1, 64, bench.attempts)), elements],
+    }
+    for work, words in works.items():
+        each: list[Words] = [[taskset(), "-c", str(processor), *words] for processor in bench.processors]
+        alone, together = [], []
+        for _ in range(bench.rounds):
+            alone.append(min(made(call).seconds for call in each))
+            together.append(at_once(each))
+        figure = len(each) * min(alone) / min(together)
+        yield Line(f"{work}, on {len(each)} processors at once", f"{min(together):.3f} s", f"one alone {min(alone):.3f} s", figure, "times its rate")
+
+
 def workers(bench: Bench) -> Iterator[Line]:
     """What a threaded run takes more than one of the same plane with one attempt a tile, on all processors and on one."""
-    elements, taskset = bench.elements(), shutil.which("taskset")
-    if not taskset:
-        raise Failed("there is no taskset")
+    elements = bench.elements()
     for tiles in (2, 8):
         busy: Words = [bench.program, "run", bench.world(tiles), elements]
         idle: Words = [bench.program, "run", bench.idle_world(tiles), elements]
         for words in (busy, idle):
             bench.audited(words, elements)
-        on_one: Words = [taskset, "-c", str(bench.processors[0])]
+        on_one: Words = [taskset(), "-c", str(bench.processors[0])]
         calls = {"busy": busy, "idle": idle, "busy on one": [*on_one, *busy], "idle on one": [*on_one, *idle]}
         used = in_turn(calls, bench.rounds)
         yield added(f"workers alone, {tiles} by {tiles} tiles", used)
@@ -287,6 +310,7 @@ PARTS: dict[str, Callable[[Bench], Iterator[Line]]] = {
     "small": small_tiles,
     "sorters": sorters,
     "examples": examples,
+    "machine": machine,
     "workers": workers,
     "step": stepped,
     "audit": audits,

@@ -27,6 +27,15 @@ now_same count old new registers same now = record { long = now.long; values = �
 pub now_took : (count end attempt : ℕ) (holds : List Hold) (registers : List ℕ) → AreNow count holds registers → AreNow count (holds ++ new_hold end attempt ∷ []) registers
 now_took count end attempt holds registers = now_same count holds (holds ++ new_hold end attempt ∷ []) registers (register_value-opened holds end attempt)
 
+-- a register gets a value, and every other keeps its own
+pub now_set : (count : ℕ) (old new : List Hold) (registers : List ℕ) (register value : ℕ) → register < count → ((k : ℕ) → register_value new k ≡ cond (eqb k register) value (register_value old k)) → AreNow count old registers → AreNow count new (set registers register value)
+now_set count old new registers register value inside then now = let long = now.long in record {
+  long = length-set registers register value ∙ long;
+  values = λ k l. dite (ℕ_discrete k register)
+      (λ same. ap (λ j. get_or (set registers register value) j 0) same ∙ (get_or-set_same registers register value 0 (omega arith) ∙ sym (then k ∙ ap (λ b. cond b value (register_value old k)) (eq-eqb k register same))))
+      (λ apart. get_or-set_other registers register k value 0 apart ∙ (now.values k l ∙ sym (then k ∙ ap (λ b. cond b value (register_value old k)) (ne_eqb k register apart))));
+}
+
 -- a register after a change of the open hold
 at_last : (f : Hold → Hold) (holds past : List Hold) (h : Hold) (k : ℕ) → holds ≡ past ++ h ∷ [] → register_value (change_last f holds) k ≡ register_value (past ++ f h ∷ []) k
 at_last f holds past h k is = ap (λ l. register_value l k) (ap (change_last f) is ∙ change_last-snoc f past h)
@@ -45,11 +54,5 @@ module _ (count : ℕ) (holds : List Hold) (registers : List ℕ) (held : is_las
 
   pub now_wrote : (register value : ℕ) → register < count → AreNow count (change_last (with_access (Write register value)) holds) (set registers register value)
   now_wrote register value inside =
-      let last = ends_held holds held in let h = last.0 in let past = last.1.past in let is = last.1.is in let long = now.long in
-      let then : (k : ℕ) → register_value (change_last (with_access (Write register value)) holds) k ≡ cond (eqb k register) value (register_value holds k)
-      = λ k. at_last (with_access (Write register value)) holds past h k is ∙ (register_value-write past h register value k ∙ ap (λ l. cond (eqb k register) value (register_value l k)) (sym is)) in record {
-        long = length-set registers register value ∙ long;
-        values = λ k l. dite (ℕ_discrete k register)
-            (λ same. ap (λ j. get_or (set registers register value) j 0) same ∙ (get_or-set_same registers register value 0 (omega arith) ∙ sym (then k ∙ ap (λ b. cond b value (register_value holds k)) (eq-eqb k register same))))
-            (λ apart. get_or-set_other registers register k value 0 apart ∙ (now.values k l ∙ sym (then k ∙ ap (λ b. cond b value (register_value holds k)) (ne_eqb k register apart))));
-      }
+      let last = ends_held holds held in let h = last.0 in let past = last.1.past in let is = last.1.is in
+      now_set count holds (change_last (with_access (Write register value)) holds) registers register value inside (λ k. at_last (with_access (Write register value)) holds past h k is ∙ (register_value-write past h register value k ∙ ap (λ l. cond (eqb k register) value (register_value l k)) (sym is))) now

@@ -1,5 +1,5 @@
 -- The steps of the end that has the edge keep the rule.
-use Rattle.std.proofs.Common.{◌≡◌, ◌≢◌, ℕ, ◌<◌, eqb, Bool, true, false, cond, true≢false, List, [], ◌∷◌, ◌++◌, length, get_or, set, refl, sym, ap, ◌∙◌, subst, ⊎_elim, arith, eq-eqb, ne_eqb, append_assoc, length-set, get_or-set_same, get_or-set_other, Option, Some, None}
+use Rattle.std.proofs.Common.{◌≡◌, ◌≢◌, ℕ, ◌<◌, eqb, Bool, true, false, cond, true≢false, List, [], ◌∷◌, ◌++◌, length, get_or, set, refl, sym, ap, ◌∙◌, subst, ⊎_elim, arith, eq-eqb, ne_eqb, append_assoc, length-set, get_or-set_same, Option, Some, None}
 use Rattle.std.specs.Prelude.{All}
 use Rattle.std.proofs.lemmas.List.{append-nil, set-get_or}
 use Rattle.std.proofs.lemmas.List.Elements.{All-filter}
@@ -22,6 +22,7 @@ use Rattle.edge_lock.specs.RegistersNow.{AreNow}
 use Rattle.edge_lock.specs.SharedRule.{lock_word, IsAtHome, IsPart, IsShared, lists_in, now_in, slots_of, now_after, HasEdge, CanNote, IsShown, IsNoted, GivesBack}
 use Rattle.edge_lock.proofs.LastHolds.{open_hold-snoc, ends_open, change_last-snoc, last_accesses-snoc, none_or_held, trace-snoc, written-append}
 use Rattle.edge_lock.proofs.HistorySteps.{all-cons, all-none, all-tail, all-head, history_accesses, history_ends, keys-change, register_value-read, register_value-write, register_value-ended, own-here, own-there}
+use Rattle.edge_lock.proofs.RegistersNow.{now_same, now_set}
 use Rattle.edge_lock.proofs.SharedSteps.{S, M, GoesOn, moved}
 
 abbrev Shut : Hold → Type 0
@@ -153,24 +154,18 @@ module _ (e : ℕ) (mine : List Hold) (rs : List Refusal) (u : List ℕ) (held :
       let found : v ≡ register_value (has.past ++ has.h ∷ []) q = is ∙ are.values q inside in
       notes_one (Read q v) u
       (history_accesses has.past has.h (Read q v) history (λ p w x. let a : q ≡ p = cc in let b : v ≡ w = cc in sym b ∙ (found ∙ ap (register_value (has.past ++ has.h ∷ [])) a)) tt)
-      record { long = are.long; values = λ k l. are.values k l ∙ sym (register_value-read has.past has.h q v k) }
+      (now_same size (has.past ++ has.h ∷ []) (has.past ++ with_access (Read q v) has.h ∷ []) u (register_value-read has.past has.h q v) are)
 
   writes_one : (q v : ℕ) → q < size → IsAllowed (site_count size) q v → IsShared size (stepped s 18 (get_or s.words 18 0) id [] (Paired size e (change_last (with_access (Write q v)) mine) rs (set u q v)) keeps)
   writes_one q v inside ok =
-      let long = are.long in
       notes_one (Write q v) (set u q v)
       (history_accesses has.past has.h (Write q v) history (λ p w x. absurd (cc)) ok)
-      record {
-        long = length-set u q v ∙ long;
-        values = λ k l. dite (ℕ_discrete k q)
-            (λ same. ap (λ y. get_or (set u q v) y 0) same ∙ (get_or-set_same u q v 0 (omega arith) ∙ (ap (λ b. cond b v (register_value (has.past ++ has.h ∷ []) k)) (sym (eq-eqb k q same)) ∙ sym (register_value-write has.past has.h q v k))))
-            (λ apart. get_or-set_other u q k v 0 apart ∙ (are.values k l ∙ (ap (λ b. cond b v (register_value (has.past ++ has.h ∷ []) k)) (sym (ne_eqb k q apart)) ∙ sym (register_value-write has.past has.h q v k))));
-      }
+      (now_set size (has.past ++ has.h ∷ []) (has.past ++ with_access (Write q v) has.h ∷ []) u q v inside (register_value-write has.past has.h q v) are)
 
   gives_one : IsShared size (stepped s 1 0 id ((0, u) ∷ []) (Paired size e (change_last closed_hold mine) rs u) gives)
   gives_one =
       let long = r.long in let room = r.room in
-      let now : AreNow size (has.past ++ closed_hold has.h ∷ []) u = record { long = are.long; values = λ k l. are.values k l ∙ sym (register_value-ended has.past has.h k) } in
+      let now = now_same size (has.past ++ has.h ∷ []) (has.past ++ closed_hold has.h ∷ []) u (register_value-ended has.past has.h) are in
       turned 1 0 closed_hold u (set s.homes 0 (some u)) (λ h. omega arith) refl (history_ends has.past has.h history)
       (get_or-set_same s.words 1 0 0 (omega arith) ∙ ap lock_word (sym (open_hold-snoc has.past (closed_hold has.h))))
       (length-set s.homes 0 (some u) ∙ room)

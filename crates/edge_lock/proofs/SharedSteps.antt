@@ -17,8 +17,9 @@ use Rattle.edge_lock.specs.EndLists.{new_hold, refusal_of, is_last_open, IsHoldB
 use Rattle.edge_lock.specs.Passes.{IsPaired}
 use Rattle.edge_lock.specs.RegistersNow.{AreNow}
 use Rattle.edge_lock.specs.SharedRule.{lock_word, attempt_in, claims_of, claims, IsAtHome, apart, done, IsPart, IsShared, lists_in, now_in, slots_of, view_after_try, Tries}
+use Rattle.edge_lock.proofs.RegistersNow.{now_took}
 use Rattle.edge_lock.proofs.LastHolds.{open_hold-snoc, ends_open, is_held-snoc, keys-snoc, none_or_held}
-use Rattle.edge_lock.proofs.HistorySteps.{all-last, own_below, side_takes, side_stays, side_refuses, history_takes, register_value-opened, own-here, own-there}
+use Rattle.edge_lock.proofs.HistorySteps.{all-last, own_below, side_takes, side_stays, side_refuses, history_takes, own-here, own-there}
 
 abbrev pub S : Type 0
 S = State (List ℕ) View
@@ -82,13 +83,12 @@ module _ (size e a : ℕ) (mine : List Hold) (rs : List Refusal) (u : List ℕ) 
   gets s r id at free home =
       let mine_is = r.views id me.0 at in let hs = r.hs in let gs : List Hold = hs ++ new_hold e a ∷ [] in let long = r.long in let now = keys-snoc hs (new_hold e a) in
       let below = own_below a e hs (subst (All (IsHoldBelow a)) (sym mine_is.3) new) in
-      let goes_on : (count : ℕ) (w : List ℕ) → AreNow count hs w → AreNow count gs w = λ count w is. record { long = is.long; values = λ k l. is.values k l ∙ sym (register_value-opened hs e a k) } in
       moved size s r id e 1 mark mine (mine ++ new_hold e a ∷ []) rs rs u home.now gs (set s.homes 0 none) at
       record {
         history = history_takes hs e a r.history free end;
         same = λ f apart. own-there f hs (new_hold e a) (λ h. apart (sym h));
         fits = λ f qs apart side. subst (λ ks. IsSide ks f qs) (sym now) (side_stays (keys hs) e f a qs (λ h. apart (sym h)) side);
-        kept = λ f count w _ _. goes_on count w;
+        kept = λ f count w _ _. now_took count e a hs w;
       }
       (λ h. omega arith)
       (get_or-set_same s.words 1 mark 0 (omega arith) ∙ ap lock_word (sym (open_hold-snoc hs (new_hold e a))))
@@ -96,7 +96,7 @@ module _ (size e a : ℕ) (mine : List Hold) (rs : List Refusal) (u : List ℕ) 
       (λ nobody. absurd (none-some (new_hold e a) (sym nobody ∙ open_hold-snoc hs (new_hold e a))))
       (own-here e hs (new_hold e a) refl ∙ ap (λ l. l ++ new_hold e a ∷ []) mine_is.3)
       (subst (λ ks. IsSide ks e rs) (sym now) (side_takes (keys hs) e a rs mine_is.4 below news))
-      (λ _. goes_on size home.now home.are)
+      (λ _. now_took size e a hs home.now home.are)
 
   refuses : (s : S) (r : IsShared size s) (id : ℕ) → get_elem? s.views id ≡ some me.0 → (h : Hold) → open_hold r.hs ≡ Some h
       → IsShared size (stepped s 1 (get_or s.words 1 0) id [] (Paired size e mine (rs ++ refusal_of a (attempt_in (get_or s.words 1 0)) ∷ []) u) keeps)

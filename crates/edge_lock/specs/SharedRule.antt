@@ -1,7 +1,7 @@
 -- The rule over the table of an edge that two threads share, and what each step reveals to its
 -- caller. Word 0 is the base's own, word 1 is the lock, word 2 counts the ends that are claimed, and
--- the last word is only loaded. The one slot has the registers. It is at home while nobody has the
--- edge, and otherwise out with the seat of the end that has it.
+-- word 18 of the 35 is only loaded; all others are idle. The one slot has the registers. It is at home
+-- while nobody has the edge, and otherwise out with the seat of the end that has it.
 use Rattle.std.specs.Prelude.{◌≡◌, ◌≢◌, ℕ, ◌+◌, ◌-◌, ◌*◌, ◌/◌, ◌<◌, ◌==◌, true, List, [], ◌∷◌, ◌++◌, length, replicate, slice_index, slice_set, Option, Some, None, if◌then◌else◌}
 use mathlib.Core.Option.{some}
 use lib.ListN.{get_elem?}

@@ -9,7 +9,7 @@ ghost use Rattle.feast_base.specs.declared.limits.TheConstants.{MOST_ATTEMPTS};
 
 use crate::board::Take;
 use crate::edge_steps::LOCK;
-use crate::plain_steps::{PlainGive, PlainRule, PlainTry, PlainView, WORDS, note};
+use crate::plain_steps::{PlainGive, PlainRule, PlainTry, PlainView, WORDS, note_access};
 use atomic_table::{Seat, Table};
 use feast_base::NoMemory;
 use std::alloc::Global;
@@ -112,7 +112,7 @@ impl PlainEdge {
         ensures kept { IsKept (view_of self.new) }
     {
         let value = self.registers[register as usize];
-        note::<Brand>(&self.table, &mut self.seat, register, value);
+        note_access::<Brand>(&self.table, &mut self.seat, register, value);
         value
     }
 
@@ -129,7 +129,7 @@ impl PlainEdge {
         ensures other { own_lists (1 - end) self.new ≡ own_lists (1 - end) self.old }
         ensures kept { IsKept (view_of self.new) }
     {
-        note::<Brand>(&self.table, &mut self.seat, register, value);
+        note_access::<Brand>(&self.table, &mut self.seat, register, value);
         self.registers[register as usize] = value;
     }
 

@@ -71,7 +71,7 @@ impl<B: Said> Play<(), PlainView> for PlainNote<B> {
 /// Adds an access to the open hold: a read of what the register has, or a write that it allows. The
 /// code does not need to know which; the caller's proof picks it, of this register and value.
 #[inline]
-pub(crate) fn note<B: Said>(
+pub(crate) fn note_access<B: Said>(
     table: &Table<(), PlainView, u32, PlainRule, Global>,
     seat: &mut Seat<(), PlainView>,
     _register: u32,

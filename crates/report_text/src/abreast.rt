@@ -6,7 +6,6 @@ ghost use Rattle.event_journal.specs.Merged.{concat};
 ghost use Rattle.report_text.specs.JournalText.{record_fields, rest_text};
 ghost use Rattle.report_text.specs.Writing.{Streams, StreamsFirst, heading};
 
-use crate::line::LONGEST_RECORD;
 use crate::page::Page;
 use crate::part::{Part, put_walk};
 use event_journal::{Journal, Walk};
@@ -22,7 +21,11 @@ const FEW: u64 = 20_000;
 const PARTS: usize = 8;
 
 /// How many bytes all parts together have room for.
-const ROOM: usize = 1 << 22;
+const ROOM: usize = 1 << 23;
+
+/// How many bytes a part has for each of its events. Most lines are shorter; what is longer than the
+/// room is put from the part's walk.
+const BYTES_AN_EVENT: usize = 48;
 
 /// The events of a journal that are not put yet, and what they are printed in: in rounds, in each of
 /// which as many parts are printed side by side as there are processors, and then put in order.
@@ -31,7 +34,7 @@ pub(crate) struct Events<'a> {
     walk: Walk<'a>,
     /// The parts of a round. There are none if one thread prints all events.
     parts: Vec<Part<'a>>,
-    /// How many events of each tile a part has at most, so that its room suffices.
+    /// How many events of each tile a part has at most.
     most: usize,
     /// How many rounds there are at most.
     rounds: u64,
@@ -104,7 +107,7 @@ impl<'a> Events<'a> {
     {
         let count = part_count(rt, journal);
         let bytes = ROOM / count.max(1);
-        let most = (bytes / LONGEST_RECORD / busy_tiles(journal).max(1)).max(1);
+        let most = (bytes / BYTES_AN_EVENT / busy_tiles(journal).max(1)).max(1);
         Ok(Events {
             walk: journal.walk(alloc)?,
             parts: make_parts(alloc, journal, count, bytes)?,

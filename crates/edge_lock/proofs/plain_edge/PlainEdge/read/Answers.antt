@@ -9,8 +9,8 @@ use Rattle.edge_lock.proofs.PlainRules.{M}
 use Rattle.edge_lock.proofs.RegistersNow.{now_found, now_read}
 use Rattle.edge_lock.proofs.plain_edge.PlainEdge.read.Goals as goal
 
-pub note-requires-clause-may : goal.note-requires-clause-may
-note-requires-clause-may c =
+pub note_access-requires-clause-may : goal.note_access-requires-clause-may
+note_access-requires-clause-may c =
     let v = c.self.inside.seat.me.0 in let q = c.args.register in let value = c.index-value.result.now in
     let here : q < v.registers = omega (arith, ap (λ (x : PlainEdgeValue). x.registers) c.self.view_is, c.requires.register) in
     let held = subst (λ (x : PlainEdgeValue). IsHeld (own_lists c.args.end x)) (sym c.self.view_is) c.requires.held in
@@ -22,10 +22,10 @@ invariant_of-self c =
     let v = c.self.inside.seat.me.0 in let items = c.self.inside.registers.items in
     let held = keeps.held_last c.args.end v c.self.invariant.4 (subst (λ (x : PlainEdgeValue). IsHeld (own_lists c.args.end x)) (sym c.self.view_is) c.requires.held) in (
       c.self.invariant.0,
-      c.note.ensures.same ∙ c.self.invariant.1,
-      ap (λ (m : M). m.1) c.note.ensures.now,
-      subst (λ (m : M). AreNow m.0.registers m.0.holds items) (sym c.note.ensures.now) (now_read v.registers v.holds items held c.self.invariant.3 c.args.register c.index-value.result.now),
-      c.note.ensures.kept,
+      c.note_access.ensures.same ∙ c.self.invariant.1,
+      ap (λ (m : M). m.1) c.note_access.ensures.now,
+      subst (λ (m : M). AreNow m.0.registers m.0.holds items) (sym c.note_access.ensures.now) (now_read v.registers v.holds items held c.self.invariant.3 c.args.register c.index-value.result.now),
+      c.note_access.ensures.kept,
     )
 
 pub returns-clause-allowed : goal.returns-clause-allowed
@@ -48,12 +48,12 @@ pub returns-clause-own : goal.returns-clause-own
 returns-clause-own c =
     let inside = c.self.inside in let x0 = plain_edge_value inside.lower inside.higher inside.seat.me.0 in
     let held = subst (λ (x : PlainEdgeValue). IsHeld (own_lists c.args.end x)) (sym c.self.view_is) c.requires.held in
-    ap (λ (m : M). own_lists c.args.end (plain_edge_value inside.lower inside.higher m.0)) c.note.ensures.now
+    ap (λ (m : M). own_lists c.args.end (plain_edge_value inside.lower inside.higher m.0)) c.note_access.ensures.now
     ∙ (keeps.own_changed c.args.end (with_access (Read c.args.register c.index-value.result.now)) x0 (λ h. refl) c.self.invariant.4 held ∙ ap (λ (x : PlainEdgeValue). after_access (Read c.args.register c.index-value.result.now) (own_lists c.args.end x)) c.self.view_is)
 
 pub returns-clause-other : goal.returns-clause-other
 returns-clause-other c =
     let inside = c.self.inside in let x0 = plain_edge_value inside.lower inside.higher inside.seat.me.0 in
     let held = subst (λ (x : PlainEdgeValue). IsHeld (own_lists c.args.end x)) (sym c.self.view_is) c.requires.held in
-    ap (λ (m : M). own_lists (1 - c.args.end) (plain_edge_value inside.lower inside.higher m.0)) c.note.ensures.now
+    ap (λ (m : M). own_lists (1 - c.args.end) (plain_edge_value inside.lower inside.higher m.0)) c.note_access.ensures.now
     ∙ (keeps.other_changed c.args.end (with_access (Read c.args.register c.index-value.result.now)) x0 c.requires.end (λ h. refl) c.self.invariant.4 held ∙ ap (own_lists (1 - c.args.end)) c.self.view_is)
