@@ -30,7 +30,7 @@ TILES = 21_700
 # What the map of 64 tiles takes, most of it for what an event needs in each zone, in kibibytes.
 MAP = 900
 # What a generated world takes, in kibibytes.
-GENERATED = 6_184
+GENERATED = 5_684
 
 
 class Room(NamedTuple):

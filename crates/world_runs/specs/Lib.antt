@@ -4,4 +4,5 @@ pub mod OneOrder
 pub mod OneTile
 pub mod Orders
 pub mod Start
+pub mod Turns
 pub mod Worlds

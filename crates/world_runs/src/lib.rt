@@ -12,6 +12,7 @@ mod starting;
 mod stepping;
 mod threading;
 mod tiles;
+mod turns;
 
 pub use law::{each_attempt_is_an_event, laws, listed_order};
 pub use one_tile::journal;
@@ -21,3 +22,4 @@ pub use starting::start;
 pub use stepping::stepped;
 pub use threading::threaded;
 pub use tiles::fresh_tiles;
+pub use turns::Turns;

@@ -22,8 +22,8 @@ use world_text::World;
 
 /// The stepped run of a world on one thread, settled: its grid and its journal are those of the
 /// stepped machine, and all its events stand in one serial order, that of the journal. There is one
-/// value that acts for each tile, and all have one meaning. `NoMemory` if the grid,
-/// the tiles, the order or the board can't be made, or the list of their logs.
+/// value that acts for each tile, and all have one meaning. `NoMemory` if the grid, the tiles or the
+/// board can't be made, or the list of their logs.
 pub fn stepped<B: Behave + Drop>(
     alloc: Global,
     world: &World,
@@ -40,7 +40,7 @@ pub fn stepped<B: Behave + Drop>(
     plan_fits(&world.plan);
     let grid = start(alloc, world)?;
     let tiles = fresh_tiles(alloc, map, &grid, &world.plan, behaves)?;
-    let order = order_of(alloc, world)?;
     let board = PlainBoard::new(alloc, map)?;
-    run_settled(alloc, map, grid, tiles, board, order.into_iter())
+    let order = order_of(world);
+    run_settled(alloc, map, grid, tiles, board, order)
 }

@@ -1,4 +1,4 @@
-use Rattle.std.proofs.Common.{◌≡◌, ◌<◌, ℕ, List, All, length, ap, sym, subst, ◌∙◌, arith}
+use Rattle.std.proofs.Common.{◌≡◌, ◌<◌, ℕ, List, subst, ◌∙◌, arith}
 use Rattle.std.proofs.lemmas.Result.{IfOk-weaker}
 use Rattle.cell_grid.specs.Grid.{IsGrid}
 use Rattle.tile_map.proofs.Numbers.{tiles_few}
@@ -21,16 +21,13 @@ pub run_settled-requires-clause-start : goal.run_settled-requires-clause-start
 run_settled-requires-clause-start g c = (world_course (world_value c.args.world.now) c.requires.meaning.0, record { tiles_are = all_fresh g.B.Behave.after (world_value c.args.world.now) c.requires.meaning.0 c.args.behaves.items c.in_ok-tiles.tiles.items c.in_ok-grid.grid c.requires.world c.plan_fits.ensures (subst IsGrid c.grid.view_is c.grid.invariant.0) c.in_ok-grid.ensures.fits c.in_ok-grid.ensures.grid c.in_ok-tiles.ensures c.requires.one c.requires.meaning.1; edges = c.in_ok-board.ensures.edges })
 
 pub run_settled-requires-clause-names : goal.run_settled-requires-clause-names
-run_settled-requires-clause-names g c =
-    let within = c.in_ok-order.ensures.tiles in
-    holds_along (λ t. t < tiles_of c.args.world.now.map) c.into_iter.result (subst (All (λ t. t < tiles_of c.args.world.now.map)) (sym c.into_iter.ensures.rest) within)
+run_settled-requires-clause-names g c = holds_along (λ t. t < tiles_of c.args.world.now.map) c.order_of-order.result c.order_of-order.ensures.tiles
 
 pub returns : goal.returns
 returns g c =
     let w = world_value c.args.world.now in
-    let long = c.into_iter.ensures.len ∙ (c.in_ok-order.order.ok.0 ∙ ap length (sym c.into_iter.ensures.rest)) in
     IfOk-weaker c.run_settled.result _ _ (λ o h meaning one.
-    let all : h.0 ≡ order_in w = given_all c.into_iter.result h.0 long h.1 ∙ (c.into_iter.ensures.rest ∙ c.in_ok-order.ensures.value) in
+    let all : h.0 ≡ order_in w = given_all c.order_of-order.result h.0 h.1 ∙ c.order_of-order.ensures.value in
     let settled = h.2 (world_course w meaning) (record { tiles_are = all_fresh g.B.Behave.after (world_value c.args.world.now) meaning c.args.behaves.items c.in_ok-tiles.tiles.items c.in_ok-grid.grid c.requires.world c.plan_fits.ensures (subst IsGrid c.grid.view_is c.grid.invariant.0) c.in_ok-grid.ensures.fits c.in_ok-grid.ensures.grid c.in_ok-tiles.ensures c.requires.one one; edges = c.in_ok-board.ensures.edges }) in
     subst (λ (xs : List ℕ). IsOutcome (world_course w meaning) xs o) all settled) c.run_settled.ensures.outcome
 
@@ -45,7 +42,7 @@ fresh_tiles-requires-clause-start g c = c.in_ok-grid.ensures.fits
 pub fresh_tiles-requires-clause-lists : goal.fresh_tiles-requires-clause-lists
 fresh_tiles-requires-clause-lists g c = c.requires.world.lists
 
-pub order_of-requires-clause-tiles : goal.order_of-requires-clause-tiles
-order_of-requires-clause-tiles g c =
+pub order_of-order-requires-clause-tiles : goal.order_of-order-requires-clause-tiles
+order_of-order-requires-clause-tiles g c =
     let m = (world_value c.args.world.now).plane in
     (some_tiles m c.requires.world.map, tiles_few m c.requires.world.map)
