@@ -1,5 +1,5 @@
 -- The code's trees and lists as plain ones.
-use Rattle.std.specs.Prelude.{ℕ, ◌≡◌, List, [], ◌∷◌, ◌++◌, map, Option, Some, None, option_map, slice_get, Result, IfOk}
+use Rattle.std.specs.Prelude.{ℕ, ◌≡◌, List, [], ◌++◌, map, Option, Some, None, option_map, slice_get, Result, IfOk}
 use Rattle.std.specs.Global.{Vec}
 use Rattle.std.specs.Option.{option_and_then}
 use Rattle.feast_base.specs.declared.place.Place.{Place}

@@ -1,4 +1,4 @@
-//! Names of files that are made anew.
+//! Copies of names.
 ghost use Rattle.std.specs.Prelude.{◌≡◌, IfOk};
 ghost use Rattle.ulam_tree.specs.RawViews.{word_of};
 
