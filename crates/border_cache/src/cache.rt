@@ -381,8 +381,9 @@ fn first_atoms(
     ensures { IfOk result (λ v. AreAtomsIn start.now (patch left top width height) v.items) }
 {
     let mut atoms = Vec::with_capacity(alloc, (width * height) as usize)?;
-    for place in 0..width * height {
-        atoms.push_reserved(start.get(left + place % width, top + place / width));
+    let (first, end) = (left as usize, (left + width) as usize);
+    for y in top..top + height {
+        atoms.extend_from_slice(&start.row(y)[first..end])?;
     }
     Ok(atoms)
 }

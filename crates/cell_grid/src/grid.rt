@@ -1,6 +1,7 @@
 //! A flat grid of atoms: its sites, windows and events.
 ghost use Rattle.std.specs.Prelude.{◌≡◌, false, All, ◌+◌, ◌*◌, ◌≤◌, ◌<◌, ◌^◌, ℕ, IfOk, IfSome, IsSome, MatchOption, None, length, slice_index_or};
 ghost use Rattle.std.specs.Int.RustNames.{unsigned_abs};
+ghost use Rattle.bit_field.specs.Atom.{empty_atom};
 ghost use Rattle.window_sites.specs.Sites.{shift};
 ghost use Rattle.cell_grid.specs.Calm.{IsCalm, IsCorner};
 ghost use Rattle.cell_grid.specs.Grid.{GridValue, IsLive, ArePlanesAlike, empty_grid, site_atom, with_site, place_of, atom_at_place, window_of, put_window, event, below};
@@ -103,6 +104,17 @@ impl Grid {
         ensures { result.now ≡ self.now.atoms }
     {
         self.atoms.as_slice()
+    }
+
+    /// The atoms of a row, one for each column.
+    pub fn row(&self, y: u32) -> &[Atom]
+        requires { y < self.now.height }
+        ensures count { length result.now ≡ self.now.width }
+        ensures atoms { (x : ℕ) → x < self.now.width → slice_index_or result.now x empty_atom ≡ site_atom self.now x y }
+    {
+        let width = self.width as usize;
+        let first = y as usize * width;
+        &self.atoms[first..first + width]
     }
 
     /// Whether a site is live.
