@@ -207,6 +207,14 @@ fn records_are_replayed_in_their_order(rt: HostRuntime) {
     assert!(rt; grid.get(15, 0).state() == 15);
 }
 
+#[test]
+fn a_row_has_the_atoms_of_its_columns(rt: HostRuntime) {
+    let grid = numbered(&rt, rt.alloc());
+    let row = grid.row(2);
+    assert!(rt; row.len() == 16 && row[11].state() == 43);
+    assert!(rt; row[12].state() == 0 && row[15].state() == 47);
+}
+
 /// Makes an event of `Turn` at a site, if it is live. Answers the states of the middle after it.
 fn turned(grid: &mut Grid, x: u32, y: u32) -> [u128; 3]
     requires columns { grid.old.width ≡ 16 }
