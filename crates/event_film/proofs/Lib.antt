@@ -1,5 +1,7 @@
 pub mod BackAgain
+pub mod Bits
 pub mod Frames
+pub mod Gaps
 pub mod Marking
 pub mod Packs
 pub mod Records

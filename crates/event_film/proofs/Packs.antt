@@ -1,234 +1,171 @@
--- Windows on the way of being packed, from the last site to the first, and unpacked, from the first to the last.
-use Rattle.std.proofs.Common.{ℕ, suc, zero, ◌≡◌, ◌<◌, ◌≤◌, ◌+◌, ◌*◌, ◌/◌, ◌%◌, ◌^◌, ◌∙◌, Bool, true, false, List, [], ◌∷◌, ◌++◌, drop, take, length, map, refl, ap, sym, subst, arith, get_or, set}
-use Rattle.std.specs.Prelude.{◌==◌, cond, filter, replicate}
-use Rattle.std.specs.Int.{bit_at, trailing_zeros, w64}
-use Rattle.std.proofs.Math.Pow.{pow_mono}
-use Rattle.std.proofs.Math.Seq.{append_snoc, drop-cons, drop-length}
-use Rattle.std.proofs.Math.Nat.{div-one}
-use Rattle.std.proofs.lemmas.List.{take_more, take_more_set, take_all, take-append-drop, drop-set-lt, length-set, length-replicate, append-nil}
-use Rattle.std.proofs.lemmas.Nat.Bits.{bit_at_lowest, bit_at-suc, bit_at-trailing_zeros}
-use Rattle.bit_field.specs.Atom.{AtomValue, empty_atom}
-use Rattle.window_sites.specs.Window.{WindowValue}
-use Rattle.event_film.specs.Marks.{is_occupied, marked, marks_in, unpacked}
-use Rattle.event_film.specs.Packed.{TakesAtom}
-use Rattle.event_film.proofs.Marking.{marked_more, marks_more, twice_small, marks_first, marks_none, marked_none, unpacked_empty, halved, head_or}
+-- Words on the way of being stored, and taken off again, from the first site to the last.
+use Rattle.std.proofs.Common.{ℕ, suc, zero, ◌≡◌, ◌<◌, ◌≤◌, ◌+◌, ◌-◌, ◌∙◌, Bool, true, false, List, [], ◌∷◌, ◌++◌, drop, take, length, map, refl, ap, sym, arith, get_or, set, drop-drop}
+use Rattle.std.specs.Prelude.{replicate, Some, None}
+use Rattle.std.proofs.Math.Seq.{append_snoc, take-add}
+use Rattle.std.proofs.lemmas.List.{append_assoc, append-nil, take_more_set, take-append-drop, drop-set-lt, drop-replicate, get_or-drop, length-append, length-drop, length-set, length-replicate, take-replicate}
+use Rattle.event_film.specs.Marks.{IsNextSite, SitesFrom, is_nonzero, marked, unpacked}
+use Rattle.event_film.specs.Packed.{packed}
+use Rattle.event_film.proofs.Marking.{marked_more, marked_same}
 
--- the sites of a window from n on are packed upon the old atoms, and these are the bits of their marks
-pub record IsPackedFrom (w : WindowValue) (old : List AtomValue) (n : ℕ) (now : List AtomValue) (live occupied : ℕ) : Type 0 where
-  pub count : ℕ
-  pub all : count + n ≡ 41
-  pub atoms_are : now ≡ filter is_occupied (drop n w.atoms) ++ old
-  pub occupied_is : marks_in count occupied ≡ map is_occupied (drop n w.atoms)
-  pub live_is : marks_in count live ≡ drop n w.live
-  pub occupied_small : occupied < 2 ^ count
-  pub live_small : live < 2 ^ count
+-- the words of some sites, of which the first k are 0 and the next isn't
+record HasNextWord (k : ℕ) (words : List ℕ) (ms : List Bool) : Type 0 where
+  here : k < length words
+  first : packed words ≡ get_or words k 0 ∷ packed (drop (suc k) words)
+  rest : ms ≡ map is_nonzero (drop (suc k) words)
 
-pub packed_none : (w : WindowValue) (old : List AtomValue) → length w.atoms ≡ 41 → length w.live ≡ 41 → IsPackedFrom w old 41 old 0 0
-packed_none w old long marks =
-    let no_atoms : drop 41 w.atoms ≡ [] = ap (λ k. drop k w.atoms) (sym long) ∙ drop-length w.atoms in
-    let no_marks : drop 41 w.live ≡ [] = ap (λ k. drop k w.live) (sym marks) ∙ drop-length w.live in
-    record {
-      count = 0;
-      all = refl;
-      atoms_are = ap (λ xs. filter is_occupied xs ++ old) (sym no_atoms);
-      occupied_is = marks_none 0 ∙ ap (map is_occupied) (sym no_atoms);
-      live_is = marks_none 0 ∙ sym no_marks;
-      occupied_small = omega arith;
-      live_small = omega arith;
-    }
+abbrev tail_or : List Bool → List Bool
+tail_or [] = []
+tail_or (m ∷ ms) = ms
 
--- the next bits fit a word
-pub bits_fit : (w : WindowValue) (old now : List AtomValue) (n live occupied : ℕ) → IsPackedFrom w old n now live occupied → (live < 2 ^ 63) × (occupied < 2 ^ 63)
-bits_fit w old now n live occupied h =
-    let few : h.count ≤ 63 = omega (arith, h.all) in
-    let most = pow_mono few in
-    (omega (arith, h.live_small, most), omega (arith, h.occupied_small, most))
+abbrev head_or : List Bool → Bool
+head_or [] = false
+head_or (m ∷ ms) = m
 
-packed_site : (a : AtomValue) (sites old now new : List AtomValue) → now ≡ filter is_occupied sites ++ old → new ≡ cond (is_occupied a) (a ∷ now) now → new ≡ filter is_occupied (a ∷ sites) ++ old
-packed_site a sites old now new e f = go (is_occupied a) refl
-  where
-    go : (b : Bool) → is_occupied a ≡ b → new ≡ filter is_occupied (a ∷ sites) ++ old
-    go true p = rw p (f ∙ rw p (ap (λ xs. a ∷ xs) e))
-    go false p = rw p (f ∙ rw p e)
+next_word : (k : ℕ) (words : List ℕ) (ms : List Bool) → map is_nonzero words ≡ replicate k false ++ true ∷ ms → HasNextWord k words ms
+next_word zero [] ms e = absurd (cc e)
+next_word (suc k) [] ms e = absurd (cc e)
+next_word zero (w ∷ words) ms e =
+    let set : is_nonzero w ≡ true = ap head_or e in
+    record { here = omega arith; first = rw set refl; rest = sym (ap tail_or e) }
+next_word (suc k) (w ∷ words) ms e =
+    let clear : is_nonzero w ≡ false = ap head_or e in
+    let next = next_word k words ms (ap tail_or e) in
+    record { here = omega (arith, next.here); first = rw clear next.first; rest = next.rest }
 
-pub packed_more : (w : WindowValue) (old now new : List AtomValue) (n m live occupied live' occupied' : ℕ) (d : AtomValue) (e : Bool) → length w.atoms ≡ 41 → length w.live ≡ 41 → n ≡ m + 1 →
-    IsPackedFrom w old n now live occupied → new ≡ cond (is_occupied (get_or w.atoms m d)) (get_or w.atoms m d ∷ now) now →
-    occupied' ≡ 2 * occupied + cond (is_occupied (get_or w.atoms m d)) 1 0 → live' ≡ 2 * live + cond (get_or w.live m e) 1 0 → IsPackedFrom w old m new live' occupied'
-packed_more w old now new n m live occupied live' occupied' d e long marks next h put o l =
-    let a = get_or w.atoms m d in
-    let up : suc m ≡ n = omega (arith, next) in
-    let here : m < length w.atoms = omega (arith, h.all, long, next) in
-    let here_too : m < length w.live = omega (arith, h.all, marks, next) in
-    let site : drop m w.atoms ≡ a ∷ drop n w.atoms = drop-cons w.atoms m d here ∙ ap (λ k. a ∷ drop k w.atoms) up in
-    let mark : drop m w.live ≡ get_or w.live m e ∷ drop n w.live = drop-cons w.live m e here_too ∙ ap (λ k. get_or w.live m e ∷ drop k w.live) up in
-    record {
-      count = suc h.count;
-      all = omega (arith, h.all, next);
-      atoms_are = packed_site a (drop n w.atoms) old now new h.atoms_are put ∙ ap (λ xs. filter is_occupied xs ++ old) (sym site);
-      occupied_is = ap (marks_in (suc h.count)) o ∙ marks_more h.count occupied (is_occupied a) ∙ ap (λ ms. is_occupied a ∷ ms) h.occupied_is ∙ ap (map is_occupied) (sym site);
-      live_is = ap (marks_in (suc h.count)) l ∙ marks_more h.count live (get_or w.live m e) ∙ ap (λ ms. get_or w.live m e ∷ ms) h.live_is ∙ sym mark;
-      occupied_small = rw o (twice_small h.count occupied (is_occupied a) h.occupied_small);
-      live_small = rw l (twice_small h.count live (get_or w.live m e) h.live_small);
-    }
+none_packed : (k : ℕ) (words : List ℕ) → map is_nonzero words ≡ replicate k false → packed words ≡ []
+none_packed k [] e = refl
+none_packed zero (w ∷ words) e = absurd (cc e)
+none_packed (suc k) (w ∷ words) e =
+    let clear : is_nonzero w ≡ false = ap head_or e in
+    rw clear (none_packed k words (ap tail_or e))
 
--- all sites are packed
-pub packed_all : (w : WindowValue) (old now : List AtomValue) (live occupied : ℕ) → IsPackedFrom w old 0 now live occupied →
-    (now ≡ filter is_occupied w.atoms ++ old) × (marks_in 41 occupied ≡ map is_occupied w.atoms) × (marks_in 41 live ≡ w.live)
-packed_all w old now live occupied h =
-    let whole : 41 ≡ h.count = omega (arith, h.all) in
-    (h.atoms_are, ap (λ k. marks_in k occupied) whole ∙ h.occupied_is, ap (λ k. marks_in k live) whole ∙ h.live_is)
+few_first : (w : ℕ) (ws : List ℕ) (b : Bool) → is_nonzero w ≡ b → length (packed ws) ≤ length ws → length (packed (w ∷ ws)) ≤ length (w ∷ ws)
+few_first w ws true e h = rw e (omega (arith, h))
+few_first w ws false e h = rw e (omega (arith, h))
 
--- the bits of all marks fit 41 places
-pub packed_small : (w : WindowValue) (old now : List AtomValue) (live occupied : ℕ) → IsPackedFrom w old 0 now live occupied → (live < 2 ^ 41) × (occupied < 2 ^ 41)
-packed_small w old now live occupied h =
-    let whole : h.count ≤ 41 = omega (arith, h.all) in
-    let most = pow_mono whole in
-    (omega (arith, h.live_small, most), omega (arith, h.occupied_small, most))
+pub few_packed : (words : List ℕ) → length (packed words) ≤ length words
+few_packed [] = omega arith
+few_packed (w ∷ ws) = few_first w ws (is_nonzero w) refl (few_packed ws)
 
--- the first n of some sites, whose marks these are, are taken; the bits are the marks of the others, which are empty yet
-pub record IsTakenTo (marks : List Bool) (old : List AtomValue) (n : ℕ) (sites now : List AtomValue) (left : ℕ) : Type 0 where
-  pub count : ℕ
-  pub all : count + n ≡ 41
-  pub long : length sites ≡ 41
-  pub few : left < 2 ^ count
-  pub sites_are : take n sites ++ unpacked (marks_in count left) now ≡ unpacked marks old
-  pub empty : drop n sites ≡ replicate count empty_atom
-  pub rest : drop (marked (marks_in count left)) now ≡ drop (marked marks) old
+marked_skip : (k : ℕ) (ms : List Bool) → marked (replicate k false ++ ms) ≡ marked ms
+marked_skip zero ms = refl
+marked_skip (suc k) ms = marked_same (replicate k false ++ ms) ∙ marked_skip k ms
 
-pub taken_none : (marks : List Bool) (old sites : List AtomValue) (left : ℕ) → sites ≡ replicate 41 empty_atom → left < 2 ^ 41 → marks_in 41 left ≡ marks → IsTakenTo marks old 0 sites old left
-taken_none marks old sites left none few is = record {
-  count = 41;
-  all = refl;
-  long = ap length none ∙ length-replicate 41 empty_atom;
-  few = few;
-  sites_are = ap (λ ms. unpacked ms old) is;
-  empty = none;
-  rest = ap (λ ms. drop (marked ms) old) is;
-}
+marked_none : (k : ℕ) → marked (replicate k false) ≡ 0
+marked_none zero = refl
+marked_none (suc k) = marked_same (replicate k false) ∙ marked_none k
 
-drop-cons' : (xs : List AtomValue) (n : ℕ) (d : AtomValue) → n < length xs → drop n xs ≡ get_or xs n d ∷ drop (n + 1) xs
-drop-cons' xs n d lt = let up : suc n ≡ n + 1 = omega arith in drop-cons xs n d lt ∙ ap (λ k. get_or xs n d ∷ drop k xs) up
+-- one mark less, once there is a next site; none if there isn't
+pub one_less : (n : ℕ) (s s' : SitesFrom) → IsNextSite s (Some n) s' → marked s.marks ≡ suc (marked s'.marks)
+one_less n s s' next = ap marked next.2 ∙ marked_skip (n - s.at) (true ∷ s'.marks) ∙ marked_more s'.marks
 
-nothing_left : (k : ℕ) → drop {A = AtomValue} k [] ≡ []
-nothing_left zero = refl
-nothing_left (suc k) = refl
+pub none_less : (s s' : SitesFrom) → IsNextSite s None s' → marked s.marks ≡ 0
+none_less s s' end = ap marked end.0 ∙ marked_none (length s.marks)
 
-module _ (a : AtomValue) (ms : List Bool) where
-  site_taken : (old new : List AtomValue) → TakesAtom old a new → unpacked (true ∷ ms) old ≡ a ∷ unpacked ms new
-  site_taken [] new h = λ i. sym h.0 i ∷ unpacked ms (sym h.1 i)
-  site_taken (x ∷ old) new h = λ i. sym h.0 i ∷ unpacked ms (sym h.1 i)
+-- the words of the sites before some are put on the old ones; these sites are marked
+pub record ArePushed (words old : List ℕ) (s : SitesFrom) (now : List ℕ) : Type 0 where
+  pub marks_are : s.marks ≡ map is_nonzero (drop s.at words)
+  pub whole : now ++ packed (drop s.at words) ≡ old ++ packed words
 
-  rest_taken : (old new : List AtomValue) → TakesAtom old a new → drop (marked (true ∷ ms)) old ≡ drop (marked ms) new
-  rest_taken [] new h = nothing_left (marked (true ∷ ms)) ∙ sym (nothing_left (marked ms)) ∙ ap (drop (marked ms)) (sym h.1)
-  rest_taken (x ∷ old) new h = ap (λ k. drop k (x ∷ old)) (marked_more ms) ∙ ap (drop (marked ms)) (sym h.1)
+pub push_begun : (words old : List ℕ) (s : SitesFrom) (marks : List Bool) → s ≡ record { at = 0; marks = marks } → marks ≡ map is_nonzero words → ArePushed words old s old
+push_begun words old s marks e m = rw e (record { marks_are = m; whole = refl })
 
-module _ (marks : List Bool) (old : List AtomValue) where
-  -- one site that isn't occupied
-  skip_one : (n left : ℕ) (sites now : List AtomValue) → IsTakenTo marks old n sites now left → 0 < left → left % 2 ≡ 0 → IsTakenTo marks old (n + 1) sites now (left / 2)
-  skip_one n left sites now h some even = go h.count h.all h.few h.sites_are h.empty h.rest
-    where
-      go : (count : ℕ) → count + n ≡ 41 → left < 2 ^ count → take n sites ++ unpacked (marks_in count left) now ≡ unpacked marks old → drop n sites ≡ replicate count empty_atom → drop (marked (marks_in count left)) now ≡ drop (marked marks) old →
-          IsTakenTo marks old (n + 1) sites now (left / 2)
-      go zero all few s e r = absurd (omega (arith, few, some))
-      go (suc k) all few s e r =
-          let ms = marks_in k (left / 2) in
-          let here : n < length sites = omega (arith, all, h.long) in
-          let split : get_or sites n empty_atom ∷ drop (n + 1) sites ≡ empty_atom ∷ replicate k empty_atom = sym (drop-cons' sites n empty_atom here) ∙ e in
-          let first : marks_in (suc k) left ≡ false ∷ ms = marks_first k left ∙ ap (λ r. (r == 1) ∷ ms) even in
-          record {
-            count = k;
-            all = omega (arith, all);
-            long = h.long;
-            few = omega (arith, few);
-            sites_are = ap (λ xs. xs ++ unpacked ms now) (take_more sites n empty_atom here) ∙ append_snoc (take n sites) (get_or sites n empty_atom) (unpacked ms now)
-                ∙ ap (λ x. take n sites ++ x ∷ unpacked ms now) (ap (head_or empty_atom) split) ∙ ap (λ xs. take n sites ++ unpacked xs now) (sym first) ∙ s;
-            empty = ap (drop 1) split;
-            rest = ap (λ xs. drop (marked xs) now) (sym first) ∙ r;
-          }
+module _ (words old now : List ℕ) (s s' : SitesFrom) where
+  pushed_next : (n : ℕ) → ArePushed words old s now → IsNextSite s (Some n) s' →
+      (n < length words) × (packed (drop s.at words) ≡ get_or words n 0 ∷ packed (drop s'.at words)) × (s'.marks ≡ map is_nonzero (drop s'.at words))
+  pushed_next n h next =
+      let k = n - s.at in
+      let site = next_word k (drop s.at words) s'.marks (sym h.marks_are ∙ next.2) in
+      let there : s.at + k ≡ n = omega (arith, next.0) in
+      let after : s.at + suc k ≡ s'.at = omega (arith, next.0, next.3) in
+      let word : get_or (drop s.at words) k 0 ≡ get_or words n 0 = get_or-drop s.at words k 0 ∙ ap (λ i. get_or words i 0) there in
+      let rest : drop (suc k) (drop s.at words) ≡ drop s'.at words = drop-drop (suc k) s.at words ∙ ap (λ i. drop i words) after in
+      (omega (arith, site.here, there, length-drop s.at words), site.first ∙ (λ i. word i ∷ packed (rest i)), site.rest ∙ ap (map is_nonzero) rest)
 
-  -- so many sites that aren't occupied
-  pub skip_some : (skip n m left : ℕ) (sites now : List AtomValue) → IsTakenTo marks old n sites now left → 0 < left → ((i : ℕ) → i < skip → bit_at left i ≡ 0) → m ≡ n + skip →
-      IsTakenTo marks old m sites now (left / 2 ^ skip)
-  skip_some zero n m left sites now h some clear is = let same : m ≡ n = omega (arith, is) in let one : left / 2 ^ 0 ≡ left = div-one left in rw (same, one) h
-  skip_some (suc skip) n m left sites now h some clear is =
-      let even : left % 2 ≡ 0 = sym (bit_at_lowest left) ∙ clear 0 (omega arith) in
-      let next = skip_some skip (n + 1) m (left / 2) sites now (skip_one n left sites now h some even) (omega (arith, some, even)) (λ i lt. sym (bit_at-suc left i) ∙ clear (suc i) (omega (arith, lt))) (omega (arith, is)) in
-      subst (λ k. IsTakenTo marks old m sites now k) (sym (halved left skip)) next
+  -- the word of the next site
+  pub pushed_more : (n w : ℕ) → ArePushed words old s now → IsNextSite s (Some n) s' → w ≡ get_or words n 0 → ArePushed words old s' (now ++ w ∷ [])
+  pushed_more n w h next is =
+      let site = pushed_next n h next in
+      record {
+        marks_are = site.2;
+        whole = append_snoc now w (packed (drop s'.at words)) ∙ (λ i. now ++ is i ∷ packed (drop s'.at words)) ∙ ap (λ xs. now ++ xs) (sym site.1) ∙ h.whole;
+      }
 
-  -- all sites before the next that is occupied
-  pub skip_all : (n left : ℕ) (sites now : List AtomValue) → IsTakenTo marks old n sites now left → (left ≡ 0 → ⊥) →
-      IsTakenTo marks old (n + trailing_zeros w64 left) sites now (left / 2 ^ trailing_zeros w64 left) × (left / 2 ^ trailing_zeros w64 left % 2 ≡ 1)
-  skip_all n left sites now h some =
-      let short : h.count ≤ 64 = omega (arith, h.all) in
-      let most = pow_mono short in
-      let few : left < 2 ^ 64 = omega (arith, h.few, most) in
-      let more : 0 < left = omega (arith, some) in
-      let place = bit_at-trailing_zeros w64 left more few in
-      (skip_some (trailing_zeros w64 left) n (n + trailing_zeros w64 left) left sites now h more place.2 refl, place.1)
+  -- there is room for it
+  pub push_fits : (n most : ℕ) → ArePushed words old s now → IsNextSite s (Some n) s' → length words ≡ 41 → length old + 41 ≤ most → length now < most
+  push_fits n most h next long room =
+      let site = pushed_next n h next in
+      let all = ap length h.whole in
+      let more = ap length site.1 in
+      omega (arith, all, more, length-append now (packed (drop s.at words)), length-append old (packed words), few_packed words, long, room)
 
-  -- there is a next site, if a bit is left
-  pub has_next : (n left : ℕ) (sites now : List AtomValue) → IsTakenTo marks old n sites now left → left % 2 ≡ 1 → n < 41
-  has_next n left sites now h odd = go h.count h.all h.few
-    where
-      go : (count : ℕ) → count + n ≡ 41 → left < 2 ^ count → n < 41
-      go zero all few = absurd (omega (arith, few, odd))
-      go (suc k) all few = omega (arith, all)
+  -- no further site is marked
+  pub pushed_all : ArePushed words old s now → IsNextSite s None s' → now ≡ old ++ packed words
+  pushed_all h end =
+      let none = none_packed (length s.marks) (drop s.at words) (sym h.marks_are ∙ end.0) in
+      sym (append-nil now) ∙ ap (λ xs. now ++ xs) (sym none) ∙ h.whole
 
-  -- a site that is occupied
-  pub take_one : (n left : ℕ) (sites now new : List AtomValue) (a : AtomValue) → IsTakenTo marks old n sites now left → left % 2 ≡ 1 → TakesAtom now a new → IsTakenTo marks old (n + 1) (set sites n a) new (left / 2)
-  take_one n left sites now new a h odd t = go h.count h.all h.few h.sites_are h.empty h.rest
-    where
-      go : (count : ℕ) → count + n ≡ 41 → left < 2 ^ count → take n sites ++ unpacked (marks_in count left) now ≡ unpacked marks old → drop n sites ≡ replicate count empty_atom → drop (marked (marks_in count left)) now ≡ drop (marked marks) old →
-          IsTakenTo marks old (n + 1) (set sites n a) new (left / 2)
-      go zero all few s e r = absurd (omega (arith, few, odd))
-      go (suc k) all few s e r =
-          let ms = marks_in k (left / 2) in
-          let here : n < length sites = omega (arith, all, h.long) in
-          let split : get_or sites n empty_atom ∷ drop (n + 1) sites ≡ empty_atom ∷ replicate k empty_atom = sym (drop-cons' sites n empty_atom here) ∙ e in
-          let first : marks_in (suc k) left ≡ true ∷ ms = marks_first k left ∙ ap (λ r. (r == 1) ∷ ms) odd in
-          record {
-            count = k;
-            all = omega (arith, all);
-            long = length-set sites n a ∙ h.long;
-            few = omega (arith, few);
-            sites_are = ap (λ xs. xs ++ unpacked ms new) (take_more_set sites n a here) ∙ append_snoc (take n sites) a (unpacked ms new)
-                ∙ ap (λ xs. take n sites ++ xs) (sym (site_taken a ms now new t)) ∙ ap (λ xs. take n sites ++ unpacked xs now) (sym first) ∙ s;
-            empty = drop-set-lt (n + 1) sites n a (omega arith) ∙ ap (drop 1) split;
-            rest = sym (rest_taken a ms now new t) ∙ ap (λ xs. drop (marked xs) now) (sym first) ∙ r;
-          }
+module _ {A : Type 0} (blank : A) where
+  unpacked_skip : (k : ℕ) (ms : List Bool) (items : List A) → unpacked blank (replicate k false ++ ms) items ≡ replicate k blank ++ unpacked blank ms items
+  unpacked_skip zero ms items = refl
+  unpacked_skip (suc k) ms items = ap (λ xs. blank ∷ xs) (unpacked_skip k ms items)
 
-  -- no further site is occupied
-  pub taken_all : (n left : ℕ) (sites now : List AtomValue) → IsTakenTo marks old n sites now left → left ≡ 0 → (sites ≡ unpacked marks old) × (now ≡ drop (marked marks) old)
-  taken_all n left sites now h end =
-      let none = ap (marks_in h.count) end in (
-        sym (take-append-drop n sites) ∙ ap (λ xs. take n sites ++ xs) (h.empty ∙ sym (unpacked_empty h.count now)) ∙ ap (λ ms. take n sites ++ unpacked ms now) (sym none) ∙ h.sites_are,
-        ap (λ k. drop k now) (sym (marked_none h.count)) ∙ ap (λ ms. drop (marked ms) now) (sym none) ∙ h.rest,
-      )
+  unpacked_none : (k : ℕ) (items : List A) → unpacked blank (replicate k false) items ≡ replicate k blank
+  unpacked_none zero items = refl
+  unpacked_none (suc k) items = ap (λ xs. blank ∷ xs) (unpacked_none k items)
 
--- the marks of the first n sites are taken; the bits are those of the others
-pub record AreMarksTo (marks : List Bool) (n : ℕ) (taken : List Bool) (left : ℕ) : Type 0 where
-  pub count : ℕ
-  pub all : count + n ≡ 41
-  pub long : length taken ≡ 41
-  pub marks_are : take n taken ++ marks_in count left ≡ marks
+  -- the items of the sites before some are taken, and the sites from there on are blank yet; these items are left
+  pub record AreTaken (marks : List Bool) (items : List A) (s : SitesFrom) (row left : List A) : Type 0 where
+    pub long : length row ≡ 41
+    pub end : s.at + length s.marks ≡ 41
+    pub row_is : take s.at row ++ unpacked blank s.marks left ≡ unpacked blank marks items
+    pub empty : drop s.at row ≡ replicate (length s.marks) blank
+    pub enough : marked s.marks ≡ length left
 
-pub marks_begun : (marks taken : List Bool) (left : ℕ) → length taken ≡ 41 → marks_in 41 left ≡ marks → AreMarksTo marks 0 taken left
-marks_begun marks taken left long is = record { count = 41; all = refl; long = long; marks_are = is }
+  pub take_begun : (marks : List Bool) (items row : List A) (s : SitesFrom) → s ≡ record { at = 0; marks = marks } → length marks ≡ 41 → row ≡ replicate 41 blank → marked marks ≡ length items → AreTaken marks items s row items
+  take_begun marks items row s e long none enough = rw e (record {
+    long = ap length none ∙ length-replicate 41 blank;
+    end = omega (arith, long);
+    row_is = refl;
+    empty = none ∙ ap (λ k. replicate k blank) (sym long);
+    enough = enough;
+  })
 
-pub marks_taken : (marks taken : List Bool) (n left : ℕ) → n < 41 → AreMarksTo marks n taken left → AreMarksTo marks (n + 1) (set taken n (left % 2 == 1)) (left / 2)
-marks_taken marks taken n left lt h = go h.count h.all h.marks_are
-  where
-    go : (count : ℕ) → count + n ≡ 41 → take n taken ++ marks_in count left ≡ marks → AreMarksTo marks (n + 1) (set taken n (left % 2 == 1)) (left / 2)
-    go zero all s = absurd (omega (arith, all, lt))
-    go (suc k) all s = record {
-      count = k;
-      all = omega (arith, all);
-      long = length-set taken n (left % 2 == 1) ∙ h.long;
-      marks_are = ap (λ xs. xs ++ marks_in k (left / 2)) (take_more_set taken n (left % 2 == 1) (omega (arith, lt, h.long))) ∙ append_snoc (take n taken) (left % 2 == 1) (marks_in k (left / 2))
-          ∙ ap (λ xs. take n taken ++ xs) (sym (marks_first k left)) ∙ s;
-    }
+  module _ (marks : List Bool) (items row : List A) (s s' : SitesFrom) where
+    -- an item is left for the next site
+    pub one_left : (n : ℕ) (left : List A) → AreTaken marks items s row left → IsNextSite s (Some n) s' → 0 < length left
+    one_left n left h next =
+        let count = one_less n s s' next in
+        omega (arith, count, h.enough)
 
-pub marks_ended : (marks taken : List Bool) (left : ℕ) → AreMarksTo marks 41 taken left → taken ≡ marks
-marks_ended marks taken left h =
-    let none : 0 ≡ h.count = omega (arith, h.all) in
-    sym (append-nil (take 41 taken) ∙ take_all 41 taken (omega (arith, h.long))) ∙ ap (λ ms. take 41 taken ++ ms) (sym (ap (λ k. marks_in k left) (sym none) ∙ marks_none left)) ∙ h.marks_are
+    -- the item of the next site
+    pub taken_more : (n : ℕ) (x : A) (left : List A) → AreTaken marks items s row (x ∷ left) → IsNextSite s (Some n) s' → AreTaken marks items s' (set row n x) left
+    taken_more n x left h next =
+        let k = n - s.at in
+        let m = length s.marks in
+        let there : s.at + k ≡ n = omega (arith, next.0) in
+        let size = ap length next.2 ∙ length-append (replicate k false) (true ∷ s'.marks) in
+        let skipped = length-replicate k false in
+        let count = one_less n s s' next in
+        let here : n < length row = omega (arith, next.1, h.long) in
+        let before : take n row ≡ take s.at row ++ replicate k blank =
+        ap (λ i. take i row) (sym there) ∙ take-add s.at k row ∙ ap (λ xs. take s.at row ++ take k xs) h.empty ∙ ap (λ xs. take s.at row ++ xs) (take-replicate k m blank (omega (arith, size, skipped))) in
+        let after : drop s'.at row ≡ replicate (length s'.marks) blank =
+        let far : s.at + (k + 1) ≡ s'.at = omega (arith, next.0, next.3) in
+        let rest : m - (k + 1) ≡ length s'.marks = omega (arith, size, skipped) in
+        ap (λ i. drop i row) (sym far) ∙ sym (drop-drop (k + 1) s.at row) ∙ ap (drop (k + 1)) h.empty ∙ drop-replicate (k + 1) m blank ∙ ap (λ i. replicate i blank) rest in
+        record {
+          long = length-set row n x ∙ h.long;
+          end = omega (arith, h.end, size, skipped, next.0, next.3);
+          row_is = ap (λ i. take i (set row n x) ++ unpacked blank s'.marks left) next.3 ∙ ap (λ xs. xs ++ unpacked blank s'.marks left) (take_more_set row n x here) ∙ append_snoc (take n row) x (unpacked blank s'.marks left)
+              ∙ ap (λ xs. xs ++ x ∷ unpacked blank s'.marks left) before ∙ append_assoc (take s.at row) (replicate k blank) (x ∷ unpacked blank s'.marks left)
+              ∙ ap (λ xs. take s.at row ++ xs) (sym (unpacked_skip k (true ∷ s'.marks) (x ∷ left))) ∙ ap (λ ms. take s.at row ++ unpacked blank ms (x ∷ left)) (sym next.2) ∙ h.row_is;
+          empty = drop-set-lt s'.at row n x (omega (arith, next.3)) ∙ after;
+          enough = omega (arith, count, h.enough);
+        }
+
+    -- no further site is marked
+    pub taken_all : (left : List A) → AreTaken marks items s row left → IsNextSite s None s' → row ≡ unpacked blank marks items
+    taken_all left h end =
+        sym (take-append-drop s.at row) ∙ ap (λ xs. take s.at row ++ xs) (h.empty ∙ sym (unpacked_none (length s.marks) left))
+        ∙ ap (λ ms. take s.at row ++ unpacked blank ms left) (sym end.0) ∙ h.row_is

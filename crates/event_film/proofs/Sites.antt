@@ -1,43 +1,49 @@
--- Atoms that are packed, and unpacked again.
-use Rattle.std.proofs.Common.{suc, ◌≡◌, ◌∙◌, Bool, true, false, List, [], ◌∷◌, ◌++◌, drop, length, map, refl, ap, sym}
-use Rattle.std.specs.Prelude.{◌==◌, ◌&&◌, not, filter}
+-- Words that are packed, and unpacked again, and the atoms that they join to.
+use Rattle.std.proofs.Common.{ℕ, suc, ◌≡◌, ◌<◌, ◌≤◌, ◌%◌, ◌/◌, ◌^◌, ◌∙◌, Bool, true, false, List, [], ◌∷◌, ◌++◌, get_or, length, map, refl, ap, arith, sym}
+use Rattle.std.specs.Prelude.{◌==◌, not}
 use Rattle.std.proofs.lemmas.Bool.{eqb-true}
-use Rattle.bit_field.specs.Atom.{AtomValue, empty_atom}
-use Rattle.event_film.specs.Marks.{is_occupied, marked, unpacked}
-use Rattle.event_film.proofs.Marking.{marked_more}
+use Rattle.bit_field.specs.Atom.{AtomValue, bits_of, empty_atom}
+use Rattle.bit_field.specs.Words.{atom_of}
+use Rattle.bit_field.specs.declared.TheConstants.{STATE_BITS}
+use Rattle.event_film.specs.Marks.{is_nonzero, marked, unpacked}
+use Rattle.event_film.specs.Packed.{joined, packed}
+use Rattle.event_film.proofs.Marking.{marked_more, marked_same}
 
--- an atom that isn't occupied is the empty one
-is_empty : (a : AtomValue) → is_occupied a ≡ false → empty_atom ≡ a
-is_empty a h = go (a.kind == 0) (a.state == 0) refl refl h
+is_zero : (w : ℕ) → is_nonzero w ≡ false → 0 ≡ w
+is_zero w h = go (w == 0) refl h
   where
-    go : (k s : Bool) → (a.kind == 0) ≡ k → (a.state == 0) ≡ s → not (k && s) ≡ false → empty_atom ≡ a
-    go true true p q e = λ i. record { kind = sym (eqb-true a.kind 0 p) i; state = sym (eqb-true a.state 0 q) i }
-    go true false p q e = absurd (cc e)
-    go false s p q e = absurd (cc e)
+    go : (b : Bool) → (w == 0) ≡ b → not b ≡ false → 0 ≡ w
+    go true p e = sym (eqb-true w 0 p)
+    go false p e = absurd (cc e)
 
--- one site more is unpacked
-unpacked_first : (a : AtomValue) (sites rest : List AtomValue) (b : Bool) → is_occupied a ≡ b → unpacked (map is_occupied sites) (filter is_occupied sites ++ rest) ≡ sites → unpacked (map is_occupied (a ∷ sites)) (filter is_occupied (a ∷ sites) ++ rest) ≡ a ∷ sites
-unpacked_first a sites rest true e h = rw e (ap (λ xs. a ∷ xs) h)
-unpacked_first a sites rest false e h = rw e (λ i. is_empty a e i ∷ h i)
+unpacked_first : (w : ℕ) (words : List ℕ) (b : Bool) → is_nonzero w ≡ b → unpacked 0 (map is_nonzero words) (packed words) ≡ words → unpacked 0 (map is_nonzero (w ∷ words)) (packed (w ∷ words)) ≡ w ∷ words
+unpacked_first w words true e h = rw e (ap (λ xs. w ∷ xs) h)
+unpacked_first w words false e h = rw e (λ i. is_zero w e i ∷ h i)
 
 -- what is packed is unpacked again
-pub unpacked_packed : (sites rest : List AtomValue) → unpacked (map is_occupied sites) (filter is_occupied sites ++ rest) ≡ sites
-unpacked_packed [] rest = refl
-unpacked_packed (a ∷ sites) rest = unpacked_first a sites rest (is_occupied a) refl (unpacked_packed sites rest)
+pub unpacked_packed : (words : List ℕ) → unpacked 0 (map is_nonzero words) (packed words) ≡ words
+unpacked_packed [] = refl
+unpacked_packed (w ∷ words) = unpacked_first w words (is_nonzero w) refl (unpacked_packed words)
 
-left_first : (a : AtomValue) (sites rest : List AtomValue) (b : Bool) → is_occupied a ≡ b → drop (marked (map is_occupied sites)) (filter is_occupied sites ++ rest) ≡ rest → drop (marked (map is_occupied (a ∷ sites))) (filter is_occupied (a ∷ sites) ++ rest) ≡ rest
-left_first a sites rest true e h = rw e (ap (λ k. drop k (a ∷ filter is_occupied sites ++ rest)) (marked_more (map is_occupied sites)) ∙ h)
-left_first a sites rest false e h = rw e h
+count_first : (w : ℕ) (words : List ℕ) (b : Bool) → is_nonzero w ≡ b → marked (map is_nonzero words) ≡ length (packed words) → marked (map is_nonzero (w ∷ words)) ≡ length (packed (w ∷ words))
+count_first w words true e h = rw e (marked_more (map is_nonzero words) ∙ ap suc h)
+count_first w words false e h = rw e (marked_same (map is_nonzero words) ∙ h)
 
--- and the others are left
-pub left_packed : (sites rest : List AtomValue) → drop (marked (map is_occupied sites)) (filter is_occupied sites ++ rest) ≡ rest
-left_packed [] rest = refl
-left_packed (a ∷ sites) rest = left_first a sites rest (is_occupied a) refl (left_packed sites rest)
-
-count_first : (a : AtomValue) (sites : List AtomValue) (b : Bool) → is_occupied a ≡ b → marked (map is_occupied sites) ≡ length (filter is_occupied sites) → marked (map is_occupied (a ∷ sites)) ≡ length (filter is_occupied (a ∷ sites))
-count_first a sites true e h = rw e (marked_more (map is_occupied sites) ∙ ap suc h)
-count_first a sites false e h = rw e h
-
-pub count_packed : (sites : List AtomValue) → marked (map is_occupied sites) ≡ length (filter is_occupied sites)
+pub count_packed : (words : List ℕ) → marked (map is_nonzero words) ≡ length (packed words)
 count_packed [] = refl
-count_packed (a ∷ sites) = count_first a sites (is_occupied a) refl (count_packed sites)
+count_packed (w ∷ words) = count_first w words (is_nonzero w) refl (count_packed words)
+
+-- the words of an atom join to it
+back : (a : AtomValue) → a.state < 2 ^ STATE_BITS → atom_of (bits_of a % 2 ^ 64) (bits_of a / 2 ^ 64) ≡ a
+back a h = grind arith
+
+pub joined_words : (atoms : List AtomValue) → ((n : ℕ) → (get_or atoms n empty_atom).state < 2 ^ STATE_BITS) → joined (map (λ a. bits_of a % 2 ^ 64) atoms) (map (λ a. bits_of a / 2 ^ 64) atoms) ≡ atoms
+joined_words [] h = refl
+joined_words (a ∷ atoms) h = λ i. back a (h 0) i ∷ joined_words atoms (λ n. h (suc n)) i
+
+-- more items after those that are marked make no difference
+pub unpacked_more : (marks : List Bool) (words more : List ℕ) → marked marks ≤ length words → unpacked 0 marks (words ++ more) ≡ unpacked 0 marks words
+unpacked_more [] words more h = refl
+unpacked_more (false ∷ ms) words more h = ap (λ xs. 0 ∷ xs) (unpacked_more ms words more (omega (arith, h, marked_same ms)))
+unpacked_more (true ∷ ms) [] more h = absurd (omega (arith, h, marked_more ms))
+unpacked_more (true ∷ ms) (w ∷ words) more h = ap (λ xs. w ∷ xs) (unpacked_more ms words more (omega (arith, h, marked_more ms)))

@@ -25,28 +25,45 @@ sites_same g x y i w ns = refl
 number_small : (n : ℕ) → In n site_numbers → n < 41
 number_small n h = let r = range_in 0 41 n h in omega (arith, r.1)
 
--- the atom of a place that was written and written back
-back_at : (g : GridValue) (x y : ℕ) (w : WindowValue) (i : ℕ) → i < length g.atoms →
-    atom_left (put_window g x y w) (window_of g x y) i (sites_at g x y i site_numbers) ≡ get_or g.atoms i empty_atom
-unfolding put_window
-back_at g x y w i lt = go (sites_at g x y i site_numbers) refl
+-- the atom that a window of a grid leaves at a place of another grid is that of the first, if it is where no site of the window lies
+left_at : (h g : GridValue) (x y i : ℕ) → (sites_at g x y i site_numbers ≡ [] → get_or h.atoms i empty_atom ≡ get_or g.atoms i empty_atom) → atom_left h (window_of g x y) i (sites_at g x y i site_numbers) ≡ get_or g.atoms i empty_atom
+left_at h g x y i untouched = go (sites_at g x y i site_numbers) refl
   where
     numbers : (n : ℕ) → In n (sites_at g x y i site_numbers) → n < 41
-    numbers n h = number_small n (filter_in (λ k. is_place (place_of g x y k) i) site_numbers n h).0
+    numbers n m = number_small n (filter_in (λ k. is_place (place_of g x y k) i) site_numbers n m).0
 
     here : (n : ℕ) → In n (sites_at g x y i site_numbers) → is_place (place_of g x y n) i ≡ true
-    here n h = (filter_in (λ k. is_place (place_of g x y k) i) site_numbers n h).1
+    here n m = (filter_in (λ k. is_place (place_of g x y k) i) site_numbers n m).1
 
-    untouched : sites_at g x y i site_numbers ≡ [] → get_or (put_window g x y w).atoms i empty_atom ≡ get_or g.atoms i empty_atom
-    untouched none =
-        get_or-map-range_with_len (λ k. atom_left g w k (sites_at g x y k site_numbers)) 0 (length g.atoms) i i empty_atom lt (omega arith)
-        ∙ ap (atom_left g w i) none
-
-    go : (ns : List ℕ) → sites_at g x y i site_numbers ≡ ns → atom_left (put_window g x y w) (window_of g x y) i ns ≡ get_or g.atoms i empty_atom
+    go : (ns : List ℕ) → sites_at g x y i site_numbers ≡ ns → atom_left h (window_of g x y) i ns ≡ get_or g.atoms i empty_atom
     go [] is = untouched is
     go (n ∷ ns) is =
         let mine : In n (sites_at g x y i site_numbers) = subst (In n) (sym is) (inl refl) in
         seen-at g x y n (numbers n mine) ∙ ap (atom_at_place g) (placed_at (place_of g x y n) i (here n mine))
+
+-- the atom of a place that was written and written back
+back_at : (g : GridValue) (x y : ℕ) (w : WindowValue) (i : ℕ) → i < length g.atoms →
+    atom_left (put_window g x y w) (window_of g x y) i (sites_at g x y i site_numbers) ≡ get_or g.atoms i empty_atom
+unfolding put_window
+back_at g x y w i lt =
+    left_at (put_window g x y w) g x y i (λ none.
+    get_or-map-range_with_len (λ k. atom_left g w k (sites_at g x y k site_numbers)) 0 (length g.atoms) i i empty_atom lt (omega arith)
+    ∙ ap (atom_left g w i) none)
+
+-- a window that is written where it is already leaves the grid as it was
+pub put_same : (g : GridValue) (x y : ℕ) → put_window g x y (window_of g x y) ≡ g
+unfolding put_window
+put_same g x y =
+    let left = λ (i : ℕ). atom_left g (window_of g x y) i (sites_at g x y i site_numbers) in
+    let new = map left (range_with_len 0 (length g.atoms)) in
+    let size : length new ≡ length g.atoms = length-map-range_with_len left 0 (length g.atoms) in
+    let atoms : new ≡ g.atoms =
+    same_lists new g.atoms size (λ k d lt.
+    get_or_default new k d empty_atom lt
+    ∙ get_or-map-range_with_len left 0 (length g.atoms) k k empty_atom (omega (arith, lt, size)) (omega arith)
+    ∙ left_at g g x y k (λ none. refl)
+    ∙ get_or_default g.atoms k empty_atom d (omega (arith, lt, size))) in
+    λ i. record { width = g.width; height = g.height; atoms = atoms i; live = g.live }
 
 -- a window that is written, and then the one before it, leave the grid as it was
 pub put_twice : (g : GridValue) (x y : ℕ) (w : WindowValue) → put_window (put_window g x y w) x y (window_of g x y) ≡ g

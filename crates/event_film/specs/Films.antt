@@ -1,5 +1,5 @@
 -- Films of events: what is kept of each event that is made, and the grid that undoing them gives.
-use Rattle.std.specs.Prelude.{ℕ, ◌≡◌, ◌+◌, Bool, true, false, List, [], ◌∷◌, ◌++◌, Option, Some, None}
+use Rattle.std.specs.Prelude.{ℕ, ◌≡◌, ◌+◌, Bool, true, false, List, [], ◌∷◌, ◌++◌}
 use Rattle.window_sites.specs.Window.{WindowValue}
 use Rattle.cell_grid.specs.Grid.{GridValue, IsLive, event, put_window, window_of}
 use Rattle.cell_grid.specs.Records.{replay}
@@ -35,11 +35,6 @@ undo_all g (k ∷ ks) = restore (undo_all g ks) k
 -- whatever events are made and then undone, the grid is what it was
 abbrev pub UndoesAll : Type 0
 UndoesAll = (after : WindowValue → ℕ → WindowValue) (g : GridValue) (records : List Record) → undo_all (replay after g records) (film_of after g records) ≡ g
-
--- what taking the last event off a film gives: that event, or nothing if none is kept
-abbrev pub TakesLast : FilmValue → Option Kept → FilmValue → Type 0
-TakesLast old None new = (old.kept ≡ []) × (new ≡ old)
-TakesLast old (Some k) new = (old.kept ≡ new.kept ++ k ∷ []) × (new.spare ≡ old.spare + 1)
 
 -- the last event that is kept, if there is one, was at a live site
 abbrev pub CanUndo : FilmValue → GridValue → Type 0

@@ -1,12 +1,10 @@
 //! Events that can be undone.
 ghost use Rattle.std.specs.Prelude.{◌≡◌, ◌<◌, ◌+◌, ◌∷◌, ◌++◌, [], IfOk};
 ghost use Rattle.cell_grid.specs.Grid.{ArePlanesAlike, IsLive, event};
-ghost use Rattle.event_film.specs.Films.{CanUndo, TakesLast, Undoes, film_value, kept_of};
+ghost use Rattle.event_film.specs.Films.{CanUndo, Undoes, film_value, kept_of};
 
 use crate::frame::Frame;
-use crate::kept::Kept;
-use crate::packing::{pack, unpack};
-use bit_field::Atom;
+use crate::words::Words;
 use cell_grid::{Behave, Grid, Record};
 use feast_base::NoMemory;
 use std::alloc::Global;
@@ -16,31 +14,33 @@ use window_sites::Window;
 /// Events that were made on a grid, in their order, and room for some more. Contracts see the list
 /// of them, each as its centre and the window before it, and how many more there is room for.
 ///
-/// Of a window the atoms of its occupied sites alone are stored, those of all events in one list.
+/// An atom has a word of 64 bits and one of 32. The words of a window's atoms that aren't 0 are stored,
+/// those of all events one after another.
 #[derive(Drop)]
 pub struct Film {
     frames: Vec<Frame>,
-    atoms: Vec<Atom>,
+    words: Words,
     spare: usize,
+    /// The window of the event that is being made or undone.
+    window: Window,
 }
 
 impl Model for Film {
-    ghost use Rattle.std.specs.Prelude.{reverse};
     ghost use Rattle.std.specs.Vec.{vec_capacity};
     ghost use Rattle.event_film.specs.Films.{FilmValue, film_value};
     ghost use Rattle.event_film.specs.Packed.{HasRoom, events_in};
 
     ghost Value = { FilmValue };
 
-    ghost view = { λ f. film_value (reverse (events_in (reverse f.frames.items) (reverse f.atoms.items))) f.spare };
+    ghost view = { λ f. film_value (events_in f.frames.items f.words.lows f.words.highs) f.spare };
 
-    ghost invariant = { λ f. HasRoom (vec_capacity f.frames) (vec_capacity f.atoms) f.spare (reverse f.frames.items) (reverse f.atoms.items) };
+    ghost invariant = { λ f. HasRoom (vec_capacity f.frames) f.spare f.frames.items f.words };
 }
 
 impl Film {
     /// A film that keeps no event yet and has room for `events` of them. All its memory is
-    /// allocated here, 680 bytes an event, since each of the 41 sites of a window may be occupied; of
-    /// that memory, what the occupied sites need is used. `NoMemory` if there is none.
+    /// allocated here, 524 bytes an event, since no word of the 41 atoms of a window may be 0; of that
+    /// memory, what the words that aren't 0 need is used. `NoMemory` if there is none.
     pub fn new(alloc: Global, events: usize) -> Result<Film, NoMemory>
         ensures { IfOk result (λ f. f ≡ film_value [] events) }
     {
@@ -48,8 +48,9 @@ impl Film {
         let sites = events.saturating_mul(41);
         Ok(Film {
             frames: Vec::with_capacity(alloc, events)?,
-            atoms: Vec::with_capacity(alloc, sites)?,
+            words: Words::new(alloc, sites)?,
             spare: events,
+            window: Window::empty(),
         })
     }
 
@@ -58,27 +59,6 @@ impl Film {
         ensures { result ≡ self.now.spare }
     {
         self.spare
-    }
-
-    /// Keeps one more event.
-    fn keep(&mut self, x: u32, y: u32, window: &Window)
-        requires { 0 < self.old.spare }
-        ensures kept { self.new.kept ≡ self.old.kept ++ record { x = x; y = y; window = window.now } ∷ [] }
-        ensures spare { self.new.spare + 1 ≡ self.old.spare }
-    {
-        window.laws();
-        let frame = pack(x, y, window, &mut self.atoms);
-        self.frames.push_reserved(frame);
-        self.spare -= 1;
-    }
-
-    /// Takes the last event off, if one is kept.
-    fn take_last(&mut self) -> Option<Kept>
-        ensures { TakesLast self.old result self.new }
-    {
-        let last = self.frames.pop()?;
-        self.spare += 1;
-        Some(unpack(&last, &mut self.atoms))
     }
 
     /// Makes the event of a record on a grid, and keeps it. Its centre is a live site, and there is
@@ -92,9 +72,13 @@ impl Film {
         ensures plane { ArePlanesAlike grid.old grid.new }
         ensures meaning { B.after behave.new ≡ B.after behave.old }
     {
-        let mut window = grid.window_at(entry.x, entry.y);
-        self.keep(entry.x, entry.y, &window);
-        grid.event_in(entry.x, entry.y, entry.seed, behave, &mut window);
+        grid.read_window(entry.x, entry.y, &mut self.window);
+        self.window.laws();
+        let frame = Frame::of(entry.x, entry.y, &self.window);
+        self.words.push(&frame, &self.window);
+        self.frames.push_reserved(frame);
+        self.spare -= 1;
+        grid.event_in(entry.x, entry.y, entry.seed, behave, &mut self.window);
     }
 
     /// Undoes the last event: each live site of its window gets back the atom that it had before,
@@ -105,12 +89,15 @@ impl Film {
         ensures undoes { Undoes self.old self.new grid.old grid.new result }
         ensures plane { ArePlanesAlike grid.old grid.new }
     {
-        match self.take_last() {
-            None => false,
-            Some(last) => {
-                grid.put_window(last.x, last.y, &last.window);
-                true
-            }
+        let Some(frame) = self.frames.pop() else {
+            return false;
+        };
+        self.spare += 1;
+        grid.read_window(frame.x, frame.y, &mut self.window);
+        // Most events leave their window as it was.
+        if let Some(before) = self.words.take_other(&frame, &self.window) {
+            grid.put_window(frame.x, frame.y, &before);
         }
+        true
     }
 }

@@ -10,8 +10,8 @@ mod frame;
 mod kept;
 mod law;
 mod marks;
-mod packing;
 mod rewinding;
+mod words;
 
 pub use film::Film;
 pub use kept::Kept;
