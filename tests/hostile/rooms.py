@@ -112,7 +112,7 @@ def rooms_of(attempts: int) -> Iterator[Room]:
     for world, fixed, count in (("one", 0, whole), ("many", MAP, parts)):
         yield Room(["audit", world, f"{world}.report", "e"], fixed, 140, count)
         yield Room(["replay", world, f"{world}.report", "e"], fixed, 94, count)
-        yield Room(["rewind", world, f"{world}.report", "10", "e"], fixed, 725, count)
+        yield Room(["rewind", world, f"{world}.report", "10", "e"], fixed, 569, count)
 
 
 def rooms(bench: Bench) -> None:
