@@ -50,21 +50,6 @@ back_at g x y w i lt =
     get_or-map-range_with_len (λ k. atom_left g w k (sites_at g x y k site_numbers)) 0 (length g.atoms) i i empty_atom lt (omega arith)
     ∙ ap (atom_left g w i) none)
 
--- a window that is written where it is already leaves the grid as it was
-pub put_same : (g : GridValue) (x y : ℕ) → put_window g x y (window_of g x y) ≡ g
-unfolding put_window
-put_same g x y =
-    let left = λ (i : ℕ). atom_left g (window_of g x y) i (sites_at g x y i site_numbers) in
-    let new = map left (range_with_len 0 (length g.atoms)) in
-    let size : length new ≡ length g.atoms = length-map-range_with_len left 0 (length g.atoms) in
-    let atoms : new ≡ g.atoms =
-    same_lists new g.atoms size (λ k d lt.
-    get_or_default new k d empty_atom lt
-    ∙ get_or-map-range_with_len left 0 (length g.atoms) k k empty_atom (omega (arith, lt, size)) (omega arith)
-    ∙ left_at g g x y k (λ none. refl)
-    ∙ get_or_default g.atoms k empty_atom d (omega (arith, lt, size))) in
-    λ i. record { width = g.width; height = g.height; atoms = atoms i; live = g.live }
-
 -- a window that is written, and then the one before it, leave the grid as it was
 pub put_twice : (g : GridValue) (x y : ℕ) (w : WindowValue) → put_window (put_window g x y w) x y (window_of g x y) ≡ g
 unfolding put_window

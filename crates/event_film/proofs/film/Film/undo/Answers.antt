@@ -5,7 +5,7 @@ use Rattle.event_film.specs.Films.{FilmValue, restore}
 use Rattle.event_film.specs.Packed.{ArePacked, HasRoom, WordsValue, events_in, last_window, without_last}
 use Rattle.event_film.specs.declared.kept.Kept.{Kept}
 use Rattle.event_film.proofs.Frames.{end_with, events_last, room_more}
-use Rattle.event_film.proofs.Undoing.{put_same}
+use Rattle.cell_grid.proofs.Windows.{put-back}
 use Rattle.event_film.proofs.film.Film.undo.Goals.{in-Some-take_other, in_default-take_other}
 use Rattle.event_film.proofs.film.Film.undo.Goals as goal
 
@@ -50,6 +50,6 @@ returns-clause-undoes c =
     let grid : c.match-take_other.grid ≡ restore g last =
     elim c.match-take_other.branch [
       | in-Some-take_other w ↦ w.grid-is ∙ w.put_window.ensures.grid ∙ ap (put_window g frame.x frame.y) w.in-Some-take_other.ensures.window
-      | in_default-take_other w ↦ w.grid-is ∙ sym (put_same g frame.x frame.y) ∙ ap (put_window g frame.x frame.y) (sym c.read_window.ensures ∙ w.in_default-take_other.ensures.window)
+      | in_default-take_other w ↦ w.grid-is ∙ sym (put-back g frame.x frame.y) ∙ ap (put_window g frame.x frame.y) (sym c.read_window.ensures ∙ w.in_default-take_other.ensures.window)
     ] in
     (last, kept ∙ ap (λ (v : WordsValue). events_in fs v.lows v.highs ++ last ∷ []) (sym c.take_other.ensures.words), ap (λ (v : FilmValue). v.spare + 1) c.self.view_is, grid)
