@@ -217,12 +217,10 @@ def machine(bench: Bench) -> Iterator[Line]:
     }
     for work, words in works.items():
         each: list[Words] = [[taskset(), "-c", str(processor), *words] for processor in bench.processors]
-        alone, together = [], []
-        for _ in range(bench.rounds):
-            alone.append(min(made(call).seconds for call in each))
-            together.append(at_once(each))
-        figure = len(each) * min(alone) / min(together)
-        yield Line(f"{work}, on {len(each)} processors at once", f"{min(together):.3f} s", f"one alone {min(alone):.3f} s", figure, "times its rate")
+        alone = min(made(call).seconds for _ in range(bench.rounds) for call in each)
+        together = min(at_once(each) for _ in range(bench.rounds))
+        figure = len(each) * alone / together
+        yield Line(f"{work}, on {len(each)} processors at once", f"{together:.3f} s", f"one alone {alone:.3f} s", figure, "times its rate")
 
 
 def workers(bench: Bench) -> Iterator[Line]:
