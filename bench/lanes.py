@@ -1,14 +1,15 @@
 #!/usr/bin/env python3
-"""How long the first call would take with so many processors: lanes.py [CHECKOUT] [--lanes N..].
+"""How long `./feast --prove` would take with so many processors: lanes.py [CHECKOUT] [--lanes N..].
 
-It plays the order in which the first call proves the crates of a checkout (this one if none is named), with the seconds
-that its table (tools/first_call/seconds.txt) has for each, and proves nothing. So it shows what another cut of the crates
-brings before anything is proved anew. Crates that wait for a long chain go first, and free processors are shared out as
+It plays the order in which that call proves the crates of a checkout (this one if none is named), with the seconds
+that its table (bench/seconds.txt) has for each, and proves nothing. So it shows what another cut of the crates
+brings before anything is proved anew. Crates on which a heavy chain waits go first, and free processors are shared out as
 the call shares them; a crate that has several is taken to be as much quicker as FASTER says.
 """
 from __future__ import annotations
 
 import argparse
+import re
 import sys
 from dataclasses import dataclass
 from pathlib import Path
@@ -17,7 +18,6 @@ TOP = Path(__file__).resolve().parent.parent
 sys.path.insert(0, str(TOP / "tools"))
 sys.dont_write_bytecode = True
 from first_call.crates import Crate, chains, crates_of_program  # noqa: E402
-from first_call.progress import read  # noqa: E402
 
 # how many times as fast a crate is proved with 1, 2, 3, .. processors: an assumption
 FASTER = (1.0, 1.6, 2.0, 2.3, 2.5, 2.6, 2.7, 2.8)
@@ -45,7 +45,7 @@ def shared(ready: list[Crate], free: int, seconds: dict[str, float]) -> list[Wor
 
 def played(crates: list[Crate], seconds: dict[str, float], lanes: int) -> float:
     """The seconds by the clock in which all are proved."""
-    chain = chains(crates, seconds)
+    chain = chains(crates, {crate.name: crate.weight for crate in crates})
     waiting = sorted(crates, key=lambda it: -chain[it.name])
     done: set[str] = set()
     works: list[Work] = []
@@ -64,9 +64,14 @@ def played(crates: list[Crate], seconds: dict[str, float], lanes: int) -> float:
     return clock
 
 
+def table(path: Path) -> dict[str, float]:
+    """The seconds of each crate, as lines `NAME SECONDS` have them."""
+    return {name: float(seconds) for name, seconds in re.findall(r"^(\w+) (\d+)$", path.read_text(), re.MULTILINE)}
+
+
 def main() -> int:
     """The command."""
-    parser = argparse.ArgumentParser(description="How long the first call would take with so many processors.")
+    parser = argparse.ArgumentParser(description="How long ./feast --prove would take with so many processors.")
     parser.add_argument("checkout", nargs="?", type=Path, default=TOP, metavar="CHECKOUT", help="another checkout (this one)")
     parser.add_argument("--lanes", nargs="+", type=int, default=[2, 4, 8], metavar="N", help="processors (2 4 8)")
     words = parser.parse_args()
@@ -74,7 +79,7 @@ def main() -> int:
         parser.error("--lanes: at least 1")
     try:
         crates = crates_of_program(words.checkout)
-        seconds = read(words.checkout / "tools" / "first_call" / "seconds.txt")
+        seconds = table(words.checkout / "bench" / "seconds.txt")
     except (OSError, KeyError) as why:
         parser.error(f"{words.checkout} is no checkout: {why}")
     if unknown := [it.name for it in crates if it.name not in seconds]:

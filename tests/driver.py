@@ -7,7 +7,8 @@ The parts, in the order in which they are begun:
   hostile     the quick part of hostile use
   pages       the pages: links, paths, files, commands and what they write
   python      what a type checker and a linter find in Python (mypy and flake8, where they are there)
-  first_call  the first call of ./feast, on a toolchain that only pretends
+  first_call  ./feast where the program has to be proved first, on a toolchain that only pretends
+  dist        dist/ is of the sources that lie here; which program is taken, on small repositories that only pretend
   cases       the cases of tests/cases
   tables      the tables of tests/tables
   errors      the examples of docs/errors.md
@@ -21,8 +22,8 @@ As many parts are tried side by side as there are processors; long ones are cut 
 is tried by itself at the end.
 
 A check is named PART/NAME. `-k` chooses those whose names have the word in them, or match it if it has a `*`; it may be
-given several times. The program is the built one, or the one that FEAST_PROGRAM names. The last line counts all
-checks; the status is 1 if one failed.
+given several times. The program is the one that ./feast would run, or the one that FEAST_PROGRAM names. The last line counts
+all checks; the status is 1 if one failed.
 """
 from __future__ import annotations
 
@@ -73,6 +74,7 @@ PARTS = {
     "pages": Part("pages.py", pieces=6),
     "python": Part("python_code.py", wants_program=False, pieces=2),
     "first_call": Part("first_call.py", wants_program=False, aside=True),
+    "dist": Part("dist.py", wants_program=False, aside=True),
     "cases": Part("run.py", aside=True),
     "tables": Part("tables.py", aside=True),
     "errors": Part("errors.py", aside=True),
@@ -186,7 +188,7 @@ def parser() -> argparse.ArgumentParser:
     made = argparse.ArgumentParser(description=__doc__, formatter_class=argparse.RawDescriptionHelpFormatter)
     made.add_argument("parts", metavar="PART", nargs="*", help="these parts alone")
     made.add_argument("-k", dest="words", metavar="WORD", action="append", default=[], help="the checks with this word")
-    made.add_argument("--program", type=Path, metavar="FILE", help="this program, in place of the built one")
+    made.add_argument("--program", type=Path, metavar="FILE", help="this program, in place of that of ./feast")
     made.add_argument("--without-program", action="store_true", help="the parts that want no program")
     made.add_argument("--times", type=int, default=0, metavar="N", help="at the end, the N checks that took longest")
     made.add_argument("--list", action="store_true", help="the names of the checks, which are not tried")
@@ -194,7 +196,7 @@ def parser() -> argparse.ArgumentParser:
 
 
 def program_for(given: Optional[Path], parts: Sequence[str]) -> Optional[Path]:
-    """The program for these parts, None if they want none. LabError if there is none, or it is older than a source."""
+    """The program for these parts, None if they want none. LabError if there is none that was proved of the sources."""
     if not any(PARTS[part].wants_program for part in parts):
         return None
     if given:
@@ -242,7 +244,7 @@ def only(part: str) -> int:
     made = argparse.ArgumentParser(description=sys.modules["__main__"].__doc__,
                                    formatter_class=argparse.RawDescriptionHelpFormatter)
     if PARTS[part].wants_program:
-        made.add_argument("program", metavar="PROGRAM", type=Path, nargs="?", help="the program; else the built one")
+        made.add_argument("program", metavar="PROGRAM", type=Path, nargs="?", help="the program; else that of ./feast")
     made.add_argument("names", metavar="NAME", nargs="*", help="these checks alone")
     given = made.parse_args()
     try:

@@ -1,14 +1,13 @@
 #!/usr/bin/env python3
-"""Tries the first call of `./feast` on a small repository with a toolchain that only pretends: first_call.py [NAME..].
+"""Tries `./feast` where the program has to be proved first, with a toolchain that only pretends: first_call.py [NAME..].
 
-The repository is made in a temporary folder, with a copy of `feast` and of tools/first_call and five crates.
+The repository is made in a temporary folder, with a copy of `feast`, tools/first_call and tools/proved, and five crates.
 The toolchain is tests/fakes: it takes tenths of a second for a crate, and notes its calls.
 """
 from __future__ import annotations
 
 import os
 import pathlib
-import pty
 import re
 import shutil
 import signal
@@ -23,7 +22,9 @@ TOP = pathlib.Path(__file__).resolve().parent.parent
 sys.dont_write_bytecode = True
 
 from checks import flat  # noqa: E402
-from first_call_parts import Crates, Ends, Estimates, Lines, Sessions  # noqa: E402
+from first_call_parts import Crates, Ends  # noqa: E402
+from proved.record import GATE, LAUNCHER, Record, digest_of  # noqa: E402
+from proved.sources import digest  # noqa: E402
 
 # (calls here are to build their own program)
 os.environ.pop("FEAST_PROGRAM", None)
@@ -40,7 +41,7 @@ class Call:
     """A call under way, and how it ended."""
 
     def __init__(self, case: "FirstCall", words: list[str], **changes: str) -> None:
-        environment = {name: value for name, value in os.environ.items() if name not in ("CI", "FEAST_PREVIEW")}
+        environment = {name: value for name, value in os.environ.items() if name != "CI"}
         environment["PATH"] = f"{FAKES}:{environment['PATH']}"
         environment["PRETENDED"] = str(case.top)
         self.process = subprocess.Popen(
@@ -68,13 +69,14 @@ class FirstCall(unittest.TestCase):
         self.top = self.folder / "repository"
         self.top.mkdir()
         shutil.copy(TOP / "feast", self.top)
-        shutil.copytree(TOP / "tools" / "first_call", self.top / "tools" / "first_call")
+        for name in ("first_call", "proved"):
+            shutil.copytree(TOP / "tools" / name, self.top / "tools" / name)
         # The pretended toolchain is quicker than the true one, so it is looked at more often; and memory is enough.
         self.change("call.py", "TICK = 0.5", "TICK = 0.1")
-        self.change("machine.py", "int(found[1]) // 1_000_000 if found else 0", "24")
+        self.change("machine.py", "int(free[1]) // EACH if free else 0", "8")
         self.change("machine.py", "len(os.sched_getaffinity(0))", "4")
-        (self.top / "tools" / "first_call" / "seconds.txt").write_text("feast 2\n")
         (self.top / "crates.txt").write_text(CRATES)
+        (self.top / "HANDLES").write_text("Handles allowed: none.\n")
         for name in ("low", "middle", "beside", "high", "feast", "other"):
             (self.top / "crates" / name / "src").mkdir(parents=True)
             (self.top / "crates" / name / "src" / "lib.rt").write_text(SOURCE)
@@ -147,13 +149,46 @@ class FirstCall(unittest.TestCase):
         self.write("middle", "// changed\n")
         status, _, told = Call(self, ["run"]).end()
         self.assertEqual((status, self.built()[5:]), (STATUS, ["middle", "high", "feast"]), told)
-        self.assertIn("2 of its 5 crates are proved, and the others", told)
+        self.assertIn("3 of its 5 crates are to be proved first", told)
 
     def test_library_of_a_source_that_is_as_it_was_stands(self) -> None:
         Call(self, ["run"]).end()
         self.write("low", SOURCE)
+        self.program.unlink()
         self.assert_ran(Call(self, ["run"]).end(), "<run>")
         self.assertEqual(self.built()[5:], ["feast"])
+
+    def test_program_of_sources_that_have_another_time_stands(self) -> None:
+        Call(self, ["run"]).end()
+        self.write("low", SOURCE)
+        self.assert_ran(Call(self, ["run"]).end(), "<run>")
+        self.assertEqual(self.built()[5:], [])
+
+    def test_deleted_source_is_noticed(self) -> None:
+        self.write("low", SOURCE)
+        more = self.top / "crates" / "low" / "src" / "more.rt"
+        more.write_text(SOURCE)
+        for name in ("moor.rt", "../aside"):
+            Call(self, ["run"]).end()
+            before = len(self.built())
+            more = more.rename(more.parent / name)
+            self.assert_ran(Call(self, ["run"]).end(), "<run>")
+            self.assertEqual(sorted(self.built()[before:]), sorted(["low", "middle", "beside", "high", "feast"]))
+
+    def test_prove_builds_whatever_lies_in_dist(self) -> None:
+        """And does not run the program."""
+        (self.top / "dist").mkdir()
+        shutil.copy("/bin/true", self.top / "dist" / "feast")
+        record = Record("a kit", GATE, digest_of(self.top / "dist" / "feast") or "", digest(self.top))
+        record.write(self.top / "dist" / "PROVED")
+        self.assertEqual(Call(self, ["run"]).end()[:2], (0, ""))
+        for built in (5, 5):
+            status, out, told = Call(self, ["--prove"]).end()
+            self.assertEqual((status, out, len(self.built())), (0, "", built))
+            self.assertTrue(told.endswith("crates/feast/out/feast was proved here, of the sources that lie here\n"), told)
+        self.assert_ran(Call(self, ["run"]).end(), "<run>")
+        made = Record("pretended-kit logic 1", LAUNCHER, digest_of(self.program) or "", digest(self.top))
+        self.assertEqual(Record.read(self.program.with_name("PROVED")), made)
 
     def test_libraries_alone_have_sums(self) -> None:
         Call(self, ["run"]).end()
@@ -175,59 +210,42 @@ class FirstCall(unittest.TestCase):
         self.assert_ran(Call(self, ["run"]).end(), "<run>")
         self.assertEqual(sorted(self.built()[5:]), sorted(self.built()[:5]))
 
-    def test_source_that_changes_meanwhile_is_proved_by_the_next_call(self) -> None:
+    def test_source_that_changes_meanwhile_is_proved_too(self) -> None:
+        """The program of the call is one of the sources that lie there when it is run."""
         call = Call(self, ["run"])
         self.wait_for("build low")
         self.write("low", "// changed\n")
-        self.assert_ran(call.end(), "<run>")
-        self.assert_ran(Call(self, ["run"]).end(), "<run>")
+        ended = call.end()
+        self.assert_ran(ended, "<run>")
+        self.assertIn("a source was changed meanwhile", ended[2])
         self.assertEqual(sorted(self.built()[5:]), sorted(self.built()[:5]))
+        self.assert_ran(Call(self, ["run"]).end(), "<run>")
+        self.assertEqual(len(self.built()), 10)
 
     def test_progress_is_told_line_by_line(self) -> None:
-        told = Call(self, ["run"], FEAST_PREVIEW="no").end()[2]
-        self.assertIn("the program is still to be built: its 5 crates are proved first", told)
-        lines = re.findall(r"feast: (\d) of 5 crates are proved; (.*) gone, (about .* left|soon done); (.*)", told)
-        self.assertEqual([it[0] for it in lines], sorted(it[0] for it in lines), told)
-        doing = list(dict.fromkeys(it[3] for it in lines))
-        proofs = [f"proving {names}" for names in ("low", "middle, beside", "high")]
-        wanted = [*proofs, "proving and building the program"]
-        self.assertEqual([it for it in doing if it in wanted], wanted, told)
-        self.assertEqual(lines[-1][0], "4")
-        self.assertRegex(told, r"proved and built in \d+ s; the program by itself is /.*/crates/feast/out/feast\n\Z")
+        told = Call(self, ["run"]).end()[2]
+        self.assertIn("the program is still to be built: 5 of its 5 crates are to be proved first, 4 at a time; you can", told)
+        lines = re.findall(r"feast: (\d) of 5 crates are proved, (\d+)% of the work, in \d:\d\d:\d\d; now (.*)", told)
+        self.assertEqual([(done, now) for done, _, now in lines],
+                         [("0", "low"), ("1", "middle, beside"), ("3", "high"), ("4", "feast")], told)
+        self.assertEqual([share for _, share, _ in lines], ["0", "20", "60", "80"], told)
+        self.assertRegex(told, r"proved and built in \d:\d\d:\d\d; the program by itself is /.*/crates/feast/out/feast\n\Z")
 
     def test_crate_is_proved_once_those_below_it_are(self) -> None:
-        Call(self, ["run"], FEAST_PREVIEW="no").end()
+        Call(self, ["run"]).end()
         self.assertEqual(self.calls()[:2], ["build low by 4", "low is proved"])
         self.assertEqual(set(self.calls()[2:4]), {"build middle by 2", "build beside by 2"})
         self.assertEqual(set(self.calls()[4:6]), {"middle is proved", "beside is proved"})
         rest = ["build high by 4", "high is proved", "build feast by 4", "feast is proved", "link"]
         self.assertEqual(self.calls()[6:], rest)
 
-    def test_progress_is_a_bar_on_a_terminal(self) -> None:
-        ours, theirs = pty.openpty()
-        process = subprocess.Popen(
-            [str(self.top / "feast"), "run"],
-            env={**os.environ, "PATH": f"{FAKES}:{os.environ['PATH']}", "PRETENDED": str(self.top)},
-            stdout=subprocess.PIPE,
-            stderr=theirs,
-            start_new_session=True,
-        )
-        os.close(theirs)
-        told = read_all(ours)
-        out = process.communicate(timeout=PATIENCE)[0]
-        self.assertEqual(out, b"proved call of <run>\n")
-        gone = r"\d+ s gone, (\d+ (s|min) left|soon done)"
-        self.assertRegex(told, rf"\r\x1b\[K\[#+\.+\] 1/5 crates, {gone}: proving middle, beside\r")
-        self.assertRegex(told, r"preview of <run>\r\n")
-
     def test_little_memory_proves_one_after_another(self) -> None:
-        self.change("machine.py", "return 24", "return 2")
+        self.change("machine.py", "4, 8)", "4, 0)")
         ended = Call(self, ["run"]).end()
         self.assert_ran(ended, "<run>")
         begun = [f"build {name} by 1" for name in ("low", "middle", "beside", "high", "feast")]
         self.assertEqual([it for it in self.calls() if it.startswith("build")], begun)
-        self.assertRegex(ended[2], "1 of 5 crates are proved; .* proving middle\n")
-        self.assertIn("no preview: it wants 4 gigabytes", ended[2])
+        self.assertRegex(ended[2], "1 of 5 crates are proved, .*; now middle\n")
 
     def test_four_calls_build_once(self) -> None:
         calls = [Call(self, ["run", str(number)]) for number in range(4)]
@@ -239,45 +257,16 @@ class FirstCall(unittest.TestCase):
 
     def test_call_that_waited_builds_if_the_first_could_not(self) -> None:
         first = Call(self, ["run"])
-        self.wait_for("try")
+        self.wait_for("build low")
         second = Call(self, ["check"])
         time.sleep(0.5)
         os.kill(first.process.pid, signal.SIGTERM)
         self.assertEqual(first.end()[0], 130)
         self.assert_ran(second.end(), "<check>")
 
-    def test_preview_is_on_standard_error_alone(self) -> None:
-        ended = Call(self, ["run", "world"]).end()
-        self.assert_ran(ended, "<run> <world>")
-        shown = "preview, not proved yet: the call writes\npreview of <run> <world>\n.*end of the preview .status 0."
-        self.assertRegex(ended[2], shown)
-        self.assertEqual(self.count(f"try --data world={self.folder.resolve()}/world -- run world"), 1, self.calls())
-
-    def test_no_preview(self) -> None:
-        for changes in ({"FEAST_PREVIEW": "no"}, {"CI": "true"}):
-            with self.subTest(changes):
-                shutil.rmtree(self.program.parent, ignore_errors=True)
-                status, _, told = Call(self, ["run"], **changes).end()
-                self.assertEqual((status, self.count("try")), (STATUS, 0))
-                self.assertNotIn("preview", told)
-
-    def test_call_too_long_for_a_preview(self) -> None:
-        (self.top / "try-status").write_text("6")
-        ended = Call(self, ["run"]).end()
-        self.assert_ran(ended, "<run>")
-        self.assertIn("feast: no preview: the call takes longer than a minute, or writes more than a mebibyte\n", ended[2])
-        self.assertNotIn("preview of <", ended[2])
-
-    def test_pipe_is_left_to_the_program(self) -> None:
-        os.mkfifo(self.folder / "pipe")
-        ended = Call(self, ["run", "pipe"]).end()
-        self.assert_ran(ended, "<run> <pipe>")
-        self.assertIn("no preview: pipe is no plain file", ended[2])
-        self.assertEqual(self.count("try"), 0)
-
     def test_interrupted(self) -> None:
         for number in (signal.SIGINT, signal.SIGTERM):
-            for moment in ("try", "build middle"):
+            for moment in ("build low", "build middle"):
                 with self.subTest(f"{number.name} at {moment}"):
                     (self.top / "calls").unlink(missing_ok=True)
                     shutil.rmtree(self.program.parent, ignore_errors=True)
@@ -288,11 +277,11 @@ class FirstCall(unittest.TestCase):
                     self.assertEqual((status, out), (130, ""))
                     self.assertIn("feast: interrupted: crates that are proved are kept", told)
                     self.assertEqual(left_over(self.top), [])
-        self.assertIn("1 of its 5 crates is proved", Call(self, ["run"]).end()[2])
+        self.assertIn("4 of its 5 crates are to be proved first", Call(self, ["run"]).end()[2])
 
     def test_what_cannot_be_proved_is_shown(self) -> None:
         (self.top / "fails").write_text("middle")
-        status, out, told = Call(self, ["run"], FEAST_PREVIEW="no").end()
+        status, out, told = Call(self, ["run"]).end()
         self.assertEqual((status, out), (1, ""))
         self.assertIn("error: the sum of middle is not proved\n", told)
         self.assertNotIn("fn good: proved", told)
@@ -307,7 +296,7 @@ class FirstCall(unittest.TestCase):
             with self.subTest(fails):
                 shutil.rmtree(self.program.parent, ignore_errors=True)
                 (self.top / "fails").write_text(fails)
-                told = Call(self, ["run"], FEAST_PREVIEW="no").end()[2]
+                told = Call(self, ["run"]).end()[2]
                 self.assertIn(f"error: the sum of {fails} is not proved\n", told)
                 sums = [note.stem for note in self.program.with_name("rlib").glob("*.sum")]
                 self.assertEqual(sorted(sums), sorted(["low", kept]))
@@ -316,41 +305,17 @@ class FirstCall(unittest.TestCase):
         for crate in ("middle", "feast"):
             with self.subTest(crate):
                 (self.top / "killed").write_text(crate)
-                status, _, told = Call(self, ["run"], FEAST_PREVIEW="no").end()
+                status, _, told = Call(self, ["run"]).end()
                 self.assertEqual(status, 1)
                 # (a shell says so too)
                 ended = "the toolchain was ended by signal 9, most likely for want of memory"
                 self.assertRegex(told, f"== {crate}\n(.*Killed.*\n)?{ended}\n")
-
-    def test_seconds_are_kept_for_the_next_build(self) -> None:
-        Call(self, ["run"], FEAST_PREVIEW="no").end()
-        self.program.with_name("seconds.txt").write_text("low 6000\nhigh 60\n")
-        self.write("low", "// changed\n")
-        told = Call(self, ["run"], FEAST_PREVIEW="no").end()[2]
-        self.assertIn("its 5 crates are proved first, 4 at a time, in about 25 min\n", told)
-        measured = dict(line.split() for line in self.program.with_name("seconds.txt").read_text().splitlines())
-        self.assertEqual(set(measured), {"low", "middle", "beside", "high", "feast"})
-        self.assertLess(int(measured["low"]), 60)
 
     def test_without_the_toolchain(self) -> None:
         call = Call(self, ["run"], PATH="/usr/bin:/bin")
         status, out, told = call.end()
         self.assertEqual((status, out), (1, ""))
         self.assertIn("install the Rattle kit", told)
-
-
-def read_all(terminal: int) -> str:
-    """What is written to a terminal until nobody has it open."""
-    found = b""
-    try:
-        while True:
-            more = os.read(terminal, 4096)
-            if not more:
-                break
-            found += more
-    except OSError:
-        pass
-    return found.decode()
 
 
 def left_over(top: pathlib.Path) -> list[str]:
@@ -367,7 +332,7 @@ def left_over(top: pathlib.Path) -> list[str]:
 
 def checks(_: object) -> Iterator[unittest.TestCase]:
     """The tests of the first call, and those of its parts."""
-    for kind in (FirstCall, Crates, Ends, Estimates, Lines, Sessions):
+    for kind in (FirstCall, Crates, Ends):
         yield from flat(unittest.defaultTestLoader.loadTestsFromTestCase(kind))
 
 

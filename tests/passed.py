@@ -1,7 +1,7 @@
 #!/usr/bin/env python3
-"""Notes that everything passed on a commit: passed.py COMMIT PROGRAM KIT. `./test` calls it; tools/release reads the note.
+"""Notes that everything passed on a commit: passed.py COMMIT PROGRAM KIT. `./test all` calls it; tools/release reads it.
 
-COMMIT is the one that was checked out when ./test began, PROGRAM the file that it built, KIT what `rt version` prints.
+COMMIT is the one that was checked out when it began, PROGRAM the file that it built, KIT what `rt version` prints.
 Nothing is noted if another commit is checked out by now, or the tree has changes.
 """
 from __future__ import annotations

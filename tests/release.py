@@ -12,19 +12,25 @@ import sys
 import tempfile
 import unittest
 from pathlib import Path
-from typing import Iterator, Optional
-
-sys.dont_write_bytecode = True
-from checks import flat  # noqa: E402
+from typing import Iterator
 
 TOP = Path(__file__).resolve().parent.parent
+sys.dont_write_bytecode = True
+sys.path.insert(0, str(TOP / "tools"))
+
+from checks import flat  # noqa: E402
+from proved.found import BUILT  # noqa: E402
+from proved.record import LAUNCHER, Record, digest_of  # noqa: E402
+from proved.sources import digest  # noqa: E402
+from releasing.folder import PATHS  # noqa: E402
+
 # What a commit has at least for a release, beside the tool and the launcher.
 FILES = {
     "README.md": "# feast\n", "CHANGELOG.md": "# Changes\n\n## 0.4.0 (2026-11-30)\n\n- More.\n",
     "CITATION.cff": "cff-version: 1.2.0\nversion: 0.4.0\n", "CONTRIBUTING.md": "x\n", "LICENSE-APACHE": "x\n",
     "LICENSE-MIT": "x\n", "SECURITY.md": "x\n", "VERSION": "0.4.0\n", "docs/page.md": "x\n", "editors/README.md": "x\n",
     "examples/walker.ulam": "element W { }\n", "lab": "#!/bin/sh\n", "tools/first_call/x.py": "", "tools/lab/x.py": "",
-    "crates.txt": "feast:\n", "crates/feast/src/main.rt": "x\n",
+    "crates.txt": "feast:\n", "crates/feast/src/main.rt": "x\n", "HANDLES": "x\n",
     ".gitignore": "out/\n__pycache__/\n",
 }
 PROGRAM = "#!/bin/sh\n# pretends\necho \"did $*\"\n"
@@ -62,11 +68,10 @@ class Repository(unittest.TestCase):
         self.git("commit", "-qm", "all")
         return self.git("rev-parse", "HEAD")
 
-    def call(self, script: str, *words: str, program: Optional[Path] = None) -> subprocess.CompletedProcess[str]:
+    def call(self, script: str, *words: str) -> subprocess.CompletedProcess[str]:
         """A call of a script of the repository. Git takes its names from the environment."""
         around = {name: value for name, value in os.environ.items() if name != "FEAST_PROGRAM"}
         around |= {"PATH": f"{self.kit / 'bin'}:/usr/bin:/bin", "GIT_COMMITTER_NAME": "A", "GIT_COMMITTER_EMAIL": "a@b.c"}
-        around |= {"FEAST_PROGRAM": str(program)} if program else {}
         return subprocess.run([sys.executable, "-B", self.top / script, *words], capture_output=True, text=True,
                               env=around, check=False)
 
@@ -81,14 +86,14 @@ class Repository(unittest.TestCase):
 
 
 class Pretended(Repository):
-    """A small repository, on which ./test has passed."""
+    """A small repository, on which ./test all has passed."""
 
     def setUp(self) -> None:
         super().setUp()
         for name, text in FILES.items():
             self.file(self.top / name, text)
-        self.copy("feast", "tools/release", "tools/releasing", "tests/passed.py")
-        self.program = self.file(self.top / "crates/feast/out/feast", PROGRAM)
+        self.copy("feast", "tools/release", "tools/releasing", "tools/proved", "tests/passed.py")
+        self.program = self.file(self.top / "dist/feast", PROGRAM)
         self.program.chmod(0o755)
         self.git("init", "-q")
         self.head = self.committed()
@@ -98,14 +103,14 @@ class Pretended(Repository):
         """Notes that all passed; what is said."""
         return self.call("tests/passed.py", self.head, str(self.program), "the-kit\n logic 1\n").stdout
 
-    def release(self, program: Optional[Path] = None) -> subprocess.CompletedProcess[str]:
+    def release(self) -> subprocess.CompletedProcess[str]:
         """A call of tools/release."""
-        return self.call("tools/release", str(self.made), program=program)
+        return self.call("tools/release", str(self.made))
 
-    def refused(self, says: str, program: Optional[Path] = None) -> None:
+    def refused(self, says: str) -> None:
         """Tries that a release is refused in one line with these words, and leaves nothing."""
         before = self.git("tag")
-        done = self.release(program)
+        done = self.release()
         self.assertEqual((done.returncode, done.stdout), (1, ""))
         self.assertRegex(done.stderr, r"\Arelease: [^\n]*\n\Z")
         self.assertIn(says, done.stderr)
@@ -118,8 +123,8 @@ class Pretended(Repository):
         self.assertEqual(done.stdout, f"{self.made}: feast 0.4.0; the tag is v0.4.0\n")
         self.assertEqual(self.git("rev-parse", "v0.4.0^{commit}"), self.head)
         told = (self.made / "KIT").read_text()
-        digest = hashlib.sha256(PROGRAM.encode()).hexdigest()
-        self.assertEqual(told, f"commit {self.head}\nproved with the-kit logic 1\nSHA-256 of bin/feast {digest}\n")
+        sum_of = hashlib.sha256(PROGRAM.encode()).hexdigest()
+        self.assertEqual(told, f"commit {self.head}\nproved with the-kit logic 1\nSHA-256 of bin/feast {sum_of}\n")
         self.assertFalse((self.made / "crates.txt").exists() or (self.made / "crates").exists())
         self.assertEqual((self.made / "licences/itoa/LICENSE-MIT").read_text(), "of itoa\n")
 
@@ -132,6 +137,9 @@ class Pretended(Repository):
 
     def test_launcher_of_another_program(self) -> None:
         """FEAST_PROGRAM names another program, by a path from anywhere or in the folder of the call."""
+        built = self.file(self.top / BUILT.program, PROGRAM)
+        built.chmod(0o755)
+        Record("the-kit", LAUNCHER, digest_of(built) or "", digest(self.top)).write(self.top / BUILT.record)
         other = self.file(self.room / "other", "#!/bin/sh\necho other $*\nexit 5\n")
         other.chmod(0o755)
         refused = "feast: the call was refused, with status 5: standard output has the reason\n"
@@ -167,28 +175,31 @@ class Pretended(Repository):
         self.refused("not committed: README.md")
 
     def test_gate(self) -> None:
-        """A run of ./test has to have passed, here and on the very commit."""
+        """A run of ./test all has to have passed, here and on the very commit."""
         note = self.top / ".git" / "feast-passed.json"
         note.unlink()
-        self.refused("no run of ./test has passed in this clone")
+        self.refused("no run of ./test all has passed in this clone")
         note.write_text("{}")
         self.refused("can't be read as the note")
         self.pass_all()
         (self.top / "docs/page.md").write_text("y\n")
         self.committed()
-        self.refused(f"./test has passed on {self.head[:12]}, and not on ")
+        self.refused(f"./test all has passed on {self.head[:12]}, and not on ")
 
     def test_program(self) -> None:
-        """The program has to be the one with which ./test passed, wherever its file is."""
-        other = self.file(self.room / "other", PROGRAM + "# changed\n")
-        self.refused("it is not the program with which ./test has passed", other)
-        self.refused("nothing: No such file", self.room / "nothing")
-        copied = self.file(self.room / "copied", PROGRAM)
+        """The program of dist/ has to be the one with which ./test all passed, whatever FEAST_PROGRAM names."""
+        self.program.write_text(PROGRAM + "# changed\n")
+        self.head = self.committed()
+        self.call("tests/passed.py", self.head, str(self.file(self.room / "gate", PROGRAM)), "the-kit")
+        self.refused("dist/feast: it is not the program with which ./test all has passed")
         self.program.unlink()
-        self.assertEqual(self.release(copied).returncode, 0)
+        self.head = self.committed()
+        self.call("tests/passed.py", self.head, str(self.room / "gate"), "the-kit")
+        self.refused("dist/feast: No such file")
 
     def test_program_that_does_not_run(self) -> None:
         self.program.write_text("#!/bin/sh\nexit 4\n")
+        self.head = self.committed()
         self.pass_all()
         self.refused("bin/feast: ./feast check examples/walker.ulam ended with status 4")
 
@@ -249,25 +260,18 @@ class Real(Repository):
     def setUp(self) -> None:
         super().setUp()
         self.top.mkdir()
-        names = subprocess.run(["git", "ls-files", "-z", "--", ":!crates/*", ":!tests/*"], cwd=TOP, capture_output=True,
-                               text=True, check=True).stdout
-        self.copy_files(names.rstrip("\0").split("\0"))
+        self.copy(*PATHS, "tests/passed.py")
+        program = Path(os.environ["FEAST_PROGRAM"])
+        (self.top / "dist").mkdir()
+        shutil.copy(program, self.top / "dist" / "feast")
         version = (self.top / "VERSION").read_text().strip()
         with (self.top / "CHANGELOG.md").open("a") as changes:
             changes.write(f"\n## {version} (2026-12-01)\n")
-        self.copy("tests/passed.py")
         self.git("init", "-q")
         head = self.committed()
-        program = Path(os.environ["FEAST_PROGRAM"])
         self.call("tests/passed.py", head, str(program), "kit")
-        done = self.call("tools/release", str(self.made), program=program)
+        done = self.call("tools/release", str(self.made))
         self.assertEqual((done.returncode, done.stderr), (0, ""))
-
-    def copy_files(self, names: list[str]) -> None:
-        """Copies files."""
-        for name in names:
-            (self.top / name).parent.mkdir(parents=True, exist_ok=True)
-            shutil.copy(TOP / name, self.top / name)
 
     def used(self, *words: str) -> str:
         """What a call writes in a folder for the pages' commands, with no kit on the PATH."""

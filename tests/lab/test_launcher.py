@@ -11,6 +11,8 @@ from pathlib import Path
 from calls import EXAMPLES, TOP, LabCase, program
 
 from lab.program import QUIET
+from proved.record import LAUNCHER, Record, digest_of
+from proved.sources import digest
 
 WALK, WALKER = EXAMPLES / "walk.world", EXAMPLES / "walker.ulam"
 
@@ -28,22 +30,30 @@ def handle(interrupts: signal.Handlers) -> None:
 
 
 class Launcher(LabCase):
-    """A folder that looks like a clone with a built program."""
+    """A folder that looks like a clone in which a program was proved and built."""
 
     def setUp(self) -> None:
         super().setUp()
         self.top = self.room / "clone"
         (self.top / "crates" / "feast" / "out").mkdir(parents=True)
         (self.top / "tools").mkdir()
-        for name in ("feast", "tools/help.txt", "crates.txt"):
+        for name in ("feast", "tools/help.txt", "crates.txt", "HANDLES"):
             shutil.copy(TOP / name, self.top / name)
+        shutil.copytree(TOP / "tools" / "proved", self.top / "tools" / "proved")
         self.program = self.top / "crates" / "feast" / "out" / "feast"
         shutil.copy(program(), self.program)
+        self.prove()
         self.wrong = self.file("wrong.ulam", "element A { Void behave() { n = 1; } }")
 
     def pretend(self, script: str) -> None:
         """Puts a script in place of the program."""
         self.program.write_text(f"#!/bin/sh\n{script}\n")
+        self.prove()
+
+    def prove(self) -> None:
+        """Notes that the program was proved."""
+        record = Record("a kit", LAUNCHER, digest_of(self.program) or "", digest(self.top))
+        record.write(self.program.with_name("PROVED"))
 
     def call(self, *words: str | Path, out: int = subprocess.PIPE) -> subprocess.CompletedProcess[bytes]:
         """A call of the launcher."""
@@ -164,9 +174,10 @@ class Launcher(LabCase):
 
     def test_without_setpriv(self) -> None:
         """Where the system has no `setpriv`, or one that can't do this, the program runs in place of the launcher."""
+        self.call("check", WALKER)  # (which finds the program)
         tools = self.room / "bin"
         tools.mkdir()
-        for name in ("sh", "dirname", "readlink", "find", "head", "tail", "cat"):
+        for name in ("sh", "readlink", "find", "sha256sum", "tail", "cat"):
             (tools / name).symlink_to(shutil.which(name) or "")
         for has_old in (False, True):
             if has_old:

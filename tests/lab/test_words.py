@@ -8,6 +8,8 @@ from calls import EXAMPLES, TOP, LabCase, Word, around, lab, program
 
 from lab.limits import MOST_COLUMNS
 from lab.main import VERBS
+from proved.record import LAUNCHER, Record, digest_of
+from proved.sources import digest
 
 
 class Words(LabCase):
@@ -31,8 +33,8 @@ class Words(LabCase):
                          (2, "", f"lab: {self.room / 'nothing'}: FEAST_PROGRAM names it, and it is no program\n"))
 
     def test_program_that_is_not_built(self) -> None:
-        """In a clone the built program is found, unless it is missing or older than a source."""
-        for name in ("lab", "crates.txt"):
+        """In a clone the program is found that was proved of its sources, if there is one."""
+        for name in ("lab", "crates.txt", "HANDLES"):
             shutil.copy(TOP / name, self.room)
         shutil.copytree(TOP / "tools", self.room / "tools")
         source = self.room / "crates" / "feast" / "src" / "main.rt"
@@ -48,15 +50,18 @@ class Words(LabCase):
                                   capture_output=True, text=True, env=bare, check=False)
             return done.returncode, done.stderr
 
-        built = self.room / "crates" / "feast" / "out" / "feast"
-        self.assertEqual(call(), (2, f"lab: {built}: the program is not built yet; "
-                                     "run ./feast once, which builds it\n"))
-        built.parent.mkdir()
-        shutil.copy(program(), built)
-        self.assertEqual(call(), (0, ""))
-        os.utime(source, (built.stat().st_mtime + 1,) * 2)
-        self.assertEqual(call(), (2, f"lab: {built}: older than its sources; "
-                                     "run ./feast once, which builds it again\n"))
+        none = f"lab: no program was proved of the sources of {self.room}: %s; ./feast --prove makes one\n"
+        self.assertEqual(call(), (2, none % "there is no dist/PROVED"))
+        for folder in (self.room / "dist", self.room / "crates" / "feast" / "out"):
+            folder.mkdir(exist_ok=True)
+            shutil.copy(program(), folder / "feast")
+            record = Record("a kit", LAUNCHER, digest_of(program()) or "", digest(self.room))
+            record.write(folder / "PROVED")
+            said = "feast: the program of dist/, proved of these sources with a kit; ./feast --prove proves it here\n"
+            self.assertEqual(call(), (0, said if folder.name == "dist" else ""))
+            self.assertEqual(call(), (0, ""))
+        source.write_text("// changed\n")
+        self.assertEqual(call(), (2, none % "dist/PROVED is of other sources than lie here"))
 
     def test_program_that_fails(self) -> None:
         """A call that ends without a line of its own is told by its status or its signal."""

@@ -1,6 +1,6 @@
 """Finds the modules of the lab: beside this package in a clone, and inside it where it is installed.
 
-The lab's own modules are called `lab` and `first_call`. They are put into `sys.modules` from their folders, so nothing
+The lab's own modules are called `lab` and `proved`. They are put into `sys.modules` from their folders, so nothing
 of these names has to be installed or to be on the path; a program that has imported another `lab` is told so.
 """
 import sys
@@ -9,7 +9,7 @@ from pathlib import Path
 
 HERE = Path(__file__).resolve().parent
 INSIDE = HERE / "parts_of_the_lab"
-NAMES = ("first_call", "lab")
+NAMES = ("proved", "lab")
 
 
 def load(name: str) -> None:

@@ -1,5 +1,2 @@
-"""The first call of `./feast`: proves and builds the program, shows progress, and runs it.
-
-`./feast` hands its words over to this package if the program isn't built, or a source is newer. The order of things is in
-`call`; each other module says at its top what it is for.
-"""
+"""Proves and builds the program in a clone, and runs it: what `./feast` does if no program was proved of the sources that lie
+there, and for `--prove`. The order of things is in `call`; each other module says at its top what it is for."""

@@ -1,14 +1,16 @@
 """A build: the crates proved side by side, each once those below it are, and followed until all are."""
-import os
 import re
 import time
+from datetime import timedelta
 from pathlib import Path
 
-from first_call import progress
+from proved.found import BUILT
+from proved.record import LAUNCHER, Record, digest_of
+from proved.sources import digest
+
 from first_call.crates import Crate, chains, crates_of_program
-from first_call.machine import Child, lanes_here, spent_by_sessions
-from first_call.progress import Progress, Status
-from first_call.teller import spoken
+from first_call.machine import Child, lanes_here
+from first_call.teller import say
 from first_call.toolchain import Toolchain
 
 # Lines of the toolchain that say what went well.
@@ -38,70 +40,70 @@ class Work(Child):
 
 
 class Build:
-    """A build of the program below a folder."""
+    """A build of the program in a clone."""
 
-    def __init__(self, top: Path, program: Path) -> None:
-        self.start = time.time_ns()
-        self.program = program
-        self.logs, self.measured = program.with_name("first-call"), program.with_name("seconds.txt")
+    def __init__(self, top: Path) -> None:
+        self.top, self.sources, self.start = top, digest(top), time.monotonic()
+        self.logs = (top / BUILT.program).with_name("first-call")
         self.logs.mkdir(exist_ok=True)
-        self.toolchain = Toolchain(program.with_name("rlib"))
+        self.toolchain = Toolchain(self.logs.with_name("rlib"))
         self.lanes = lanes_here()
         self.crates = crates_of_program(top)
         self.sums = self.toolchain.sums(self.crates)
-        done: set[str] = set()
-        for crate in self.crates:
-            if done.issuperset(crate.below) and self.toolchain.stands(crate.name, self.sums[crate.name]):
-                done.add(crate.name)
-        expected = progress.expected(self.crates, self.measured)
-        self.progress = Progress(expected, self.lanes, done)
-        chain = chains(self.crates, expected)
-        self.waiting = sorted((it for it in self.crates if it.name not in done), key=lambda it: -chain[it.name])
+        stand = self.toolchain.stand(self.sums)
+        self.done = {crate.name for crate in self.crates if stand.issuperset([*crate.below, crate.name])}
+        self.weights = {crate.name: crate.weight for crate in self.crates}
+        chain = chains(self.crates, self.weights)
+        self.waiting = sorted((it for it in self.crates if it.name not in self.done), key=lambda it: -chain[it.name])
         self.works: list[Work] = []
 
-    def announcement(self) -> str:
-        """What is to be done, and how long that takes."""
-        status = self.status()
-        crates = f"its {status.crates} crates are"
-        if status.done:
-            proved = f"{status.done} of its {status.crates} crates {'is' if status.done == 1 else 'are'} proved"
-            crates = f"{proved}, and the others are"
-        time_left = f"{self.lanes} at a time, in about {spoken(status.left)}"
-        return f"the program is still to be built: {crates} proved first, {time_left}"
+    def plan(self) -> str:
+        """What is to be done."""
+        left = f"{len(self.waiting)} of its {len(self.crates)} crates"
+        return f"the program is still to be built: {left} are to be proved first, {self.lanes} at a time"
 
-    def status(self) -> Status:
-        """How far it is."""
-        return self.progress.status([work.crate.name for work in self.works])
+    def tell(self) -> None:
+        """Says how far it is."""
+        share = sum(self.weights[name] for name in self.done) / sum(self.weights.values())
+        now = ", ".join(work.crate.name for work in self.works)
+        say(f"{len(self.done)} of {len(self.crates)} crates are proved, {share:.0%} of the work, in {self.gone()}; now {now}")
+
+    def gone(self) -> timedelta:
+        """How long it has taken so far, in whole seconds."""
+        return timedelta(seconds=round(time.monotonic() - self.start))
 
     def begin_ready(self) -> bool:
-        """Begins crates that wait for no other, and shares the free processors among them. If there are too few, those
-        go first on which the longest chains of others stand. False if all is done."""
-        ready = [crate for crate in self.waiting if self.progress.done.issuperset(crate.below)]
+        """Begins crates that wait for no other, first those on which the heaviest chains of others stand, and shares the free
+        processors among them. False if all is done."""
+        ready = [crate for crate in self.waiting if self.done.issuperset(crate.below)]
         free = self.lanes - sum(work.jobs for work in self.works)
         jobs = max(free // max(len(ready), 1), 1)
         for crate in ready[:free]:
             self.waiting.remove(crate)
             self.toolchain.note(crate.name).unlink(missing_ok=True)
-            log = self.logs / f"{crate.name}.log"
-            self.works.append(Work(crate, jobs, self.toolchain.command(crate, jobs), log))
+            self.works.append(Work(crate, jobs, self.toolchain.command(crate, jobs), self.logs / f"{crate.name}.log"))
+        if ready[:free]:
+            self.tell()
         return bool(self.works)
 
     def look(self) -> None:
-        """Takes in how far the crates under way are. Refused if one could not be proved or built."""
-        sessions, spent = spent_by_sessions(), self.progress.spent
-        for work in list(self.works):
+        """Takes in which crates are done. Refused if one could not be proved or built."""
+        for work in [work for work in self.works if work.poll() == 0]:
             name = work.crate.name
-            spent[name] = max(spent.get(name, 0.0), sessions.get(work.pid, 0.0))
-            if work.poll() == 0:
-                self.works.remove(work)
-                self.progress.done.add(name)
-                # (a library of sources that changed meanwhile isn't kept)
-                if self.toolchain.library(name).is_dir() and self.toolchain.sums(self.crates)[name] == self.sums[name]:
-                    self.toolchain.note(name).write_text(self.sums[name])
+            self.works.remove(work)
+            self.done.add(name)
+            # (a library of sources that changed meanwhile isn't kept)
+            if self.toolchain.library(name).is_dir() and self.toolchain.sums(self.crates)[name] == self.sums[name]:
+                self.toolchain.note(name).write_text(self.sums[name])
         if faults := "".join(work.faults() for work in self.works if work.returncode):
             raise Refused(faults)
 
-    def finish(self) -> None:
-        """Sets the program's time, so that a source that was changed since the build began is newer, and notes the seconds."""
-        os.utime(self.program, ns=(self.start, self.start))
-        progress.write(self.measured, progress.read(self.measured) | self.progress.spent)
+    def finish(self) -> bool:
+        """Puts the record of the proof beside the program. False if a source was changed since the build began: what it made
+        then is no program of the sources, and has no record."""
+        if digest(self.top) != self.sources:
+            return False
+        program = self.top / BUILT.program
+        Record(self.toolchain.name, LAUNCHER, digest_of(program) or "", self.sources).write(self.top / BUILT.record)
+        say(f"proved and built in {self.gone()}; the program by itself is {program}")
+        return True

@@ -1,4 +1,4 @@
-"""The crates that the program is made of, as crates.txt lists them, and their sources."""
+"""The crates that the program is made of, as crates.txt lists them, and how heavy they are."""
 import os
 import re
 from collections.abc import Iterator, Mapping
@@ -7,7 +7,8 @@ from graphlib import TopologicalSorter
 from pathlib import Path
 
 PROGRAM = "feast"
-SUFFIXES = (".rt", ".antt")
+# What a line of code, or of a definition or a proof, adds to the weight of a crate: roughly the seconds of its proof.
+EACH_LINE = {".rt": 0.1, ".antt": 0.02}
 
 
 @dataclass(frozen=True)
@@ -19,6 +20,11 @@ class Crate:
     folder: Path
     below: tuple[str, ...]
     named: tuple[str, ...] = ()
+
+    @property
+    def weight(self) -> float:
+        """How much there is to prove."""
+        return 1 + sum(EACH_LINE[path.suffix] * path.read_bytes().count(b"\n") for path in sources_of(self.folder))
 
 
 def listed(top: Path) -> dict[str, list[str]]:
@@ -37,25 +43,16 @@ def crates_of_program(top: Path) -> list[Crate]:
     return [Crate(name, top / "crates" / name, below[name], tuple(named[name])) for name in (*below[PROGRAM], PROGRAM)]
 
 
-def chains(crates: list[Crate], seconds: Mapping[str, float]) -> dict[str, float]:
-    """The seconds of the longest chain of crates, each above the one before it, that begins with each crate."""
+def chains(crates: list[Crate], weights: Mapping[str, float]) -> dict[str, float]:
+    """The weight of the heaviest chain of crates, each above the one before it, that begins with each crate."""
     found: dict[str, float] = {}
     for crate in reversed(crates):
-        above = (found[it.name] for it in crates if crate.name in it.below)
-        found[crate.name] = seconds[crate.name] + max(above, default=0.0)
+        found[crate.name] = weights[crate.name] + max((found[it.name] for it in crates if crate.name in it.below), default=0.0)
     return found
 
 
 def sources_of(folder: Path) -> Iterator[Path]:
-    """The sources below a folder, in an order that is always the same; what is built doesn't count."""
+    """The code, definitions and proofs below a folder, in an order that is always the same; what is built doesn't count."""
     for at, folders, names in os.walk(folder):
-        folders[:] = sorted(it for it in folders if it != "out")
-        yield from (Path(at, name) for name in sorted(names) if name.endswith(SUFFIXES))
-
-
-def is_stale(top: Path, program: Path) -> bool:
-    """Whether there is no program, or a source is newer."""
-    if not os.access(program, os.X_OK):
-        return True
-    built = program.stat().st_mtime_ns
-    return any(path.stat().st_mtime_ns > built for path in [top / "crates.txt", *sources_of(top / "crates")])
+        folders[:] = sorted(it for it in folders if Path(at, it) != folder / "out")
+        yield from (Path(at, name) for name in sorted(names) if name.endswith(tuple(EACH_LINE)))

@@ -1,29 +1,25 @@
-"""The commands that prove a crate and make its library or the program, and the libraries that stand.
-
-A library holds the statements that crates above it can cite, and not their proofs. Each crate above would have to
-load all proofs below it, in the end for longer than its own take. Beside each library stands a file with the sum of all
-that it was made from.
-"""
+"""The commands that prove a crate and make its library or the program, and the libraries that stand, each with the sum of
+all that it was made from. A library holds the statements that crates above it can cite, and not their proofs: each crate
+above would have to load all proofs below it, in the end for longer than its own take."""
 import hashlib
 import shlex
-import shutil
+import subprocess
+from collections.abc import Mapping
 from pathlib import Path
+
+from proved.record import kit
 
 from first_call.crates import PROGRAM, Crate, sources_of
 
-TARGET = "x86_64-unknown-linux-gnu"
-
 
 class Toolchain:
-    """The toolchain whose command a shell would run: its folder, and the folder to which the repository's libraries go.
-    FileNotFoundError if not all of it is there."""
+    """The toolchain whose command `rt` a shell would run: its name, its folder, and the folder to which the repository's
+    libraries go. CalledProcessError if it doesn't answer."""
 
     def __init__(self, libraries: Path) -> None:
-        self.folder, self.libraries = Path(shutil.which("rt") or "").resolve().parent.parent, libraries
-        libraries.mkdir(parents=True, exist_ok=True)
-        for program in ("rattle", "rattle-link"):
-            if not (self.folder / "bin" / program).is_file():
-                raise FileNotFoundError(f"the toolchain in {self.folder} has no bin/{program}: install the whole Rattle kit")
+        page = subprocess.run(["rt", "doc"], stdout=subprocess.PIPE, text=True, check=True).stdout.strip()
+        self.name, self.folder, self.libraries = kit(), Path(page).parent, libraries
+        libraries.mkdir(exist_ok=True)
 
     def library(self, name: str) -> Path:
         """Where the library of a crate goes."""
@@ -31,21 +27,20 @@ class Toolchain:
 
     def note(self, name: str) -> Path:
         """The file with the sum of a library."""
-        return self.libraries / f"{name}.sum"
+        return self.library(name).with_suffix(".sum")
 
-    def stands(self, name: str, wanted: str) -> bool:
-        """Whether there is a library of a crate with the sum that is wanted."""
-        return self.library(name).is_dir() and self.note(name).is_file() and self.note(name).read_text() == wanted
+    def stand(self, sums: Mapping[str, str]) -> set[str]:
+        """The crates of which there are libraries with these sums."""
+        noted = {name for name in sums if self.library(name).is_dir() and self.note(name).is_file()}
+        return {name for name in noted if self.note(name).read_text() == sums[name]}
 
     def sums(self, crates: list[Crate]) -> dict[str, str]:
-        """The sum that the library of each crate is to have, the lowest first: of the toolchain, its sources and those below
-        it."""
+        """The sum that the library of each crate is to have: of the toolchain, its sources, and the sums of those below."""
         found: dict[str, str] = {}
-        version = (self.folder / "WHAT").read_bytes()
         for crate in crates:
             sources = [(path.relative_to(crate.folder), path.read_bytes()) for path in sources_of(crate.folder)]
-            parts = [version, sources, crate.named, [found[name] for name in crate.below]]
-            found[crate.name] = hashlib.sha256(repr(parts).encode()).hexdigest()
+            whole = repr([self.name, sources, crate.named, [found[name] for name in crate.below]])
+            found[crate.name] = hashlib.sha256(whole.encode()).hexdigest()
         return found
 
     def command(self, crate: Crate, jobs: int) -> list[str]:
@@ -56,16 +51,16 @@ class Toolchain:
         parts = ["--toolchain", f"{self.folder}/toolchain"]
         proof = [*self.proof(crate, "src/main.rt", jobs), *parts, "--backend", "llvm", "-o", made]
         native = [f"{self.folder}/c/{name}" for name in ("libos_c.a", "liblibc_c.a")]
-        link = [f"{self.folder}/bin/rattle-link", "--target", TARGET, *parts, "-o", program, made, *native]
+        link = [f"{self.folder}/bin/rattle-link", "--target", "x86_64-unknown-linux-gnu", *parts, "-o", program, made, *native]
         return ["sh", "-c", f"{shlex.join(proof)} && {shlex.join(link)}"]
 
     def proof(self, crate: Crate, root: str, jobs: int) -> list[str]:
         """The words that prove a crate from nothing, over the libraries that it names."""
-        kit = f"{self.folder}/rlibs"
+        libraries = f"{self.folder}/rlibs"
         words = [f"{self.folder}/bin/rattle", "build", "--crate-name", crate.name, root]
         for name in ("std", *crate.named):
-            words += ["--extern", f"{name}={self.libraries if name in crate.below else kit}/{name}.rlib"]
-        words += ["-L", f"dependency={kit}", "-L", f"dependency={self.libraries}"]
+            words += ["--extern", f"{name}={self.libraries if name in crate.below else libraries}/{name}.rlib"]
+        words += ["-L", f"dependency={libraries}", "-L", f"dependency={self.libraries}"]
         words += ["--antt-project", f"{self.folder}/rattle/logic/antt-project.json"]
         words += ["--logic-built", f"{self.folder}/logic_built", "--jobs", str(jobs), "--links", f"{crate.name}="]
         return words

@@ -6,13 +6,12 @@ from collections.abc import Sequence
 from dataclasses import dataclass
 from pathlib import Path
 
-from first_call.crates import is_stale
+from proved.found import NotFound, find
 
 from lab.errors import LabError
 
 TOP = Path(__file__).resolve().parent.parent.parent
 SOURCES = TOP / "crates.txt"
-BUILT = TOP / "crates" / "feast" / "out" / "feast"
 # The program of a released folder, which has no sources.
 RELEASED = TOP / "bin" / "feast"
 INSTEAD = "FEAST_PROGRAM"
@@ -37,13 +36,14 @@ class Answer:
 
 @dataclass(frozen=True)
 class Program:
-    """The built program."""
+    """A built program."""
 
     path: Path
 
     @staticmethod
     def find() -> "Program":
-        """The program that `./feast` would run: the built or the released one, unless FEAST_PROGRAM names another."""
+        """The program that `./feast` would run: one that was proved of the sources of this clone, or the one of a released
+        folder, unless FEAST_PROGRAM names another."""
         instead = os.environ.get(INSTEAD)
         if instead:
             if not os.access(instead, os.X_OK):
@@ -51,11 +51,10 @@ class Program:
             return Program(Path(instead).resolve())
         if not SOURCES.exists():
             return Program(RELEASED)
-        if not os.access(BUILT, os.X_OK):
-            raise LabError(f"{BUILT}: the program is not built yet; run ./feast once, which builds it")
-        if is_stale(TOP, BUILT):
-            raise LabError(f"{BUILT}: older than its sources; run ./feast once, which builds it again")
-        return Program(BUILT)
+        try:
+            return Program(find(TOP))
+        except NotFound as why:
+            raise LabError(f"no program was proved of the sources of {TOP}: {why}; ./feast --prove makes one") from None
 
     def call(self, words: Sequence[str | Path], cwd: Path | None = None) -> Answer:
         """Calls the program on words; what it refuses is raised as its own line."""

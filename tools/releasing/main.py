@@ -1,8 +1,8 @@
 """Makes a released folder of the commit that is checked out, and tags the commit with the version's number.
 
-It asks that the tree has no change, that VERSION, CHANGELOG.md and CITATION.cff agree, that the last run of ./test in
-this clone passed on this very commit, and that the program is the one that was built then. FEAST_PROGRAM names
-another file of that program than the built one.
+It asks that the tree has no change, that VERSION, CHANGELOG.md and CITATION.cff agree, that the last run of `./test all`
+in this clone passed on this very commit, and that the program of dist/, which the folder gets, is the one with which it
+passed.
 """
 from __future__ import annotations
 
@@ -14,13 +14,14 @@ import sys
 import tempfile
 from pathlib import Path
 
+from proved.found import DIST
+
 from releasing.folder import PROGRAM, fill
 from releasing.record import Record, digest
 from releasing.tree import ReleaseError, changes, commit_of, git, tagged
 from releasing.version import version_of
 
 TOP = Path(__file__).resolve().parent.parent.parent
-BUILT = "crates/feast/out/feast"
 
 
 def main(words: list[str], top: Path = TOP) -> int:
@@ -48,7 +49,7 @@ def release(top: Path, folder: Path, kit: Path) -> None:
     with tempfile.TemporaryDirectory(dir=folder.parent, prefix=".release-") as name:
         made = Path(name) / "made"
         made.mkdir()
-        fill(made, top, program_of(top), kit, record)
+        fill(made, top, top / DIST.program, kit, record)
         try_out(made)
         if at is None:
             git(top, "tag", "--annotate", "--message", f"feast {tag[1:]}", tag)
@@ -57,7 +58,7 @@ def release(top: Path, folder: Path, kit: Path) -> None:
 
 
 def asked(top: Path, folder: Path) -> Record:
-    """The note of the run of ./test. ReleaseError if the tree, the note, the program or the folder isn't as it has to be."""
+    """The note of the run of `./test all`. ReleaseError if the tree, the note, the program or the folder isn't as it has to be."""
     if folder.exists():
         raise ReleaseError(f"{folder}: it is there already")
     changed = changes(top)
@@ -65,16 +66,10 @@ def asked(top: Path, folder: Path) -> Record:
         raise ReleaseError(f"the tree has changes that are not committed: {', '.join(changed[:5])}")
     record = Record.read(top)
     if record.commit != commit_of(top):
-        raise ReleaseError(f"./test has passed on {record.commit[:12]}, and not on {commit_of(top)[:12]}, which is checked out")
-    program = program_of(top)
-    if record.program != digest(program):
-        raise ReleaseError(f"{program}: it is not the program with which ./test has passed")
+        raise ReleaseError(f"./test all has passed on {record.commit[:12]}, and not on {commit_of(top)[:12]}, which is checked out")
+    if record.program != digest(top / DIST.program):
+        raise ReleaseError(f"{DIST.program}: it is not the program with which ./test all has passed")
     return record
-
-
-def program_of(top: Path) -> Path:
-    """The file of the program."""
-    return Path(os.environ.get("FEAST_PROGRAM") or top / BUILT)
 
 
 def kit_folder() -> Path:

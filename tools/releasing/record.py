@@ -1,4 +1,4 @@
-"""The note that everything passed on a commit: `./test` leaves it, and a release asks for it.
+"""The note that everything passed on a commit: `./test all` leaves it, and a release asks for it.
 
 It stands in git's own folder, so that it is no part of the tree, and goes with no clone.
 """
@@ -38,9 +38,9 @@ class Record:
         try:
             return cls(**json.loads(path.read_text()))
         except FileNotFoundError:
-            raise ReleaseError("no run of ./test has passed in this clone: there is no note of one") from None
+            raise ReleaseError("no run of ./test all has passed in this clone: there is no note of one") from None
         except (OSError, ValueError, TypeError) as fault:
-            raise ReleaseError(f"{path}: it can't be read as the note of a run of ./test ({fault})") from None
+            raise ReleaseError(f"{path}: it can't be read as the note of a run of ./test all ({fault})") from None
 
 
 def digest(path: Path) -> str:

@@ -1,0 +1,9 @@
+"""Which program is run in a clone: one that was proved of the very sources that lie there.
+
+  sources   the sources of the program, and their digest
+  record    what was proved: the kit, the program and the sources
+  found     where such a program may lie, which one is taken, and what is kept of that for the next call
+  dist      the folder dist/, which has the program that the gate has made
+
+`./feast` reads what is kept, by the line of `listing.sh`, and calls this package when that doesn't hold any more.
+"""
