@@ -259,6 +259,10 @@ class Taken(Repository):
             (tools / name).symlink_to(shutil.which(name) or "")
         done = self.call("feast", "a", path=str(tools))
         self.assertEqual((done.returncode, done.stdout, done.stderr), (0, "dist/feast a\n", ""))
+        self.file("crates/low/src/lib.rt", "// Low\n")
+        done = self.call("feast", "a", path=str(tools))
+        self.assertEqual((done.returncode, done.stdout), (1, ""))
+        self.assertIn("feast: python3 looks for the program, and is not there: ", done.stderr)
 
     def test_kept_place_that_is_none(self) -> None:
         """What is kept can name no other program."""
