@@ -20,6 +20,7 @@ from checks import Check, flat  # noqa: E402
 from proved.found import BUILT, DIST, KEPT  # noqa: E402
 from proved.record import GATE, LAUNCHER, Record, digest_of  # noqa: E402
 from proved.sources import LINE, SourcesError, digest  # noqa: E402
+from tree import files  # noqa: E402
 
 FAKES = TOP / "tests" / "fakes" / "bin"
 COPIED = ("feast", "lab", "tools/dist", "tools/help.txt", "tools/proved", "tools/lab", "tools/first_call", "tests/gate.py")
@@ -293,6 +294,21 @@ class Taken(Repository):
             self.assertNotEqual(done.returncode, 0)
 
 
+class Files(unittest.TestCase):
+    """The files of the repository, which some tests go through."""
+
+    def test_files_without_git(self) -> None:
+        """In a folder that git doesn't know all files are found that it would keep."""
+        room = Path(self.enterContext(tempfile.TemporaryDirectory(prefix="tree-")))
+        for name in ("README.md", ".gitignore", "a/b.md", "a/out/c", "a/__pycache__/d", ".hidden/e"):
+            (room / name).parent.mkdir(parents=True, exist_ok=True)
+            shutil.copy(TOP / ".gitignore", room / name)
+        self.assertEqual(files(room), [".gitignore", ".hidden/e", "README.md", "a/b.md"])
+        for words in (["init", "-q"], ["add", "--all"]):
+            subprocess.run(["git", *words], cwd=room, check=True)
+        self.assertEqual(sorted(files(room)), [".gitignore", ".hidden/e", "README.md", "a/b.md"])
+
+
 def swap(one: Path, other: Path) -> None:
     """Gives each of two files the other's name."""
     aside = one.with_name("aside")
@@ -313,7 +329,7 @@ def fault() -> Optional[str]:
 def checks(_: object) -> Iterator[unittest.TestCase]:
     """The check of dist/, and the tests on small repositories."""
     yield Check("agrees", fault)
-    for kind in (Digest, Gate, Taken):
+    for kind in (Digest, Gate, Taken, Files):
         yield from flat(unittest.defaultTestLoader.loadTestsFromTestCase(kind))
 
 

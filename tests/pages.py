@@ -23,6 +23,7 @@ from typing import Iterator, Optional
 
 sys.dont_write_bytecode = True
 from checks import Check  # noqa: E402
+from tree import files  # noqa: E402
 
 TOP = pathlib.Path(__file__).resolve().parent.parent
 FOLDERS = "bench|crates|docs|editors|examples|tests|tools"
@@ -162,8 +163,7 @@ def said(found: list[str]) -> Optional[str]:
 
 def checks(program: pathlib.Path) -> Iterator[Check]:
     """A check for each page, and those of the map of crates, the walks and the list of pages."""
-    pages = subprocess.run(["git", "ls-files", "*.md"], cwd=TOP, capture_output=True, text=True, check=True).stdout
-    for page in pages.split():
+    for page in (name for name in files() if name.endswith(".md")):
         yield Check(page, partial(page_fault, str(program), TOP / page))
     yield Check("the map of crates", lambda: said(map_faults()))
     yield Check("the walk to a new operator", lambda: said(walk_faults()))

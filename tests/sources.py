@@ -10,6 +10,7 @@ from typing import Iterator, Optional
 
 sys.dont_write_bytecode = True
 from checks import Check  # noqa: E402
+from tree import files  # noqa: E402
 
 HERE = Path(__file__).resolve().parent
 # The scripts, with the most that they are to find.
@@ -25,9 +26,8 @@ def fault(script: str, *options: str) -> Optional[str]:
 
 
 def links() -> Optional[str]:
-    """The symbolic links that git keeps. The toolchain refuses a tree that has one."""
-    listed = subprocess.run(["git", "ls-files", "-s"], cwd=HERE.parent, capture_output=True, text=True, check=True).stdout
-    found = [line.split("\t")[1] for line in listed.splitlines() if line.startswith("120000 ")]
+    """The symbolic links among the files. The toolchain refuses a tree that has one."""
+    found = [name for name in files() if (HERE.parent / name).is_symlink()]
     return f"symbolic links, which rt refuses: {', '.join(found)}" if found else None
 
 
