@@ -23,7 +23,7 @@ from proved.sources import LINE, SourcesError, digest  # noqa: E402
 from tree import files  # noqa: E402
 
 FAKES = TOP / "tests" / "fakes" / "bin"
-COPIED = ("feast", "lab", "tools/dist", "tools/help.txt", "tools/proved", "tools/lab", "tools/first_call", "tests/gate.py")
+COPIED = ("feast", "lab", "test", "tools/dist", "tools/help.txt", "tools/proved", "tools/lab", "tools/first_call", "tests/gate.py")
 FILES = {"crates.txt": "feast: low\n", "HANDLES": "x\n", "crates/low/src/lib.rt": "// low\n",
          "crates/low/src/more.rt": "// more\n", "crates/feast/src/main.rt": "// main\n"}
 KIT = "pretended-kit logic 1"
@@ -151,6 +151,25 @@ class Gate(Repository):
         self.file(BUILT.program, "#!/bin/sh\n")
         self.assertIn("is not the program that crates/feast/out/PROVED names", self.call("tools/dist").stderr)
         self.assertFalse((self.top / "dist").exists())
+
+    def test_words_of_test(self) -> None:
+        """Without a word, ./test has no gate, and says so; `all` begins with it, and goes on with its program."""
+        for name in ("driver", "passed"):
+            self.file(f"tests/{name}.py", f"import sys\nprint('{name}', *sys.argv[1:])\nsys.exit('fail' in sys.argv)\n")
+        untried, built = "proofs: not tried here (./test all)\n", self.top / BUILT.program
+        for words, status, out in (
+            ([], 0, f"driver\n{untried}"), (["quick"], 0, f"driver\n{untried}"),
+            (["quick", "lab", "-k", "film"], 0, f"driver lab -k film\n{untried}"), (["quick", "fail"], 1, f"driver fail\n{untried}"),
+            (["every"], 2, ""), (["all"], 1, f"driver --program {built}\n"),
+        ):
+            done = self.call("test", *words)
+            self.assertEqual((done.returncode, done.stdout), (status, out), done.stderr)
+        self.call("tools/dist")
+        done = self.call("test", "all")
+        self.assertEqual(done.returncode, 0, done.stderr)
+        self.assertRegex(done.stdout, rf"\Adist/ has the program .*\ndriver --program {built}\npassed .*{built} {KIT}\n\Z")
+        self.file("fails", "x")
+        self.assertEqual(self.call("test", "all").returncode, 1)
 
     def test_gate_that_fails(self) -> None:
         """A gate that fails, or under which a source was changed, leaves no record."""

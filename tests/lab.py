@@ -1,7 +1,7 @@
 #!/usr/bin/env python3
 """Tries the lab: lab.py [PROGRAM] [NAME..].
 
-PROGRAM is the built one if none is named. A NAME is that of a module of tests/lab, such as test_chain, or of
+PROGRAM is that of ./feast if none is named. A NAME is that of a module of tests/lab, such as test_chain, or of
 a class or a test in one; all are run if none is named.
 """
 import sys
