@@ -2,7 +2,8 @@
 
 DIR is the folder of a chain, as `./lab chain` makes it. With WORLD and FILE.. it is begun, or gone on with if it was
 begun with the same; with DIR alone it is gone on with. The page is served on this machine alone, at the address that
-is written; whoever has the address can work on the chain. Ctrl-C ends it, and leaves a whole chain.
+is written; whoever has the address can work on the chain. It stands in DIR/live.html too, which you alone can read, and
+stays the same when the chain is opened again. Ctrl-C ends it, and leaves a whole chain.
 
 The page plays and pauses, makes single legs, and does acts between legs: it clears, paints, damages and stamps. Each
 act is on record in the chain, as if it had been given by --at, so `./lab chain --audit` judges it and `./lab film`
@@ -21,6 +22,7 @@ from pathlib import Path
 from lab.chain_folder import Folder
 from lab.chain_start import Start, going_on
 from lab.errors import LabError
+from lab.live_address import NAME, Address
 from lab.live_chain import Live
 from lab.live_server import Server
 from lab.marks import marks
@@ -31,7 +33,8 @@ def add_arguments(parser: argparse.ArgumentParser) -> None:
     """The words of the verb."""
     parser.usage = """./lab live [-h] [--port N] [--no-open] [--failures] [--step] [--seed S] [--keep none|reports]
                   DIR [WORLD FILE..]"""
-    parser.add_argument("--port", metavar="N", type=int, default=0, help="the port to serve at (default: a free one)")
+    parser.add_argument("--port", metavar="N", type=int, default=0,
+                        help="the port to serve at (default: that of the last time, or a free one)")
     parser.add_argument("--no-open", action="store_true", help="open no browser")
     parser.add_argument("--failures", action="store_true", help="find the events that failed, and show them")
     parser.add_argument("--step", action="store_true", help="stepped legs, on one thread; else each tile has a thread")
@@ -48,22 +51,26 @@ def run(arguments: argparse.Namespace) -> int:
     if not 0 <= arguments.port < 65536:
         raise LabError(f"--port {arguments.port}: a port is from 1 to 65535, or 0 for a free one")
     live = Live(Program.find(), [path.resolve() for path in arguments.files], arguments.failures)
-    with Server(live, arguments.port) as server:
+    with Server(live, arguments.port, Address.kept(arguments.folder)) as server:
         try:
+            live.address = server.address
             opened(live, arguments)
         except BaseException:
             live.held.close()
             raise
         try:
-            print(f"{arguments.folder}: {server.address}", flush=True)
+            print(f"{arguments.folder}: {server.address.url}", flush=True)
             if not arguments.no_open and has_display():
-                threading.Thread(target=webbrowser.open, args=(server.address,), daemon=True).start()
+                page = (arguments.folder / NAME).resolve().as_uri()  # not the address, which `ps` would show
+                threading.Thread(target=webbrowser.open, args=(page,), daemon=True).start()
             server.serve_forever()
         except KeyboardInterrupt:
             sys.stdout.write("\n" if sys.stdout.isatty() else "")
         finally:
             said = live.end()
     print(said)
+    if live.session.fault:
+        raise LabError(live.session.fault)
     return 0
 
 

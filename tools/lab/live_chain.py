@@ -14,6 +14,7 @@ from lab.errors import LabError
 from lab.failure_finder import Finder
 from lab.legs import Maker
 from lab.limits import MOST_COLUMNS
+from lab.live_address import Address
 from lab.live_session import Session
 from lab.live_view import View
 from lab.marks import marks
@@ -37,6 +38,7 @@ class Live:
         self.finds_failures = finds_failures
         self.turn = threading.Lock()  # for orders that take more than one step
         self.held = ExitStack()
+        self.address: Address | None = None  # of the server, which the folder of the chain keeps
         self.session: Session
         self.view: View
         self.orders: dict[str, Callable[[dict[str, Any]], str]] = {
@@ -50,14 +52,18 @@ class Live:
         marked = marks(maker.layout.elements, maker.folder.files)
         if self.finds_failures and maker.finder is None:
             maker = replace(maker, finder=Finder(self.program, maker.folder.files, maker.rule.world))
+        if self.address is not None:
+            self.address.keep(maker.folder.path)
         self.folder = maker.folder
         self.session = Session(maker, course)
         self.view = View(self.session, marked)
 
     def end(self) -> str:
         """Ends the chain at work, and says what it has come to."""
-        self.session.end()
-        self.held.close()
+        try:
+            self.session.end()
+        finally:
+            self.held.close()
         return self.session.course.summary(self.folder.path)
 
     def do(self, order: object) -> str:
@@ -135,11 +141,11 @@ class Live:
                     held.enter_context(folder.held())
                     maker, course = start.opened(folder)
                     maker, lost = carried_on(maker, course, self.session.course)
+                    last = self.session
+                    self.begin(maker, course)
                     before, self.held = self.held, held.pop_all()
         except Refusal as refusal:
             raise LabError(with_caret(str(refusal))) from refusal
-        last = self.session
-        self.begin(maker, course)
         last.end()
         before.close()
         told = f" No longer measured: {', '.join(lost)}." if lost else ""

@@ -1,11 +1,12 @@
 """What serves a chain at work to a browser on this machine.
 
 Nothing is answered without the token that stands in the address, nor to another host's name or another page's
-script. A page gets its stream of shots as server-sent events, and gives orders as JSON.
+script. A page gets its stream of shots as server-sent events, and gives orders as JSON. The one thing that is answered
+without the token is the proof by which a page finds its chain again (lab.live_address).
 """
 import hmac
 import json
-import secrets
+import re
 import socket
 import sys
 from collections.abc import Sequence
@@ -16,10 +17,12 @@ from typing import Any
 
 from lab.errors import LabError
 from lab.files import cause
+from lab.live_address import HOST, Address
 from lab.live_chain import Live
 from lab.live_page import PARTS, page
+from lab.live_session import said_of
 
-HOST = "127.0.0.1"
+HELLO = re.compile(r"/hello/([0-9a-f]{32})")  # asks for a proof that the server knows the page's token
 LONGEST = 1 << 20  # bytes of an order
 MOST_STREAMS = 16
 PATIENCE = 20  # seconds for which a page may keep the server waiting
@@ -48,21 +51,29 @@ class Server(ThreadingHTTPServer):
     block_on_close = False
     allow_reuse_address = True
 
-    def __init__(self, live: Live, port: int) -> None:
+    def __init__(self, live: Live, port: int, kept: Address | None = None) -> None:
+        """Serves at a port, or for 0 at that of the address that was kept, or else at a free one. The token is the one
+        that was kept if the port is: at another one it may have been asked for by a page that is still open."""
         self.live = live
-        self.token = secrets.token_urlsafe(24)
         self.streams = Semaphore(MOST_STREAMS)
+        if kept is not None and port in (0, kept.port):
+            try:
+                super().__init__((HOST, kept.port), Handler)
+                self.address = kept
+                return
+            except OSError:
+                pass  # another has taken the port
         try:
             super().__init__((HOST, port), Handler)
         except (OSError, OverflowError) as error:
             said = cause(error) if isinstance(error, OSError) else str(error)
             raise LabError(f"--port {port}: can't be served at: {said}") from error
-        self.names = {f"{HOST}:{self.server_port}", f"localhost:{self.server_port}"}
+        self.address = Address.anew(self.server_port)
 
     @property
-    def address(self) -> str:
-        """Where the page is."""
-        return f"http://{HOST}:{self.server_port}/{self.token}/"
+    def names(self) -> set[str]:
+        """The names of this machine under which pages may ask."""
+        return {f"{HOST}:{self.server_port}", f"localhost:{self.server_port}"}
 
     def handle_error(self, request: Any, client_address: Any) -> None:
         """Says nothing of pages that go away or keep the server waiting."""
@@ -112,8 +123,10 @@ class Handler(BaseHTTPRequestHandler):
             raise Refused(HTTPStatus.FORBIDDEN, "another page's script")
         if self.command == "POST" and len(origins) != 1:
             raise Refused(HTTPStatus.FORBIDDEN, "an order says from which page it comes")
+        if self.command == "GET" and HELLO.fullmatch(self.path):
+            return self.path
         token, slash, rest = self.path.removeprefix("/").partition("/")
-        if not hmac.compare_digest(token.encode(), self.server.token.encode()) or not slash:
+        if not hmac.compare_digest(token.encode(), self.server.address.token.encode()) or not slash:
             raise Refused(HTTPStatus.FORBIDDEN, "the address lacks its token")
         return rest
 
@@ -123,6 +136,8 @@ class Handler(BaseHTTPRequestHandler):
             self.stream()
         elif name == "":
             self.reply(HTTPStatus.OK, "text/html", page(self.server.live.folder.path.resolve().name).encode())
+        elif asked := HELLO.fullmatch(name):
+            self.reply(HTTPStatus.OK, "text/plain", self.server.address.proof(asked[1]).encode())
         elif name in PARTS:
             kind = "text/css" if name.endswith(".css") else "text/javascript"
             self.reply(HTTPStatus.OK, kind, PARTS[name]().encode())
@@ -141,6 +156,8 @@ class Handler(BaseHTTPRequestHandler):
             said = self.server.live.do(order)
         except LabError as error:
             raise Refused(HTTPStatus.BAD_REQUEST, str(error)) from error
+        except Exception as error:  # a page that has no answer would take the server for dead
+            raise Refused(HTTPStatus.INTERNAL_SERVER_ERROR, said_of(error)) from error
         self.reply(HTTPStatus.OK, "text/plain", said.encode())
 
     def body(self) -> bytes:

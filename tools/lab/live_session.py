@@ -5,7 +5,7 @@ import time
 from collections import Counter, deque
 from collections.abc import Mapping, Sequence
 from concurrent.futures import Future, ThreadPoolExecutor
-from dataclasses import dataclass
+from dataclasses import dataclass, replace
 
 from lab.acts import Act, Pace
 from lab.chain_folder import Course, Leg
@@ -19,6 +19,7 @@ from lab.window_check import Disagreement
 
 WINDOW = 2.0  # over so many seconds the speed is measured
 RANDOM = ("erase:", "flip:")
+ENDED = "the session has ended, and makes no leg any more; end ./lab live by Ctrl-C, and start it again"
 
 
 @dataclass(frozen=True)
@@ -49,7 +50,8 @@ class Shot:
 class Session:
     """A chain at work. Its folder is held by the caller for as long as it is.
 
-    `mode` is `play`, `pause`, `leg` (one leg, and then a pause) or `end`.
+    `mode` is `play`, `pause`, `leg` (one leg, and then a pause) or `end`. `fault` is what went wrong last: it stands until
+    a leg is made again, and for good if the session has ended by it, which then refuses each order with that.
     """
 
     def __init__(self, maker: Maker, course: Course) -> None:
@@ -59,6 +61,7 @@ class Session:
         self.all_failed = 0
         self.changed = threading.Condition()
         self.mode = "pause"
+        self.fault = ""
         self.is_busy = False
         self.next = 0
         self.events = 0
@@ -88,22 +91,29 @@ class Session:
             return self.shot
 
     def turn(self, mode: str) -> None:
-        """Plays, pauses, makes one leg, or ends."""
+        """Plays, pauses, or makes one leg."""
         with self.changed:
-            if self.mode != "end":
-                self.mode = mode
-                self.times.clear()
+            self.refuse_if_ended()
+            self.mode = mode
+            self.times.clear()
             self.publish()
+
+    def refuse_if_ended(self) -> None:
+        """Refuses what a session can't do any more."""
+        if self.mode == "end":
+            raise LabError(self.fault or ENDED)
 
     def change_tempo(self, way: str) -> None:
         """Makes legs `slower` or `faster`, or as long as they take `alone` to find out."""
         with self.changed:
+            self.refuse_if_ended()
             self.tempo.turn(way)
             self.publish()
 
     def act(self, texts: Sequence[str]) -> None:
         """Does acts, written without their leg, before the next leg; puts all of them on record, or none."""
         with self.changed:
+            self.refuse_if_ended()
             leg = self.next + self.is_busy
             world, layout, seed = self.maker.rule.world, self.maker.layout, self.maker.begun.seed
             try:
@@ -120,6 +130,7 @@ class Session:
     def undo(self) -> None:
         """Takes back the last act that waits for the next leg."""
         with self.changed:
+            self.refuse_if_ended()
             waiting = self.maker.rule.acts.get(self.next + self.is_busy, [])
             act = next((act for act in reversed(waiting) if not isinstance(act, Pace)), None)
             if act is None:
@@ -140,16 +151,20 @@ class Session:
     def rest(self) -> int:
         """Pauses; gives back how many legs are done when all that was begun is on record."""
         with self.changed:
-            if self.mode != "end":
-                self.mode = "pause"
+            self.refuse_if_ended()
+            self.mode = "pause"
             self.publish()
-            self.changed.wait_for(lambda: not self.is_busy and self.unsettled is None)
+            self.changed.wait_for(lambda: self.mode == "end" or (not self.is_busy and self.unsettled is None))
+            self.refuse_if_ended()
             self.keeper.wait()
             return len(self.course.legs) - 1
 
     def end(self) -> None:
         """Ends, with a leg that is being made still made."""
-        self.turn("end")
+        with self.changed:
+            if self.mode != "end":
+                self.mode = "end"
+                self.publish()
         self.worker.join()
         self.writing.shutdown()
         self.keeper.close()
@@ -157,22 +172,29 @@ class Session:
     # what makes the legs
 
     def work(self) -> None:
-        """Makes legs whenever they are wanted."""
-        while self.is_wanted():
-            began = time.monotonic()
-            try:
-                self.make()
-            except (LabError, Disagreement, OSError) as error:
-                self.fail(f"{error.filename}: {cause(error)}" if isinstance(error, OSError) else str(error))
-                continue
-            with self.changed:
-                took = time.monotonic() - began
-                self.tempo.heed(took)
-                if self.mode == "leg":
-                    self.mode = "pause"
-                if self.mode == "play" or self.settles():  # so a pause shows what is on record
-                    self.publish()
-                self.changed.wait_for(lambda: self.mode != "play", EVERY - took)
+        """Makes legs until the session ends. Nothing that goes wrong is lost: it ends the session if nothing else helps."""
+        try:
+            while self.is_wanted():
+                self.make_in_time()
+        except BaseException as error:  # whatever it is: who waits for a leg has to be told
+            self.die(error)
+
+    def make_in_time(self) -> None:
+        """Makes a leg, or says why it can't be made; waits until another one may begin."""
+        began = time.monotonic()
+        try:
+            self.make()
+        except Exception as error:  # also a fault of the lab is told, and the chain goes back to what is on record
+            self.fail(said_of(error))
+            return
+        with self.changed:
+            took = time.monotonic() - began
+            self.tempo.heed(took)
+            if self.mode == "leg":
+                self.mode = "pause"
+            if self.mode == "play" or self.settles():  # so a pause shows what is on record
+                self.publish()
+            self.changed.wait_for(lambda: self.mode != "play", EVERY - took)
 
     def is_wanted(self) -> bool:
         """Waits until another leg is wanted, and notes its length; False if the session ends."""
@@ -206,6 +228,7 @@ class Session:
             self.abandoned += outcome.abandoned
             self.times.append((time.monotonic(), self.events))
             self.is_busy = False
+            self.fault = ""
 
     def set_length(self, number: int) -> None:
         """Puts the length of a leg on record, unless it is that of the world, or is on record."""
@@ -216,35 +239,50 @@ class Session:
             self.maker.rule.acts.setdefault(number, []).append(act)
 
     def settle(self) -> None:
-        """Waits for the files of the leg that was made last, and writes its row."""
+        """Waits for the files of the leg that was made last, and writes its row, without which it isn't done."""
         if self.unsettled is not None:
             waiting, self.unsettled = self.unsettled, None
             self.course.legs.append(waiting.result())
-            self.maker.folder.write_course(self.course)
+            try:
+                self.maker.folder.write_course(self.course)
+            except BaseException:
+                self.course.legs.pop()
+                self.course.changed()
+                raise
             self.keeper.keep(self.course.legs[-1].number)
 
     def settles(self) -> bool:
         """Settles, and tells those who wait for it; whether that went well."""
         try:
             self.settle()
-        except (LabError, OSError) as error:
-            self.fail(str(error))
+        except Exception as error:
+            self.fail(said_of(error))
             return False
         self.changed.notify_all()
         return True
 
     def fail(self, fault: str) -> None:
-        """Goes back to the last leg that is done, pauses, and says what went wrong."""
+        """Goes back to the last leg that is done, pauses, and says what went wrong; raises what keeps it from going back."""
         with self.changed:
             self.is_busy = False
+            self.fault = fault
             try:
                 self.settle()
-                self.go_back()
-            except LabError as error:
-                self.mode, fault = "end", f"{fault}; {error}"
+            except Exception as error:
+                self.fault = joined(fault, said_of(error))
+            self.go_back()
             if self.mode != "end":
                 self.mode = "pause"
-            self.publish(fault)
+            self.publish()
+
+    def die(self, error: BaseException) -> None:
+        """Ends the session by what went wrong, and says so for good. What is seen last stays."""
+        with self.changed:
+            self.is_busy = False
+            self.mode = "end"
+            self.fault = joined(ENDED, self.fault, said_of(error))
+            self.shot = replace(self.shot, number=self.shot.number + 1, mode="end", speed=0.0, fault=self.fault)
+            self.changed.notify_all()
 
     def go_back(self) -> None:
         """Takes the plane that the last leg left that is done, with the acts behind it."""
@@ -258,12 +296,12 @@ class Session:
 
     # what is seen
 
-    def publish(self, fault: str = "") -> None:
+    def publish(self) -> None:
         """Takes a new shot, for all who watch."""
-        self.shot = self.taken(self.shot.number + 1, fault)
+        self.shot = self.taken(self.shot.number + 1)
         self.changed.notify_all()
 
-    def taken(self, number: int, fault: str = "") -> Shot:
+    def taken(self, number: int) -> Shot:
         """A shot of the chain as it is."""
         coming = self.next + self.is_busy
         acts = [act.text.partition(":")[2] for act in self.maker.rule.acts.get(coming, []) if not isinstance(act, Pace)]
@@ -271,7 +309,7 @@ class Session:
         mode = "leg" if self.is_busy and self.mode == "pause" else self.mode
         return Shot(number, self.next - 1, self.events, self.abandoned, self.lines, self.given_up, mode,
                     self.tempo.attempts, self.tempo.by_itself, self.speed(), acts, done,
-                    self.failed if self.maker.finder else None, self.all_failed, fault)
+                    self.failed if self.maker.finder else None, self.all_failed, self.fault)
 
     def speed(self) -> float:
         """How many events each site has in a second, over the last seconds; 0 in a pause."""
@@ -286,3 +324,19 @@ class Session:
 def seeded(text: str) -> str:
     """An act with a seed of its own, if it takes one and has none."""
     return f"{text}:seed={secrets.randbits(32)}" if text.startswith(RANDOM) and ":seed=" not in text else text
+
+
+def said_of(error: BaseException) -> str:
+    """What went wrong, in a line or some."""
+    if isinstance(error, (LabError, Disagreement)):
+        return str(error)
+    if isinstance(error, OSError):
+        return f"{error.filename}: {cause(error)}" if error.filename else cause(error)
+    if isinstance(error, MemoryError):
+        return "the lab ran out of memory"
+    return f"a fault of the lab: {type(error).__name__}: {error}"
+
+
+def joined(*faults: str) -> str:
+    """Several faults as one text; what is said twice stands once."""
+    return "; ".join(dict.fromkeys(fault for fault in faults if fault))

@@ -1,3 +1,13 @@
+const LOST = 'The chain does not answer: ./lab live has ended. This page goes on when it is started again.';
+const ORDERS = ['play', 'leg', 'slower', 'faster', 'alone', 'fork']; // the controls that need a chain at work
+
+/** Says something in a part of the page, or nothing; what is said already is left, so that it isn't read out again. */
+function say(part, text) {
+  const node = document.getElementById(part);
+  if (node.textContent !== text) node.textContent = text;
+  node.hidden = text === '';
+}
+
 /** The page of a chain at work: it shows each shot that it is told of, and gives orders. */
 class LivePage extends Page {
   constructor(source) {
@@ -8,9 +18,10 @@ class LivePage extends Page {
     this.stroke = new Set();
     this.sent = new Set();
     this.before = Promise.resolve();
+    this.refused = ''; // why the last order was
+    this.isLost = false;
     this.part('about').textContent = `A chain at work on ${this.tilesText()}, ${head.step ? 'stepped' : 'a thread for each tile'}${
       head.keep === 'reports' ? '' : ', without reports'}.`;
-    this.part('reload').disabled = !head.canReload;
     this.part('reload').title = head.canReload ? '' : 'Start it with ./lab live DIR WORLD FILE.. to read files again';
     this.part('abandoned-choice').hidden = head.tiles[0] * head.tiles[1] === 1;
   }
@@ -21,6 +32,11 @@ class LivePage extends Page {
     for (const order of ['leg', 'slower', 'faster', 'undo', 'fork', 'reload']) this.on(order, 'click', () => this.order({ do: order }));
     this.on('alone', 'change', () => this.order({ do: this.part('alone').checked ? 'alone' : 'same' }));
     this.on('file', 'change', () => this.readDrawing());
+  }
+
+  /** Whether the chain takes orders: the server is there, and the session has not ended. */
+  get isAtWork() {
+    return !this.isLost && this.source.shot.mode !== 'end';
   }
 
   toggle() {
@@ -36,29 +52,42 @@ class LivePage extends Page {
 
   /** Gives an order when those before it are answered. The sites that it is of are marked until it is answered itself. */
   order(order, sites = []) {
+    if (!this.isAtWork) return;
     this.sent.add(sites);
     this.before = this.before.then(() => this.give(order, sites))
-      .catch((cause) => this.say('fault', `The page could not show the chain: ${cause.message}.`));
+      .catch((cause) => {
+        this.refused = `The page could not show the chain: ${cause.message}.`;
+        this.sayFaults();
+      });
   }
 
-  /** Gives an order; what comes of it, or why it is refused, is said in the page. */
+  /** Gives an order; what comes of it, or why it is refused, is said in the page. A fault of the chain stays. */
   async give(order, sites) {
+    if (this.isLost) return;
     try {
       const answer = await fetch('do', { method: 'POST', headers: { 'Content-Type': 'application/json' }, body: JSON.stringify(order) });
       const said = (await answer.text()).trimEnd();
-      this.say('fault', answer.ok ? '' : said.replace(/^refused: /, ''));
-      if (said !== '' && answer.ok) this.say('said', said);
+      this.refused = answer.ok ? '' : said.replace(/^refused: /, '');
+      say('said', answer.ok ? said : '');
     } catch (cause) {
-      this.say('fault', 'The chain does not answer: ./lab live has ended.');
+      this.refused = 'The chain does not answer.';
     } finally {
       this.sent.delete(sites);
     }
     this.show();
   }
 
-  say(part, text) {
-    this.part(part).textContent = text;
-    this.part(part).hidden = text === '';
+  /** Says what went wrong: with the chain, for as long as that is so, and with the last order. */
+  sayFaults() {
+    const { fault } = this.source.shot;
+    const faults = [this.isLost ? LOST : '', fault, fault.includes(this.refused) ? '' : this.refused];
+    say('fault', faults.filter((it) => it !== '').join('\n'));
+  }
+
+  /** Notes whether the server of the chain is there; without it nothing can be ordered. */
+  lose(isLost) {
+    this.isLost = isLost;
+    this.show();
   }
 
   async readDrawing() {
@@ -70,7 +99,6 @@ class LivePage extends Page {
   take(shot) {
     this.source.take(shot);
     this.looks.measure();
-    if (shot.fault !== '') this.say('fault', shot.fault);
     this.chart.fit();
     this.show();
   }
@@ -122,15 +150,18 @@ class LivePage extends Page {
     const aeps = (shot.events / head.liveSites).toFixed(2);
     const gaveUp = shot.abandoned === 0 ? '' : `, ${numbered(shot.abandoned, 'attempt')} abandoned`;
     this.part('moment').textContent = `Leg ${spelled(shot.leg)}: ${numbered(shot.events, 'event')}${gaveUp}; ${aeps} AEPS`
-      + `, ${shot.speed.toFixed(2)} AEPS a second`;
+      + (this.isAtWork ? `, ${shot.speed.toFixed(2)} AEPS a second` : '');
     this.part('pace').textContent = `${spelled(shot.attempts)} attempts of each tile in a leg`;
     this.part('alone').checked = shot.byItself;
-    this.part('play').textContent = shot.mode === 'play' ? 'Pause' : 'Play';
+    this.part('play').textContent = this.isAtWork && shot.mode === 'play' ? 'Pause' : 'Play';
+    for (const id of ORDERS) this.part(id).disabled = !this.isAtWork;
+    this.part('reload').disabled = !this.isAtWork || !head.canReload;
     const all = this.source.places.counts.reduce((sum, count) => sum + count, 0);
     this.part('abandoned-label').textContent = `${numbered(all, 'attempt')} abandoned in the last leg`;
-    this.part('undo').disabled = shot.acts.length === 0;
+    this.part('undo').disabled = !this.isAtWork || shot.acts.length === 0;
     this.part('done').textContent = shot.acts.length === 0 ? '' : `Done by hand before the next leg: ${shot.acts.join('; ')}`;
     this.showStroke();
+    this.sayFaults();
   }
 
   /** Shows the sites of a stroke that isn't over, or the rectangle that it spans. */
@@ -145,30 +176,72 @@ class LivePage extends Page {
   }
 }
 
-/** Follows the chain; another one that takes its place gets a page anew. */
-function begin() {
-  const stream = new EventSource('events');
-  const fault = document.getElementById('fault');
-  let page = null;
-  stream.addEventListener('begin', (event) => {
-    if (page !== null) window.location.reload();
-    else page = JSON.parse(event.data);
-  });
-  stream.addEventListener('shot', (event) => {
-    const shot = JSON.parse(event.data);
-    if (!(page instanceof LivePage)) {
-      const source = new Live(page);
+/** Follows the chain; another one that takes its place gets a page anew, and so does a server that was started again. */
+class Following {
+  constructor() {
+    this.page = null; // first what is told at the beginning
+    this.follow();
+  }
+
+  follow() {
+    const stream = new EventSource('events');
+    stream.addEventListener('begin', (event) => {
+      if (this.page !== null) window.location.reload();
+      else this.page = JSON.parse(event.data);
+    });
+    stream.addEventListener('shot', (event) => this.take(JSON.parse(event.data)));
+    stream.addEventListener('anew', () => this.begunAnew());
+    stream.addEventListener('error', () => {
+      stream.close();
+      this.seek();
+    });
+  }
+
+  take(shot) {
+    if (!(this.page instanceof LivePage)) {
+      const source = new Live(this.page);
       source.take(shot);
       document.getElementById('film').hidden = false;
-      page = new LivePage(source);
-      page.fit();
-    } else page.take(shot);
-  });
-  stream.addEventListener('anew', () => window.location.reload());
-  stream.addEventListener('error', () => {
-    fault.hidden = false;
-    fault.textContent = 'The chain does not answer: ./lab live has ended.';
-  });
+      this.page = new LivePage(source);
+      this.page.fit();
+    } else this.page.take(shot);
+  }
+
+  /** Shows the other chain when what was said of it is there, which the page then says. */
+  async begunAnew() {
+    await this.page.before;
+    sessionStorage.setItem('said', document.getElementById('said').textContent);
+    window.location.reload();
+  }
+
+  /** Says that the chain does not answer, and looks for it until it does. */
+  async seek() {
+    if (this.page instanceof LivePage) this.page.lose(true);
+    else say('fault', LOST);
+    do await new Promise((over) => setTimeout(over, 1000)); while (!(await isBack()));
+    this.follow();
+  }
 }
 
-begin();
+/** Whether the page's own server is at its port: it proves that it knows the token, which isn't sent to find out. */
+async function isBack() {
+  const nonce = inHex(crypto.getRandomValues(new Uint8Array(16)));
+  try {
+    const answer = await fetch(`/hello/${nonce}`);
+    const letters = new TextEncoder();
+    const token = letters.encode(window.location.pathname.split('/')[1]);
+    const key = await crypto.subtle.importKey('raw', token, { name: 'HMAC', hash: 'SHA-256' }, false, ['sign']);
+    const proof = await crypto.subtle.sign('HMAC', key, letters.encode(`${window.location.port} ${nonce}`));
+    return answer.ok && (await answer.text()) === inHex(new Uint8Array(proof));
+  } catch (cause) {
+    return false;
+  }
+}
+
+function inHex(bytes) {
+  return Array.from(bytes, (byte) => byte.toString(16).padStart(2, '0')).join('');
+}
+
+say('said', sessionStorage.getItem('said') ?? '');
+sessionStorage.removeItem('said');
+new Following();
