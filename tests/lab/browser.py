@@ -1,4 +1,4 @@
-"""A headless Chromium, driven by its DevTools protocol over two pipes."""
+"""A headless Chromium, driven by its DevTools protocol over two pipes. firefox.py has the other browser."""
 import base64
 import fcntl
 import json
@@ -16,7 +16,8 @@ NAMES = ("chromium", "chromium-browser", "google-chrome", "chrome")
 LEFT = "Inspected target navigated"
 # How long a page or the browser may take, in seconds.
 PATIENCE = 300.0
-KEYS = {"ArrowLeft": 37, "ArrowUp": 38, "ArrowRight": 39, "ArrowDown": 40, "End": 35, "Home": 36, " ": 32, "Tab": 9, "0": 48}
+KEYS = {"ArrowLeft": 37, "ArrowUp": 38, "ArrowRight": 39, "ArrowDown": 40, "End": 35, "Home": 36, " ": 32, "Tab": 9, "0": 48,
+        "Enter": 13, "Escape": 27}
 SHIFT = 8
 # Chromium reads orders from its file 3, and writes answers to its file 4
 START = """import os, sys
@@ -32,7 +33,32 @@ def chromium() -> str | None:
     return next((path for name in NAMES if (path := shutil.which(name))), None)
 
 
-class Browser:
+class Window:
+    """A page in a browser, of which expressions are asked."""
+
+    def value(self, expression: str) -> Any:
+        """The value of an expression in the page."""
+        raise NotImplementedError
+
+    def wait(self, ready: str) -> None:
+        """Waits until an expression is true in the page."""
+        end = time.monotonic() + PATIENCE
+        while not self.is_so(ready):
+            if time.monotonic() > end:
+                raise AssertionError(f"in the page this never comes: {ready}")
+            time.sleep(0.05)
+
+    def is_so(self, expression: str) -> bool:
+        """Whether an expression is true in the page; a page that is just being left is asked again."""
+        try:
+            return bool(self.value(expression))
+        except AssertionError as fault:
+            if LEFT not in str(fault):
+                raise
+            return False
+
+
+class Browser(Window):
     """A browser with one page."""
 
     def __init__(self, path: str, room: Path, width: int = 1280, height: int = 900) -> None:
@@ -108,23 +134,6 @@ class Browser:
         self.call("Page.navigate", url=url)
         self.wait(ready)
 
-    def wait(self, ready: str) -> None:
-        """Waits until an expression is true in the page."""
-        end = time.monotonic() + PATIENCE
-        while not self.is_so(ready):
-            if time.monotonic() > end:
-                raise AssertionError(f"in the page this never comes: {ready}")
-            time.sleep(0.05)
-
-    def is_so(self, expression: str) -> bool:
-        """Whether an expression is true in the page; a page that is just being left is asked again."""
-        try:
-            return bool(self.value(expression))
-        except AssertionError as fault:
-            if LEFT not in str(fault):
-                raise
-            return False
-
     def value(self, expression: str) -> Any:
         """The value of an expression in the page."""
         answer = self.call("Runtime.evaluate", expression=expression, returnByValue=True, awaitPromise=True)
@@ -135,8 +144,15 @@ class Browser:
     def press(self, key: str, shift: bool = False) -> None:
         """Presses a key and lets it go."""
         words: dict[str, Any] = {"key": key, "windowsVirtualKeyCode": KEYS[key], "modifiers": SHIFT if shift else 0}
-        self.call("Input.dispatchKeyEvent", type="keyDown", text=key, **words) if key == " " else \
+        text = {" ": " ", "Enter": "\r"}.get(key)
+        self.call("Input.dispatchKeyEvent", type="keyDown", text=text, **words) if text else \
             self.call("Input.dispatchKeyEvent", type="rawKeyDown", **words)
+        self.call("Input.dispatchKeyEvent", type="keyUp", **words)
+
+    def letter(self, key: str, shift: bool = False, code: str = "") -> None:
+        """Presses a key that writes a letter or a sign; `code` says where it is on the keyboard."""
+        words: dict[str, Any] = {"key": key, "code": code, "modifiers": SHIFT if shift else 0}
+        self.call("Input.dispatchKeyEvent", type="keyDown", text=key, **words)
         self.call("Input.dispatchKeyEvent", type="keyUp", **words)
 
     def click(self, x: float, y: float) -> None:

@@ -272,6 +272,7 @@ class Orders(LiveCase):
             ({"do": "stamp", "text": GLIDER, "keys": ["o=Wall"], "x": 0, "y": 6}, "is no"),
             ({"do": "stamp", "text": GLIDER, "keys": ["b=Wall"], "x": 0, "y": 0}, "the drawing: o at column 1 of row 0 has no key"),
             ({"do": "stamp", "text": "x = 1, y = 1\n3q!", "keys": ["o=Wall"], "x": 0, "y": 0}, "the drawing: "),
+            ({"do": "stamp", "text": "", "keys": [], "x": 0, "y": 0}, "a stamp takes keys, such as o=Name"),
             ({"do": "stamp", "text": "", "keys": ["o=Wall"], "x": 0, "y": 0}, "the drawing has no symbols"),
             ({"do": "stamp", "text": "o", "keys": ["o=Fish"], "x": 0, "y": 0}, "no file has an element Fish"),
             ({"do": "stamp", "text": "o", "keys": ["o=Wall"], "x": 0.5, "y": 0}, "whole numbers"),

@@ -107,6 +107,8 @@ class Live:
 
     def stamp(self, order: dict[str, Any]) -> str:
         """Puts a drawing on the plane: its `text`, its `keys`, and the place `x`, `y` of its first symbol."""
+        if order.get("keys") == []:
+            raise LabError("a stamp takes keys, such as o=Name: they say what its symbols are")
         text, keys = order.get("text"), strings(order, "keys")
         place = [int(number) for number in (order.get("x"), order.get("y")) if type(number) is int and 0 <= number < MOST_COLUMNS]
         if not isinstance(text, str) or len(place) < 2:

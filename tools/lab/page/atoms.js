@@ -49,16 +49,33 @@ function made(name, text, className = '') {
   return node;
 }
 
+/** Writes a text in a part of the page; what stands there already is left, so that nothing reads it out again. */
+function write(node, text) {
+  if (node.textContent !== text) node.textContent = text;
+}
+
 /** The part of the page that shows one site: its place, its atom and the members of it. */
 class SiteView {
   constructor(source, place) {
     this.source = source;
     this.place = place;
+    this.shown = ''; // the site and the atom that are
   }
 
+  /** Shows a site, if it isn't shown as it is. */
   show(site) {
+    const shown = site === null ? 'none' : `${site} ${this.source.kindAt(site)} ${this.source.stateAt(site)}`;
+    if (shown === this.shown) return;
+    this.shown = shown;
     const hint = made('p', 'Click a site of the plane to see its atom.', 'hint');
     this.place.replaceChildren(...(site === null ? [hint] : this.told(site)));
+  }
+
+  /** A site and its atom in a line. */
+  text(site) {
+    const kind = this.source.kindAt(site);
+    const name = kind === 0 ? 'Empty' : this.source.head.elements[kind - 1].name;
+    return `Column ${site % this.source.columns}, row ${Math.floor(site / this.source.columns)}: ${name}`;
   }
 
   told(site) {

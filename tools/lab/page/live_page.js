@@ -1,10 +1,10 @@
 const LOST = 'The chain does not answer: ./lab live has ended. This page goes on when it is started again.';
 const ORDERS = ['play', 'leg', 'slower', 'faster', 'alone', 'fork']; // the controls that need a chain at work
 
-/** Says something in a part of the page, or nothing; what is said already is left, so that it isn't read out again. */
+/** Says something in a part of the page, or nothing. */
 function say(part, text) {
   const node = document.getElementById(part);
-  if (node.textContent !== text) node.textContent = text;
+  write(node, text);
   node.hidden = text === '';
 }
 
@@ -20,6 +20,7 @@ class LivePage extends Page {
     this.before = Promise.resolve();
     this.refused = ''; // why the last order was
     this.isLost = false;
+    this.corner = null; // the first of the two sites of a rectangle, if it was chosen by keys
     this.part('about').textContent = `A chain at work on ${this.tilesText()}, ${head.step ? 'stepped' : 'a thread for each tile'}${
       head.keep === 'reports' ? '' : ', without reports'}.`;
     this.part('reload').title = head.canReload ? '' : 'Start it with ./lab live DIR WORLD FILE.. to read files again';
@@ -44,9 +45,35 @@ class LivePage extends Page {
   }
 
   pressed(key) {
+    if (key === 'Escape') return this.drop();
     const order = { n: 'leg', '<': 'slower', '>': 'faster', u: 'undo', r: 'reload' }[key];
-    if (order === undefined || (order === 'reload' && this.part('reload').disabled)) return false;
+    if (order === undefined || !this.part('letter-keys').checked || this.part(order).disabled) return false;
     this.order({ do: order });
+    return true;
+  }
+
+  /** Uses the tool at the chosen site, as a click does; a rectangle takes two sites, one after the other. */
+  use() {
+    const { hands, chosen, corner } = this;
+    if (hands.tool === 'look' || chosen === null) return false;
+    if (hands.tool === 'stamp') this.stamp(chosen);
+    else if (hands.isBrush) this.paint(hands.brushAt(chosen));
+    else if (corner === null) this.corner = chosen;
+    else {
+      this.corner = null;
+      this.order({ do: 'act', acts: [hands.actOnRectangle(hands.spanned(corner, chosen))] });
+    }
+    this.hear(this.corner === null ? `${hands.tool} up to here` : `${hands.tool} from here; choose the other corner`);
+    this.show();
+    return true;
+  }
+
+  /** Drops the corner of a rectangle, and what was said of the last order. */
+  drop() {
+    this.corner = null;
+    this.refused = '';
+    say('said', '');
+    this.show();
     return true;
   }
 
@@ -126,6 +153,7 @@ class LivePage extends Page {
     }
     if (drag.from !== null) this.move(event);
     this.drag = null;
+    this.corner = null;
     if (drag.from === null) return;
     const to = drag.last ?? drag.from;
     if (hands.tool === 'stamp') this.stamp(to);
@@ -133,8 +161,12 @@ class LivePage extends Page {
       hands.brushAt(drag.from).forEach((it) => this.stroke.add(it));
       const sites = this.stroke;
       this.stroke = new Set();
-      this.order({ do: 'act', acts: [hands.actOn(sites)] }, sites);
+      this.paint(sites);
     } else this.order({ do: 'act', acts: [hands.actOnRectangle(hands.spanned(drag.from, to))] });
+  }
+
+  paint(sites) {
+    this.order({ do: 'act', acts: [this.hands.actOn(sites)] }, sites);
   }
 
   stamp(site) {
@@ -167,12 +199,11 @@ class LivePage extends Page {
   /** Shows the sites of a stroke that isn't over, or the rectangle that it spans. */
   showStroke() {
     for (const sites of [this.stroke, ...this.sent]) sites.forEach((site) => this.plane.drawFrame(site, 1, 1));
-    const { drag, hands } = this;
-    if (drag === null || hands === undefined || hands.isBrush || drag.last === undefined) return;
-    if (hands.tool === 'clear' || hands.tool === 'damage') {
-      const { site, width, height } = hands.spanned(drag.from, drag.last);
-      this.plane.drawFrame(site, width, height);
-    }
+    const { drag, hands, corner, chosen } = this;
+    const [from, to] = corner === null ? [drag?.from, drag?.last] : [corner, chosen];
+    if (to === undefined || (hands.tool !== 'clear' && hands.tool !== 'damage')) return;
+    const { site, width, height } = hands.spanned(from, to);
+    this.plane.drawFrame(site, width, height);
   }
 }
 

@@ -1,4 +1,6 @@
 const STILL = 4; // points by which a mouse may move in a click
+const WRITTEN = 'input:not([type="checkbox"], [type="radio"], [type="range"]), select, textarea'; // where keys are letters
+const CHOICES = 'select, input[type="checkbox"], input[type="radio"]';
 
 /** The page as far as a film and a chain at work share it: the plane, its looks, the curves, the elements and a site. */
 class Page {
@@ -79,13 +81,14 @@ class Page {
     for (const [id, times] of [['nearer', 2], ['farther', 0.5], ['whole', 0]]) this.on(id, 'click', () => this.zoom(times));
     this.on('column', 'input', () => this.chooseTyped());
     this.on('row', 'input', () => this.chooseTyped());
-    this.on('plane', 'focus', () => this.choose(this.chosen ?? 0));
+    this.on('plane', 'focus', () => this.chosen === null && this.choose(0));
     this.on('plane', 'wheel', (event) => this.wheel(event));
     this.on('plane', 'pointerdown', (event) => this.grasp(event));
     this.on('plane', 'pointermove', (event) => this.move(event));
     this.on('plane', 'pointerup', (event) => this.release(event));
     this.on('plane', 'pointercancel', () => (this.drag = null));
     document.addEventListener('keydown', (event) => this.press(event));
+    this.leaveChoices();
     window.addEventListener('resize', () => this.fit());
     this.looks.dark.addEventListener('change', () => this.fit());
   }
@@ -123,17 +126,46 @@ class Page {
     if (drag !== null && !drag.moved) this.choose(this.plane.siteAt(event));
   }
 
-  /** The keys, but where a field or a button has its own use for them. */
+  /** Leaves a field in which something was chosen with the mouse, so that the keys are the page's again. */
+  leaveChoices() {
+    let isByMouse = false;
+    document.addEventListener('pointerdown', () => (isByMouse = true), true);
+    document.addEventListener('keydown', () => (isByMouse = false), true);
+    document.addEventListener('change', ({ target }) => {
+      if (isByMouse && target.matches(CHOICES)) target.blur();
+    });
+  }
+
+  /** The keys, but where somebody writes, or where a field or a button has its own use for them. */
   press(event) {
-    const { target, key } = event;
-    if (event.ctrlKey || event.altKey || event.metaKey || target.matches('input:not([type="checkbox"], [type="range"]), select, textarea')) return;
+    const { target } = event;
+    if (event.ctrlKey || event.altKey || event.metaKey || event.isComposing || target.matches(WRITTEN)) return;
+    // a letter is the same with Shift and with Caps Lock, and a sign is what it is on whatever key the layout has it
+    const key = event.key.length === 1 ? event.key.toLowerCase() : event.key;
+    if (this.act(key, event)) event.preventDefault();
+  }
+
+  /** Does what a key is for; whether it is for something. */
+  act(key, { target, shiftKey, repeat }) {
+    const isOnPlane = target === this.part('plane');
     const times = { '+': 2, '-': 0.5, 0: 0 }[key];
-    if (event.shiftKey && target === this.part('plane') && this.walk(key)) event.preventDefault();
-    else if (times !== undefined) this.zoom(times);
-    else if (key === ' ' && !target.matches('button, input')) {
-      this.toggle();
-      event.preventDefault();
-    } else if (!event.shiftKey && this.pressed(key)) event.preventDefault();
+    if (isOnPlane && shiftKey && this.walk(key)) return true;
+    if (isOnPlane && key === 'Enter') return repeat || this.use();
+    if (times !== undefined) {
+      this.zoom(times);
+      return true;
+    }
+    if (key === ' ' && !target.matches('button, input:not([type="radio"])')) {
+      if (!repeat) this.toggle();
+      return true;
+    }
+    if (key.length === 1) return repeat || this.pressed(key);
+    return !shiftKey && !(key.startsWith('Arrow') && target.matches('[type="radio"]')) && this.pressed(key);
+  }
+
+  /** What Enter does at the chosen site; whether it does something. */
+  use() {
+    return false;
   }
 
   /** What the page does on a key of its own; whether it is one. */
@@ -159,6 +191,12 @@ class Page {
     this.part('column').value = site % this.source.columns;
     this.part('row').value = Math.floor(site / this.source.columns);
     this.show();
+    this.hear(this.site.text(site));
+  }
+
+  /** Has a screen reader say something. What changes by itself, frame by frame, is never said so. */
+  hear(text) {
+    this.part('heard').textContent = text;
   }
 
   /** Chooses the site whose column and row were typed, where both are of the plane. */
@@ -167,6 +205,7 @@ class Page {
     if (column.value === '' || row.value === '' || !column.checkValidity() || !row.checkValidity()) return;
     this.chosen = Number(row.value) * this.source.columns + Number(column.value);
     this.show();
+    this.hear(this.site.text(this.chosen));
   }
 
   /** Makes everything as big as the window lets it be. */
@@ -180,7 +219,7 @@ class Page {
   show() {
     const { source, looks } = this;
     const { counts } = source.points[source.now];
-    this.counts.forEach((cell, i) => (cell.textContent = spelled(counts[i])));
+    this.counts.forEach((cell, i) => write(cell, spelled(counts[i])));
     this.site.show(this.chosen);
     this.plane.draw(this.chosen);
     this.chart.draw();
