@@ -16,6 +16,7 @@ class Page {
     this.part('row').max = source.rows - 1;
     this.part('plane').setAttribute('aria-label', `Plane of ${source.columns} by ${source.rows} sites`);
     this.counts = source.head.elements.map((element, i) => this.addElement(element, i + 1));
+    this.part('messages').classList.add('over');
     this.offerColors();
     this.listen();
   }
@@ -223,6 +224,7 @@ class Page {
     this.site.show(this.chosen);
     this.plane.draw(this.chosen);
     this.chart.draw();
+    write(this.part('small'), this.plane.smallText());
     this.part('cuts').hidden = source.acts.length === 0;
     this.part('scales').replaceChildren(...Array.from(looks.tints.values(), (tint) => tint.legend()));
   }

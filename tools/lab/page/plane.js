@@ -1,4 +1,7 @@
-const MOST_ZOOM = 48; // points of the screen that a site has at most
+const MOST_ZOOM = 64; // points of the screen that a site has at most
+const SMALL = 4; // points below which a site is hard to see
+const ENOUGH = 720; // points of a window's height that are the plane's alone; of more, some show the curves
+const MOST_CURVES = 160;
 
 /** The plane on its canvas: atoms, borders of tiles, abandoned attempts and the chosen site. */
 class PlaneView {
@@ -15,17 +18,27 @@ class PlaneView {
     this.top = 0;
   }
 
-  /** Takes the greatest size of a site, in whole points of the screen, with which the plane fits. */
+  /** Takes the greatest size of a site, in whole points of the screen, with which the plane and its controls fit. */
   fit() {
     const scale = window.devicePixelRatio;
     const { columns, rows } = this.source;
+    const stage = this.canvas.closest('section');
+    const beside = stage.getBoundingClientRect().top + window.scrollY + stage.offsetHeight - this.canvas.offsetHeight;
+    const curves = Math.min(MOST_CURVES, 0.8 * Math.max(0, window.innerHeight - ENOUGH));
     const wide = (this.canvas.parentElement.clientWidth * scale - 2) / columns;
-    const high = (Math.max(260, window.innerHeight - 440) * scale - 2) / rows;
+    const high = (Math.max(260, window.innerHeight - beside - curves) * scale - 2) / rows;
     this.least = Math.max(1, Math.floor(Math.min(wide, high, MOST_ZOOM * scale)));
     this.canvas.width = columns * this.least + 2;
     this.canvas.height = rows * this.least + 2;
     this.canvas.style.width = `${this.canvas.width / scale}px`;
     this.place(this.zoom, this.left, this.top);
+  }
+
+  /** How to see a site, if it is too small for that now. */
+  smallText() {
+    const wide = this.side / window.devicePixelRatio;
+    if (wide >= SMALL) return '';
+    return `A site is ${numbered(wide, 'point')} wide here: zoom in with the mouse wheel, + or the button to see one.`;
   }
 
   /** Zooms so many times nearer about a point of the canvas, by itself its middle; 0 goes back to the whole plane. */
