@@ -58,6 +58,19 @@ INKS = """(() => {
   const data = canvas.getContext('2d').getImageData(3 + %d * side, 3 + %d * side, side - 5, side - 5).data;
   return new Set(Array.from({ length: data.length / 4 }, (_, i) => data.slice(4 * i, 4 * i + 3).join())).size;
 })()"""
+# whether a script that is put into the page is kept from running
+PLANTED = """(() => {
+  const script = document.createElement('script');
+  script.textContent = 'window.planted = true';
+  document.head.append(script);
+  return window.planted === undefined;
+})()"""
+# counts how often the sites are painted
+PAINTS = """(() => {
+  const { paintSites } = PlaneView.prototype;
+  window.paints = 0;
+  PlaneView.prototype.paintSites = function () { window.paints++; paintSites.call(this); };
+})()"""
 DRAWN = "new Promise((done) => requestAnimationFrame(() => requestAnimationFrame(() => done(true))))"
 WORLD, ELEMENTS = EXAMPLES / "fence-tiles.world", EXAMPLES / "fence.ulam"
 NAMED = ("button", "slider", "checkbox", "combobox", "spinbutton", "application", "image")
@@ -271,6 +284,21 @@ class Fence(FilmPage):
         self.assertEqual(self.browser.requests(), [self.page.as_uri()])
         said = [event for event in self.browser.events if event.get("method") in ("Log.entryAdded", "Runtime.exceptionThrown")]
         self.assertEqual(said, [])
+
+    def test_policy(self) -> None:
+        """The page runs no script but its own."""
+        self.assertTrue(self.browser.value(PLANTED))
+
+    def test_dragging(self) -> None:
+        """A plane that is dragged is moved, and its sites aren't painted anew."""
+        for _ in range(2):
+            self.browser.letter("+")
+        self.browser.value(PAINTS)
+        left, top, width, height = self.box("plane")
+        self.browser.drag([(left + width / 2 + 5 * step, top + height / 2) for step in range(8)])
+        self.assertEqual(self.browser.value("window.paints"), 0)
+        self.browser.press("ArrowRight")
+        self.assertEqual(self.browser.value("window.paints"), 1)
 
     def test_address(self) -> None:
         """The address may name a frame, from the start and also while the page is open."""

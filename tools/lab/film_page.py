@@ -1,4 +1,6 @@
 """The page of a film: one file of HTML that has all of it, and asks nothing of a network."""
+import base64
+import hashlib
 import json
 import re
 from collections.abc import Mapping, Sequence
@@ -14,6 +16,9 @@ from lab.world import World
 PAGE = Path(__file__).resolve().parent / "page"
 SCRIPTS = ("film.js", "atoms.js", "looks.js", "tints.js", "plane.js", "chart.js", "measures.js", "failures.js", "page.js",
            "film_page.js")
+# The page runs its own script and no other, and asks for nothing.
+POLICY = ("default-src 'none'; script-src 'sha256-{script}'; style-src 'sha256-{style}'; img-src data:; base-uri 'none'; "
+          "form-action 'none'")
 CURVES = "Click into the curves to go to that moment."
 
 
@@ -34,18 +39,25 @@ def page(title: str, world: World, layout: Layout, marks: Sequence[Mark], packer
         **more,
     }
     data = json.dumps(told, separators=(",", ":")).replace("<", "\\u003c")
-    scripts = "".join(part(name) for name in SCRIPTS)
+    scripts = "\n" + "".join(part(name) for name in SCRIPTS)
+    style = "\n" + part("page.css")
+    policy = POLICY.format(script=digest(scripts), style=digest(style))
     return filled(part("frame.html"), {
         "TITLE": escape(title),
-        "STYLE": f"<style>\n{part('page.css')}</style>",
+        "STYLE": f'<meta http-equiv="Content-Security-Policy" content="{policy}">\n<style>{style}</style>',
         "CONTROLS": part("film_controls.html"),
         "KEYS": part("film_keys.html"),
         "CURVES": CURVES,
         "HANDS": "",
         "DATA": f'<script type="application/json" id="head">{data}</script>\n'
                 f'<script type="text/plain" id="frames">{packer.packed()}</script>',
-        "SCRIPT": f"<script>\n{scripts}</script>",
+        "SCRIPT": f"<script>{scripts}</script>",
     })
+
+
+def digest(text: str) -> str:
+    """The digest by which a policy names a script or a style."""
+    return base64.b64encode(hashlib.sha256(text.encode()).digest()).decode()
 
 
 def part(name: str) -> str:

@@ -118,7 +118,7 @@ class ChartView {
     pen.drawImage(this.curves, 0, 0);
     pen.fillStyle = this.looks.theme.ink;
     const { events } = this.source.points[this.source.now];
-    pen.fillRect(this.xOf(events) - scale, this.top, 2 * scale, this.bottom - this.top);
+    pen.fillRect(Math.min(this.right, this.xOf(events)) - scale, this.top, 2 * scale, this.bottom - this.top);
   }
 
   /** The point of the curves that is nearest to where a click was. */

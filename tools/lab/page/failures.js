@@ -1,13 +1,3 @@
-/** The sites where events failed, and how many at each, frame by frame; null if the film wasn't made with these. */
-function readFailures(head, reader) {
-  if (head.failed === null) return null;
-  return head.failed.map(() => {
-    const sites = new Uint32Array(reader.number());
-    reader.sites(sites, 0, sites.length);
-    return { sites, counts: Array.from(sites, () => reader.number()) };
-  });
-}
-
 /** A red cross on each site where events failed last, and how many there were; where they are known. */
 class FailuresView {
   constructor(source, plane, section, changed) {

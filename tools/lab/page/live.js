@@ -23,10 +23,12 @@ class Live {
     this.points = head.history.map(([events, ...counts]) => ({ events, counts }));
     this.places = { sites: [], counts: [] };
     this.shot = null;
+    this.version = 0; // another number for each plane
   }
 
   /** Takes what is told of the chain. */
   take(shot) {
+    this.version++;
     this.change(shot.changes);
     this.places = { sites: numbersOf(shot.places.sites), counts: numbersOf(shot.places.counts) };
     while (this.acts.length < shot.done) this.acts.push({ events: shot.events });

@@ -1,4 +1,5 @@
 const LOST = 'The chain does not answer: ./lab live has ended. This page goes on when it is started again.';
+const CURVES_EVERY = 250; // milliseconds in which the curves are drawn once at most while the chain plays
 const ORDERS = ['play', 'leg', 'slower', 'faster', 'alone', 'fork']; // the controls that need a chain at work
 
 /** Says something in a part of the page, or nothing. */
@@ -20,6 +21,7 @@ class LivePage extends Page {
     this.before = Promise.resolve();
     this.refused = ''; // why the last order was
     this.isLost = false;
+    this.charted = 0; // when the curves were drawn last
     this.corner = null; // the first of the two sites of a rectangle, if it was chosen by keys
     this.part('about').textContent = `A chain at work on ${this.tilesText()}, ${head.step ? 'stepped' : 'a thread for each tile'}${
       head.keep === 'reports' ? '' : ', without reports'}.`;
@@ -126,7 +128,10 @@ class LivePage extends Page {
   take(shot) {
     this.source.take(shot);
     this.looks.measure();
-    this.chart.fit();
+    if (shot.mode !== 'play' || performance.now() - this.charted > CURVES_EVERY) {
+      this.charted = performance.now();
+      this.chart.fit();
+    }
     this.show();
   }
 

@@ -5,9 +5,8 @@ class MeasureView {
     this.looks = looks;
     this.measure = measure;
     this.values = measure.values.map((value) => (value === '' ? null : Number(value)));
-    const known = this.values.filter((value) => value !== null);
-    this.least = Math.min(0, ...known);
-    this.most = Math.max(0, ...known);
+    this.least = this.values.reduce((least, value) => Math.min(least, value ?? 0), 0);
+    this.most = this.values.reduce((most, value) => Math.max(most, value ?? 0), 0);
     if (this.most === this.least) this.most = this.least + 1;
     const line = made('p', `${measure.name}: `, 'measure');
     this.now = line.appendChild(made('strong', ''));

@@ -77,6 +77,7 @@ class Page {
     }
     this.on('color-by', 'change', () => {
       this.looks.colorBy(this.part('color-by').value);
+      this.plane.painted = null;
       this.show();
     });
     for (const [id, times] of [['nearer', 2], ['farther', 0.5], ['whole', 0]]) this.on(id, 'click', () => this.zoom(times));

@@ -13,6 +13,7 @@ class PlaneView {
     this.small = new OffscreenCanvas(source.columns, source.rows);
     this.image = new ImageData(source.columns, source.rows);
     this.words = new Uint32Array(this.image.data.buffer);
+    this.painted = null; // the version of the source whose sites are, with the looks of now
     this.zoom = 1;
     this.left = 0;
     this.top = 0;
@@ -20,6 +21,7 @@ class PlaneView {
 
   /** Takes the greatest size of a site, in whole points of the screen, with which the plane and its controls fit. */
   fit() {
+    this.painted = null;
     const scale = window.devicePixelRatio;
     const { columns, rows } = this.source;
     const stage = this.canvas.closest('section');
@@ -79,7 +81,8 @@ class PlaneView {
   draw(chosen) {
     const { pen, looks, side, source } = this;
     const { firstColumn, endColumn, firstRow, endRow } = this.inSight();
-    this.paintSites();
+    if (this.painted !== source.version) this.paintSites();
+    this.painted = source.version;
     pen.imageSmoothingEnabled = false;
     const [wide, high] = [endColumn - firstColumn, endRow - firstRow];
     pen.drawImage(this.small, firstColumn, firstRow, wide, high,
