@@ -1,5 +1,5 @@
 #!/usr/bin/env python3
-"""Frames a second of `./lab live`: the page of a chain, played for some seconds in a headless Chromium.
+"""Frames and events a second of `./lab live`: the page of a chain, played for some seconds in a headless Chromium.
 
     python3 tests/lab/live_frames.py [PROGRAM] [--seconds S]
 
@@ -30,6 +30,7 @@ COUNT = """(() => {
   LivePage.prototype.take = function (shot) { take.call(this, shot); window.frames_drawn++; };
   document.getElementById('play').click();
 })()"""
+AEPS = "Number(/; ([0-9.]+) AEPS/.exec(document.getElementById('moment').textContent)[1])"
 WARM_UP = 5.0  # seconds in which the length of legs settles
 
 
@@ -50,14 +51,14 @@ def measure(browser: Browser, room: Path, tiles: int, seconds: float) -> str:
         browser.open(live.address, READY)
         browser.value(COUNT)
         time.sleep(WARM_UP)
-        began, first = time.monotonic(), browser.value("window.frames_drawn")
+        began, first, before = time.monotonic(), browser.value("window.frames_drawn"), browser.value(AEPS)
         time.sleep(seconds)
-        drawn, took = browser.value("window.frames_drawn") - first, time.monotonic() - began
+        drawn, done, took = browser.value("window.frames_drawn") - first, browser.value(AEPS) - before, time.monotonic() - began
         pace = browser.value("document.getElementById('pace').textContent")
         live.ends(signal.SIGINT)
     finally:
         live.close()
-    return f"{64 * tiles} by {64 * tiles} sites: {drawn / took:.1f} frames a second, {pace}"
+    return f"{64 * tiles} by {64 * tiles} sites: {drawn / took:.1f} frames and {done / took:.2f} AEPS a second, {pace}"
 
 
 def main() -> int:
@@ -65,6 +66,7 @@ def main() -> int:
     parser = argparse.ArgumentParser(description=__doc__, formatter_class=argparse.RawDescriptionHelpFormatter)
     parser.add_argument("program", metavar="PROGRAM", nargs="?", type=Path, default=BUILT)
     parser.add_argument("--seconds", type=float, default=20.0, help="for how long each is played (20)")
+    parser.add_argument("--tiles", metavar="N", type=int, nargs="+", default=[1, 8], help="so many tiles each way (1 8)")
     given = parser.parse_args()
     os.environ["FEAST_PROGRAM"] = str(given.program.resolve())
     path = chromium()
@@ -73,7 +75,7 @@ def main() -> int:
     room = Path(tempfile.mkdtemp())
     browser = Browser(path, room / "browser")
     try:
-        for tiles in (1, 8):
+        for tiles in given.tiles:
             print(measure(browser, room, tiles, given.seconds), flush=True)
     finally:
         browser.close()

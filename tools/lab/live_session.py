@@ -189,7 +189,7 @@ class Session:
             return
         with self.changed:
             took = time.monotonic() - began
-            self.tempo.heed(took)
+            self.tempo.heed(took, self.maker.rule.attempts_each(self.next - 1))
             if self.mode == "leg":
                 self.mode = "pause"
             if self.mode == "play" or self.settles():  # so a pause shows what is on record
