@@ -179,5 +179,5 @@ class Back(LivePage):
         live = self.living(self.chain, WORLD, ELEMENTS)
         self.shows(live)
         self.press_button("reload")
-        self.browser.wait("document.querySelector('h1').textContent === 'chain-reload1'")
+        self.browser.wait("document.querySelector('h1')?.textContent === 'chain-reload1' && document.getElementById('said')?.hidden === false")
         self.assertEqual(self.text("said"), "The elements are read again; the chain goes on in chain-reload1.")

@@ -134,15 +134,17 @@ class Worker(LiveCase):
         session = Session(maker, course)
         self.addCleanup(session.end)
         self.addCleanup(setattr, Maker, "report", Maker.report)
-        began = threading.Event()
+        is_there, goes_on = threading.Event(), threading.Event()
 
         def ends(*_words: object) -> bytes:
-            began.wait(60)
+            is_there.set()
+            goes_on.wait(60)
             raise SystemExit("no more")
 
         setattr(Maker, "report", ends)
         session.turn("play")
-        waiting = threading.Timer(0.5, began.set)
+        is_there.wait(60)
+        waiting = threading.Timer(0.5, goes_on.set)
         waiting.start()
         with self.assertRaisesRegex(LabError, "SystemExit: no more"):
             session.rest()
