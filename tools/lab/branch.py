@@ -32,7 +32,7 @@ def begin_branch(arguments: argparse.Namespace) -> None:
         if act.leg <= int(text):
             raise LabError(f"--at {act.text}: the branch begins behind leg {text}")
     acts = [*(act for act in old.act_texts(begun) if leg_of(act) <= int(text)), *(act.text for act in new)]
-    copy_chain(old, Folder(arguments.folder), begun, course, int(text), acts)
+    copy_chain(old, Folder(arguments.folder, is_lasting=True), begun, course, int(text), acts)
     arguments.world, arguments.files, arguments.at = old.start, old.files, acts
     arguments.step, arguments.seed, arguments.keep = begun.step, begun.seed, begun.keep
 

@@ -105,7 +105,7 @@ def run(arguments: argparse.Namespace) -> int:
 
 def make(arguments: argparse.Namespace) -> None:
     """Begins a chain, or goes on with it, and tells how far it has come."""
-    course = made(arguments, Progress(max(arguments.legs, 1)))
+    course = made(arguments, Progress(max(arguments.legs, 1)), is_lasting=True)
     print(course.summary(arguments.folder))
     for text in arguments.at:
         leg = int(text.partition(":")[0])
@@ -113,11 +113,12 @@ def make(arguments: argparse.Namespace) -> None:
             print(f"--at {text}: still to come; the chain has {len(course.legs) - 1} legs so far, and --legs {leg} or more does it")
 
 
-def made(arguments: argparse.Namespace, progress: Progress) -> Course:
-    """Begins a chain, or goes on with it, until it has its legs; gives back its course."""
+def made(arguments: argparse.Namespace, progress: Progress, is_lasting: bool) -> Course:
+    """Begins a chain, or goes on with it, until it has its legs; gives back its course. If it is lasting, what a leg needs
+    has come down to the disk before the leg counts as done."""
     if arguments.legs < 1:
         raise LabError(f"--legs {arguments.legs}: a chain has at least one leg")
-    program, folder = Program.find(), Folder(arguments.folder)
+    program, folder = Program.find(), Folder(arguments.folder, is_lasting)
     start = Start.of(program, arguments.world, arguments.files, arguments.step, arguments.seed, arguments.keep, arguments.at)
     layout = Layout.of(program, arguments.files)
     measures_of(arguments.measures, layout)

@@ -8,7 +8,7 @@ from lab.chain_folder import Begun, Course, Folder, Leg
 from lab.chain_rule import Rule, by_legs
 from lab.errors import LabError
 from lab.failure_finder import Finder
-from lab.files import read_text, write_whole
+from lab.files import read_text, write_new
 from lab.kept import AnotherReport, read_report
 from lab.layout import Layout
 from lab.measures import Measure, measured, measures_of
@@ -100,7 +100,7 @@ class Chain:
         """What the program's audit of a leg finds wrong."""
         with tempfile.TemporaryDirectory() as room:
             unpacked = Path(room) / "report"
-            write_whole(unpacked, report)
+            write_new(unpacked, report)
             try:
                 answer = self.program.call(["audit", self.folder.world(number), unpacked, *self.folder.files])
                 verdict = answer.text.strip()

@@ -6,7 +6,7 @@ from pathlib import Path
 
 from lab.chain_folder import Begun, Course, Folder, Leg
 from lab.errors import LabError
-from lab.files import read_bytes, read_text, write_whole
+from lab.files import read_bytes, read_text
 
 
 def copy_chain(old: Folder, new: Folder, begun: Begun, course: Course, last: int, acts: Sequence[str]) -> None:
@@ -28,7 +28,7 @@ def copy_chain(old: Folder, new: Folder, begun: Begun, course: Course, last: int
             raise LabError(f"{new.path}: it lacks legs of {old.path}, whose course has other columns by now; name another folder")
         for number in range(len(there.legs), last + 1):
             for file in (old.world(number), old.atoms(number), *([old.report(number)] if begun.keep == "reports" else [])):
-                write_whole(new.path / file.name, read_bytes(file))
+                new.write(new.path / file.name, read_bytes(file))
             there.legs.append(course.legs[number])
             new.write_course(there)
 

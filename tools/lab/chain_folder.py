@@ -1,6 +1,5 @@
 """The folder of a chain: what it was begun with, its legs, and its course."""
 import csv
-import fcntl
 import io
 import json
 import os
@@ -12,10 +11,11 @@ from typing import Any
 
 from lab.acts import Act
 from lab.errors import LabError
-from lab.files import PART, cause, read_text, write_whole
+from lab.files import PART, cause, read_text
 from lab.inputs import Inputs
 from lab.kept import SUFFIX
 from lab.layout import Layout
+from lab.locks import held
 from lab.world import World
 
 MANIFEST = "chain.json"
@@ -169,14 +169,16 @@ class Folder(Inputs):
 
     def begin(self, begun: Begun, world: Path, files: Sequence[Path], atoms: str, course: Course) -> None:
         """Begins a chain in an empty folder, or in one where a beginning was stopped."""
-        write_whole(self.coming, json.dumps(asdict(begun), indent=2) + "\n")
+        self.write(self.coming, json.dumps(asdict(begun), indent=2) + "\n")
         (self.path / ACTS).unlink(missing_ok=True)
         self.copy_in(world, files)
-        write_whole(self.atoms(0), atoms)
+        self.write(self.atoms(0), atoms)
         if begun.at:
             self.write_acts(begun.at)
         self.write_course(course)
+        self.settle(self.copies)
         os.replace(self.coming, self.manifest)
+        self.settle()
 
     def act_texts(self, begun: Begun) -> list[str]:
         """The acts on record, in their order; if there is no record, those with which the chain was begun."""
@@ -196,21 +198,13 @@ class Folder(Inputs):
 
     def write_acts(self, texts: Iterable[str]) -> None:
         """Writes the record of the acts, one in a line."""
-        write_whole(self.path / ACTS, "".join(f"{text}\n" for text in texts))
+        self.write(self.path / ACTS, "".join(f"{text}\n" for text in texts))
 
     @contextmanager
     def held(self) -> Iterator[None]:
         """Holds the folder, so that no second lab is at work on the same chain."""
-        handle = os.open(self.path, os.O_RDONLY | os.O_DIRECTORY)
-        try:
-            fcntl.flock(handle, fcntl.LOCK_EX | fcntl.LOCK_NB)
-        except BlockingIOError as error:
-            os.close(handle)
-            raise LabError(f"{self.path}: another call of the lab is at work on this chain") from error
-        try:
+        with held(self.path, "at work on this chain"):
             yield
-        finally:
-            os.close(handle)
 
     def begun(self) -> Begun:
         """What the chain was begun with."""
@@ -227,8 +221,10 @@ class Folder(Inputs):
         return begun
 
     def write_course(self, course: Course) -> None:
-        """Writes the course; with its row a leg is done."""
-        write_whole(self.path / COURSE, course.text())
+        """Writes the course; with its row a leg is done. What the leg has is on the disk before, if the folder is lasting."""
+        self.settle()
+        self.write(self.path / COURSE, course.text())
+        self.settle()
 
     def course(self, elements: list[str], sites: int) -> Course:
         """The legs that are done."""

@@ -9,7 +9,7 @@ from lab.chain_copy import copy_chain
 from lab.chain_folder import Begun, Course, Folder
 from lab.chain_start import Start
 from lab.errors import LabError
-from lab.files import write_whole
+from lab.files import write_new
 from lab.layout import Layout
 from lab.legs import Maker
 from lab.program import Program
@@ -44,5 +44,5 @@ def anew(program: Program, maker: Maker, number: int, atoms: Sequence[str], file
     front = replace(world, seed=seed, atoms=[], order=[]).front()
     with tempfile.TemporaryDirectory() as room:
         path = Path(room) / "plane"
-        write_whole(path, front + "".join(f"atom {line}\n" for line in atoms))
+        write_new(path, front + "".join(f"atom {line}\n" for line in atoms))
         yield Start.of(program, path, files, maker.begun.step, None, maker.begun.keep)

@@ -5,7 +5,7 @@ from dataclasses import dataclass
 from pathlib import Path
 
 from lab.errors import LabError
-from lab.files import cause, read_bytes, write_whole
+from lab.files import cause, read_bytes, sync, telling, write_inside, write_new
 
 START = "start.world"
 ELEMENTS = "elements"
@@ -13,9 +13,22 @@ ELEMENTS = "elements"
 
 @dataclass(frozen=True)
 class Inputs:
-    """The folder."""
+    """The folder. If it is lasting, what it has comes down to the disk: each file before it is put in its place, and the
+    names of all before one that says that they are there (`settle`)."""
 
     path: Path
+    is_lasting: bool = False
+
+    def write(self, path: Path, data: str | bytes) -> None:
+        """Writes one of its files, whole or not at all."""
+        write_inside(path, data, self.is_lasting)
+
+    def settle(self, *folders: Path) -> None:
+        """Has the names of its files come down to the disk, if it is lasting, and those of the files of folders in it first."""
+        if self.is_lasting:
+            for folder in (*folders, self.path):
+                with telling(folder):
+                    sync(folder)
 
     @property
     def start(self) -> Path:
@@ -38,11 +51,13 @@ class Inputs:
     def copy_in(self, world: Path, files: Sequence[Path]) -> None:
         """Makes the copies, in the place of those that a beginning left that was stopped."""
         self.copies.mkdir(exist_ok=True)
+        if self.copies.is_symlink():
+            raise LabError(f"{self.copies}: it has to be a folder, and is a link to one")
         for left in self.copies.iterdir():
             left.unlink()
-        write_whole(self.start, read_bytes(world))
+        self.write(self.start, read_bytes(world))
         for number, file in enumerate(files):
-            write_whole(self.copies / f"{number:02}-{file.name}", read_bytes(file))
+            self.write(self.copies / f"{number:02}-{file.name}", read_bytes(file))
 
     def other(self, world: str, elements: Sequence[str]) -> Path | None:
         """The first copy that hasn't this digest any more, or the folder of the copies if there are more or fewer of them."""
@@ -57,7 +72,7 @@ class Inputs:
         for number, file in enumerate(self.files):
             found.append(room / str(number) / file.name.partition("-")[2])
             found[-1].parent.mkdir()
-            write_whole(found[-1], read_bytes(file))
+            write_new(found[-1], read_bytes(file))
         return found
 
 

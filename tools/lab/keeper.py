@@ -4,7 +4,7 @@ from concurrent.futures import Future, ThreadPoolExecutor
 from types import TracebackType
 
 from lab.chain_folder import Folder
-from lab.files import read_bytes, write_whole
+from lab.files import read_bytes
 from lab.kept import pack
 from lab.world import World
 
@@ -57,8 +57,9 @@ class Keeper:
         folder = self.folder
         report = read_bytes(folder.raw(leg))
         try:
-            write_whole(folder.kept(leg), pack(report, self.world))
+            folder.write(folder.kept(leg), pack(report, self.world))
         except (ValueError, LookupError):
-            write_whole(folder.packed(leg), gzip.compress(report, PACKING, mtime=0))
+            folder.write(folder.packed(leg), gzip.compress(report, PACKING, mtime=0))
             folder.kept(leg).unlink(missing_ok=True)  # of a leg that was stopped, and is made again
+        folder.settle()
         folder.raw(leg).unlink()

@@ -6,7 +6,7 @@ from dataclasses import dataclass
 from lab.chain_folder import Begun, Folder, Leg
 from lab.chain_rule import Rule
 from lab.failure_finder import Finder
-from lab.files import read_text, write_whole
+from lab.files import read_text
 from lab.layout import Layout
 from lab.measures import Measure, measured
 from lab.outcome import Outcome, atom_lines, counts
@@ -32,7 +32,7 @@ class Maker:
     def report(self, number: int, atoms: Sequence[str]) -> bytes:
         """The report of a leg that begins with these atoms; its world is written first."""
         world = self.folder.world(number)
-        write_whole(world, self.rule.world_of(number, atoms))
+        self.folder.write(world, self.rule.world_of(number, atoms))
         return self.program.call(["step" if self.begun.step else "run", world, *self.folder.files]).output
 
     def failed(self, atoms: Sequence[str], report: bytes) -> Counter[int] | None:
@@ -46,8 +46,8 @@ class Maker:
         """
         outcome = Outcome.of(report)
         if self.begun.keep == "reports":
-            write_whole(self.folder.raw(number), report)
-        write_whole(self.folder.atoms(number), outcome.atoms)
+            self.folder.write(self.folder.raw(number), report)
+        self.folder.write(self.folder.atoms(number), outcome.atoms)
         return Leg(number, self.rule.attempts(number), outcome.events, outcome.abandoned,
                    counts(outcome.atoms, self.layout.elements), measured(self.measures, outcome.atoms),
                    None if failed is None else failed.total())

@@ -1,13 +1,16 @@
 """The words of the lab."""
 import argparse
+import errno
 import importlib
 import os
 import signal
 import sys
 import tempfile
+from collections.abc import Iterator
+from contextlib import contextmanager, redirect_stdout
 from pathlib import Path
 from types import FrameType, ModuleType
-from typing import NoReturn
+from typing import Any, NoReturn, TextIO, cast
 
 from lab.errors import LabError
 from lab.files import cause
@@ -49,6 +52,44 @@ def parser(modules: dict[str, ModuleType]) -> Parser:
     return top
 
 
+class Output:
+    """Standard output, if it is open, which notes whether it has failed: the system's word for that has no name of a file."""
+
+    def __init__(self, out: TextIO | None) -> None:
+        self.out = out
+        self.has_failed = False
+
+    def write(self, text: str) -> int:
+        """Writes a text."""
+        with self.noting() as out:
+            return out.write(text)
+
+    def flush(self) -> None:
+        """Has what was written come out."""
+        if self.out is not None:
+            with self.noting() as out:
+                out.flush()
+
+    @contextmanager
+    def noting(self) -> Iterator[TextIO]:
+        """Gives what is written to, and notes a failure."""
+        try:
+            if self.out is None:
+                raise OSError(errno.EBADF, os.strerror(errno.EBADF))
+            yield self.out
+        except OSError:
+            self.has_failed = True
+            raise
+
+    def drop(self) -> None:
+        """Drops what could not be written, which would else be tried again at the end."""
+        if self.out is not None:
+            os.dup2(os.open(os.devnull, os.O_WRONLY), self.out.fileno())
+
+    def __getattr__(self, name: str) -> Any:
+        return getattr(self.out, name)
+
+
 def stop(number: int, _frame: FrameType | None) -> NoReturn:
     """Ends at a signal, as an interrupt from the keyboard does, so that calls of the program end too."""
     raise SystemExit(128 + number)
@@ -57,6 +98,13 @@ def stop(number: int, _frame: FrameType | None) -> NoReturn:
 def main(words: list[str]) -> int:
     """Does what the words say, and gives back the status."""
     signal.signal(signal.SIGTERM, stop)
+    output = Output(sys.stdout)
+    with redirect_stdout(cast(TextIO, output)):
+        return ended(words, output)
+
+
+def ended(words: list[str], output: Output) -> int:
+    """The status of a call, which tells in one line what goes wrong."""
     try:
         arguments = parser(verbs(words)).parse_args(words)
         with tempfile.TemporaryDirectory() as room:
@@ -72,14 +120,11 @@ def main(words: list[str]) -> int:
         print("lab: interrupted", file=sys.stderr)
         return 128 + signal.SIGINT
     except BrokenPipeError:
-        drop_output()
+        output.drop()
         return 1
     except OSError as error:
-        drop_output()
-        print(f"lab: {error.filename or 'standard output'}: {cause(error)}", file=sys.stderr)
+        name = error.filename or ("standard output" if output.has_failed else None)
+        if output.has_failed:
+            output.drop()
+        print(f"lab: {cause(error)}" if name is None else f"lab: {name}: {cause(error)}", file=sys.stderr)
         return 2
-
-
-def drop_output() -> None:
-    """Drops what could not be written to standard output, which would else be tried again at the end."""
-    os.dup2(os.open(os.devnull, os.O_WRONLY), sys.stdout.fileno())

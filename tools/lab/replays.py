@@ -12,6 +12,7 @@ from dataclasses import replace
 from itertools import count
 from pathlib import Path
 
+from lab.files import write_new
 from lab.program import Program, Refusal
 from lab.world import World
 
@@ -75,15 +76,15 @@ class Plane:
         journal = "".join(map("{} {} {} {} {} {}\n".format, stamps, tiles, made, columns, rows, seeds))
         world, report = self.room / "part.world", self.room / "part.report"
         atoms = "".join(f"atom {line}\n" for line in before)
-        world.write_text(self.world.front() + tries + atoms)
-        report.write_text(f"feast 1\natoms 0\njournal {len(made)}\n{journal}abandoned 0\n")
+        write_new(world, self.world.front() + tries + atoms)
+        write_new(report, f"feast 1\natoms 0\njournal {len(made)}\n{journal}abandoned 0\n")
         return self.program.call(["replay", world, report, *self.files]).text.splitlines()[2:]
 
 
 def call_on(program: Program, report: Path, data: bytes, room: Path, words: Sequence[str | Path], files: Sequence[Path]) -> list[str]:
     """The lines that a call writes of a report, which has these bytes or leads to them, between the words and the files."""
     plain = room / "whole.report"
-    plain.write_bytes(data)
+    write_new(plain, data)
     before, after = words[:2], words[2:]
     try:
         return program.call([*before, plain, *after, *files]).text.splitlines()

@@ -4,6 +4,7 @@ from collections.abc import Sequence
 from pathlib import Path
 
 from lab.errors import LabError
+from lab.files import write_new
 from lab.program import Program
 from lab.seeds import MODULUS
 from lab.world import World
@@ -15,7 +16,7 @@ def first_atoms(program: Program, world: Path, files: Sequence[str | Path], cwd:
     """The atoms that a world begins with, as `replay` writes them; refuses what a run would refuse."""
     with tempfile.TemporaryDirectory() as room:
         journal = Path(room) / "journal"
-        journal.write_text(NO_EVENTS)
+        write_new(journal, NO_EVENTS)
         return program.call(["replay", world, journal, *files], cwd).text
 
 

@@ -95,7 +95,7 @@ def run(arguments: argparse.Namespace) -> int:
         raise LabError(f"--keep {arguments.keep}: it takes a folder: --into DIR or --plan DIR")
     plan = plan_of_words(arguments)
     with tempfile.TemporaryDirectory() as room:
-        sweep = Sweep(folder or Path(room) / "sweep")
+        sweep = Sweep(folder or Path(room) / "sweep", is_lasting=folder is not None)
         if not sweep.is_planned:
             check_runs(plan, arguments.world, arguments.files)
         write_plan(sweep, plan, arguments.world, arguments.files)

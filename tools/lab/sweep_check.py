@@ -5,6 +5,7 @@ from pathlib import Path
 
 from lab.chain_start import acts_of
 from lab.errors import LabError
+from lab.files import write_new
 from lab.layout import Layout
 from lab.program import Program, Refusal
 from lab.starting import first_atoms
@@ -31,7 +32,7 @@ def check(program: Program, sweep: Sweep, number: int, room: Path, copies: dict[
     run = sweep.run(number)
     legs = sweep.plan.legs or 1
     for copy, data in zip(copies, [sweep.world_of(run), *sweep.elements_of(run)], strict=True):
-        (room / copy).write_bytes(data)
+        write_new(room / copy, data)
     start, *elements = copies
     try:
         first_atoms(program, Path(start), elements, room)

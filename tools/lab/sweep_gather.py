@@ -1,16 +1,14 @@
 """What the runs of a sweep came to, in one table; and whether they are what the plan says."""
 import csv
-import fcntl
 import io
-import os
 from collections.abc import Iterator, Sequence
-from contextlib import contextmanager
 
 from lab.chain_audit import Chain
 from lab.chain_folder import Folder
 from lab.errors import LabError
-from lab.files import read_text, write_whole
+from lab.files import read_text, write_inside
 from lab.layout import Layout
+from lab.locks import held
 from lab.program import Program
 from lab.progress import Progress
 from lab.sweep_plan import TABLE, Run, Sweep
@@ -21,9 +19,9 @@ from lab.until import Until
 def gather(sweep: Sweep) -> int:
     """Writes the table of the runs that are over, and names those that are missing; gives back 1 if there are some."""
     runs = sweep.plan.runs
-    with held(sweep):
+    with held(sweep.path, "gathering this sweep"):
         missing = sweep.missing()
-        write_whole(sweep.path / TABLE, table(sweep, sorted({*range(1, runs + 1)} - {*missing})))
+        write_inside(sweep.path / TABLE, table(sweep, sorted({*range(1, runs + 1)} - {*missing})))
     print(f"{sweep.path / TABLE}: {runs - len(missing)} of {runs} runs")
     if missing:
         print(f"missing: {spans(missing)}", flush=True)
@@ -49,23 +47,6 @@ def spans(numbers: Sequence[int]) -> str:
         else:
             ends.append([number, number])
     return ",".join(str(first) if first == last else f"{first}-{last}" for first, last in ends)
-
-
-@contextmanager
-def held(sweep: Sweep) -> Iterator[None]:
-    """Holds the folder of a sweep, so that no second lab gathers its runs. A file system without locks holds nothing."""
-    handle = os.open(sweep.path, os.O_RDONLY | os.O_DIRECTORY)
-    try:
-        fcntl.flock(handle, fcntl.LOCK_EX | fcntl.LOCK_NB)
-    except BlockingIOError as error:
-        os.close(handle)
-        raise LabError(f"{sweep.path}: another call of the lab is gathering this sweep") from error
-    except OSError:
-        pass
-    try:
-        yield
-    finally:
-        os.close(handle)
 
 
 def audit(sweep: Sweep) -> int:

@@ -16,7 +16,7 @@ from typing import Any
 
 from lab.constants import with_values
 from lab.errors import LabError
-from lab.files import PART, cause, read_byte_text, read_bytes, read_text, write_whole
+from lab.files import PART, cause, read_byte_text, read_bytes, read_text
 from lab.inputs import ELEMENTS, START, Inputs
 from lab.seeds import nth
 from lab.sweep_values import OF_WORLD, FILL, set_world
@@ -183,7 +183,9 @@ def write_plan(sweep: Sweep, plan: Plan, world: Path, files: Sequence[Path]) -> 
     if others:
         raise LabError(f"{sweep.path}: no sweep was planned there, and it has other files, such as {min(others)}")
     sweep.copy_in(world, files)
-    write_whole(sweep.path / PLAN, plan.text())
+    sweep.settle(sweep.copies)
+    sweep.write(sweep.path / PLAN, plan.text())
+    sweep.settle()
 
 
 def refuse_other(sweep: Sweep, plan: Plan) -> None:

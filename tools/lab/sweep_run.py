@@ -1,7 +1,6 @@
 """A run of a sweep: a chain of one or more legs, made apart and then put in its place whole."""
 import argparse
 import csv
-import errno
 import io
 import json
 import os
@@ -17,11 +16,11 @@ from pathlib import Path
 from lab import chain
 from lab.chain_folder import COLUMNS, COURSE
 from lab.errors import LabError
-from lab.files import PART, cause, read_text, write_whole
+from lab.files import PART, cause, read_text, sync, write_new
 from lab.inputs import START, digest
 from lab.measures import WHOLE
 from lab.progress import Progress
-from lab.sweep_plan import RUNS, Plan, Run, Sweep
+from lab.sweep_plan import Plan, Run, Sweep
 
 LABEL = "run.json"
 
@@ -44,14 +43,14 @@ def make_run(sweep: Sweep, run: Run, stopped: threading.Event) -> None:
     if sweep.folder(run.number).is_dir():
         return
     with inputs(sweep, run) as (room, world, files):
-        chain.made(chain_words(sweep, run, room / "chain", world, files), Watched(stopped))
+        chain.made(chain_words(sweep, run, room / "chain", world, files), Watched(stopped), is_lasting=False)
         put_in_place(sweep, run, room / "chain")
 
 
 def again(sweep: Sweep, run: Run) -> None:
     """Asks for a chain again that has all its legs: nothing is made. Raises LabError if it was begun with anything else."""
     with inputs(sweep, run) as (_, world, files):
-        chain.made(chain_words(sweep, run, sweep.folder(run.number), world, files), Watched(threading.Event()))
+        chain.made(chain_words(sweep, run, sweep.folder(run.number), world, files), Watched(threading.Event()), is_lasting=False)
 
 
 @contextmanager
@@ -60,9 +59,9 @@ def inputs(sweep: Sweep, run: Run) -> Iterator[tuple[Path, Path, list[Path]]]:
     with tempfile.TemporaryDirectory(prefix="feast-sweep-") as name:
         room = Path(name)
         world, files = room / START, sweep.with_plain_names(room)
-        write_whole(world, sweep.world_of(run))
+        write_new(world, sweep.world_of(run))
         for file, data in zip(files, sweep.elements_of(run), strict=True):
-            write_whole(file, data)
+            write_new(file, data)
         yield room, world, files
 
 
@@ -91,7 +90,8 @@ def put_in_place(sweep: Sweep, run: Run, made: Path) -> None:
     beside = place.with_name(f"{place.name}.{socket.gethostname()}.{os.getpid()}.{uuid.uuid4().hex[:8]}{PART}")
     try:
         try:
-            (sweep.path / RUNS).mkdir(exist_ok=True)
+            place.parent.mkdir(exist_ok=True)
+            sync(sweep.path)
             if sweep.plan.keep == "none":
                 beside.mkdir()
                 shutil.copyfile(made / COURSE, beside / COURSE)
@@ -116,18 +116,6 @@ def rename_first(beside: Path, place: Path) -> None:
     except OSError:
         if not place.is_dir():
             raise
-
-
-def sync(path: Path) -> None:
-    """Has what was written to a file or a folder come down to the disk; some file systems don't do that for folders."""
-    handle = os.open(path, os.O_RDONLY)
-    try:
-        os.fsync(handle)
-    except OSError as error:
-        if error.errno != errno.EINVAL:
-            raise
-    finally:
-        os.close(handle)
 
 
 def rows_of(sweep: Sweep, run: Run) -> list[list[str]]:

@@ -12,6 +12,7 @@ from itertools import product
 from pathlib import Path
 
 from lab.event_maker import OFFSETS, REACH, Made, Maker
+from lab.files import write_new
 from lab.limits import MOST_ACROSS, MOST_SIDE
 from lab.program import Program
 from lab.world import World
@@ -97,8 +98,8 @@ class WindowCheck:
             come += self.lines(made.after, changed, x, y)
         if journal:
             world, report = self.room / "windows.world", self.room / "windows.report"
-            world.write_text(sheet.world.front() + "".join(tries) + "".join(f"atom {line}\n" for line in before))
-            report.write_text(f"feast 1\natoms 0\njournal {len(journal)}\n{''.join(journal)}abandoned 0\n")
+            write_new(world, sheet.world.front() + "".join(tries) + "".join(f"atom {line}\n" for line in before))
+            write_new(report, f"feast 1\natoms 0\njournal {len(journal)}\n{''.join(journal)}abandoned 0\n")
             found = self.program.call(["replay", world, report, *self.files]).text.splitlines()[2:]
             other = set(before).difference(gone).union(come).symmetric_difference(found)
             if other:

@@ -6,7 +6,7 @@ from collections.abc import Sequence
 from pathlib import Path
 from typing import Any
 
-from lab.files import read_bytes
+from lab.files import read_bytes, write_new
 
 # The options that name files to write.
 WRITTEN = ("output", "table", "svg")
@@ -40,7 +40,7 @@ def settled(value: Any, room: Path) -> Any:
     if not isinstance(value, (str, Path)) or not is_pipe(value):
         return value
     copy = room / f"{len(list(room.iterdir()))}-{Path(value).name}"
-    copy.write_bytes(read_bytes(Path(value)))
+    write_new(copy, read_bytes(Path(value)))
     return type(value)(copy) if isinstance(value, str) else copy
 
 
