@@ -6,7 +6,7 @@ from tempfile import TemporaryDirectory
 from typing import Any
 
 from lab.errors import LabError
-from lab.film import page_of
+from lab.film import page_of, refuse_frames
 from lab.film_measures import Curves
 from lab.film_source import Source
 from lab.frames import Frame, frames
@@ -47,8 +47,7 @@ def counts(program: Program, source: Source, every: int) -> Any:
 
 def film(program: Program, source: Source, count: int) -> Film:
     """The film of so many frames behind the first."""
-    if count < 1:
-        raise LabError(f"film({count}): a film has at least one frame behind the first")
+    refuse_frames(f"film({count})", count)
     curves = Curves(source.measures, source.layout)
     films = curves.watched(played(program, source, source.moments(count)))
     return Film(page_of(source, films, curves, tinted([], source.layout, source.files), has_failures=False))

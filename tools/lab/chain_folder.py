@@ -11,7 +11,7 @@ from typing import Any
 
 from lab.acts import Act
 from lab.errors import LabError
-from lab.files import PART, cause, read_text
+from lab.files import PART, cause, read_rows, read_text
 from lab.inputs import Inputs
 from lab.kept import SUFFIX
 from lab.layout import Layout
@@ -214,7 +214,7 @@ class Folder(Inputs):
         try:
             found: Any = json.loads(read_text(path))
             begun = Begun(**found)
-        except (ValueError, TypeError) as error:
+        except (ValueError, TypeError, RecursionError) as error:
             raise LabError(f"{path}: no manifest of a chain") from error
         if json.dumps(found, indent=2) + "\n" != read_text(path) or list(map(type, found.values())) != KINDS:
             raise LabError(f"{path}: not as the lab wrote it")
@@ -229,7 +229,7 @@ class Folder(Inputs):
     def course(self, elements: list[str], sites: int) -> Course:
         """The legs that are done."""
         path = self.path / COURSE
-        header, *rows = list(csv.reader(io.StringIO(read_text(path)))) or [[]]
+        header, *rows = read_rows(path)
         has_failures = FAILED in header[:len(COLUMNS)]
         course = Course(elements, sites, has_failures=has_failures)
         first = len(course.head)

@@ -1,20 +1,22 @@
 """Maps of the plane: drawings in letters, and patterns in Golly's RLE."""
-import gzip
+import io
 import re
 import sys
-import zlib
 from collections.abc import Iterator
 from dataclasses import dataclass
 from pathlib import Path
 
 from lab.errors import LabError
-from lab.files import GZIP_MAGIC, read_bytes
+from lab.files import read_bytes
+from lab.packed import Bound, unpacked, unpacking, within
 
 HEADER = re.compile(r"\s*x\s*=\s*(\d+)\s*,\s*y\s*=\s*(\d+)\s*(?:,\s*rule\s*=\s*(\S.*?)\s*|,.*)?")
 RUN = re.compile(r"\s*(?:(\d*)\s*([p-y]?[A-X]|[.bo$!])|(\d*\s*\S))")
 EMPTY_IN_RLE = (".", "b")
 EMPTY_IN_LETTERS = (".", " ")
 STANDARD_INPUT = Path("-")
+LONGEST = Bound(1 << 26, 1 << 20)  # of a map
+DIGITS = 20  # at most so many of a number in RLE
 LIFE = ("b3/s23", "s23/b3", "23/3", "life")  # the names of the rule of the Game of Life
 # what a form that isn't read begins with, the endings of its files, and its name
 OTHER_FORMS = (("[M2]", (".mc",), "a macrocell file"), ("#Life 1.0", (".lif", ".life"), "a pattern in the form Life 1.05 or 1.06"))
@@ -70,11 +72,13 @@ class Drawing:
 
 def text_of(path: Path, name: str) -> str:
     """The text of a map, unpacked if it was packed by gzip, without a byte order mark."""
-    data = sys.stdin.buffer.read() if path == STANDARD_INPUT else read_bytes(path)
+    given = sys.stdin.buffer.read(LONGEST.bytes + 1) if path == STANDARD_INPUT else read_bytes(path)
+    with unpacking(name, "map"), unpacked(io.BytesIO(given)) as file:
+        data = within(file, LONGEST)
+    if data is None:
+        raise LabError(f"{name}: too long for a map, which has at most {LONGEST.bytes:,} bytes and {LONGEST.lines:,} lines")
     try:
-        return (gzip.decompress(data) if data.startswith(GZIP_MAGIC) else data).decode("utf-8-sig")
-    except (EOFError, zlib.error, gzip.BadGzipFile) as error:
-        raise LabError(f"{name}: the packed map is damaged or cut short") from error
+        return data.decode("utf-8-sig")
     except UnicodeDecodeError as error:
         raise LabError(f"{name}: byte {error.start + 1} is no part of a text in UTF-8") from error
 
@@ -98,9 +102,10 @@ def runs(name: str, lines: list[str]) -> Iterator[Mark]:
     x = y = 0
     text = "\n".join(line for line in lines if not line.startswith("#"))
     for match in RUN.finditer(text):
-        times, symbol = int(match[1] or 1), match[2]
+        symbol = match[2] if len(match[1] or "") <= DIGITS else None
         if symbol is None:
-            raise LabError(f"{name}: {match[3]} is no part of a pattern in RLE")
+            raise LabError(f"{name}: {match[0].strip()[:DIGITS + 2]} is no part of a pattern in RLE")
+        times = int(match[1] or 1)
         if symbol == "!":
             return
         if symbol == "$":

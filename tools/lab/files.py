@@ -1,14 +1,13 @@
 """Files that are read in one piece, and written whole or not at all."""
+import csv
 import errno
-import gzip
+import io
 import os
 import secrets
 import stat
-import zlib
 from collections.abc import Iterator
 from contextlib import contextmanager
 from pathlib import Path
-from typing import BinaryIO, cast
 
 from lab.errors import LabError
 
@@ -165,24 +164,14 @@ def read_text(path: Path) -> str:
         raise LabError(f"{path}: byte {error.start + 1} is no part of a text in UTF-8") from error
 
 
+def read_rows(path: Path) -> list[list[str]]:
+    """The rows of a table in CSV, of which there is at least one."""
+    try:
+        return list(csv.reader(io.StringIO(read_text(path)))) or [[]]
+    except csv.Error as error:
+        raise LabError(f"{path}: no table in CSV: {error}") from error
+
+
 def read_byte_text(path: Path) -> str:
     """The text of a file whose comments may have any bytes: one letter for each byte, as in Latin-1."""
     return read_bytes(path).decode("latin-1")
-
-
-@contextmanager
-def open_report(path: Path) -> Iterator[BinaryIO]:
-    """A report to read from, unpacked if it was packed by gzip, whatever its name."""
-    try:
-        with path.open("rb") as file:
-            is_packed = file.read(len(GZIP_MAGIC)) == GZIP_MAGIC
-            file.seek(0)
-            if is_packed:
-                with gzip.open(file) as unpacked:
-                    yield cast(BinaryIO, unpacked)
-            else:
-                yield file
-    except (EOFError, zlib.error, gzip.BadGzipFile) as error:
-        raise LabError(f"{path}: the packed report is damaged or cut short") from error
-    except OSError as error:
-        raise LabError(f"{path}: can't be read: {cause(error)}") from error

@@ -45,6 +45,7 @@ from lab.words import take_words_anywhere
 from lab.world import World
 
 FRAMES = 400
+MOST_FRAMES = 10_000  # each is a call of the program: on a small plane some two milliseconds of processor time, on the largest thirty
 PAGES = (".html", ".htm", ".xhtml")
 USAGE = """./lab film [-h] [--frames F] [--failures] [--color Element.member] [MEASURE..]
        (-o FILE.html [--table FILE.csv] | --svg K | --svg-movie SECONDS | --csv) (WORLD REPORT FILE.. | DIR)"""
@@ -57,7 +58,7 @@ def add_arguments(parser: argparse.ArgumentParser) -> None:
                         help="a world, the report of its run (packed by gzip or not) and the element files; "
                              "or DIR, the folder of a chain")
     parser.add_argument("--frames", type=int, default=FRAMES, metavar="F",
-                        help=f"how many frames follow the first, evenly spaced over the events (default {FRAMES})")
+                        help=f"how many frames follow the first, evenly spaced over the events (default {FRAMES}, at most {MOST_FRAMES:,})")
     parser.add_argument("-o", "--output", type=Path, metavar="FILE",
                         help="the file to write; without it SVG and CSV go to standard output")
     parser.add_argument("--table", type=Path, metavar="FILE.csv",
@@ -75,8 +76,7 @@ def add_arguments(parser: argparse.ArgumentParser) -> None:
 
 def run(arguments: argparse.Namespace) -> int:
     """Writes what is asked for."""
-    if arguments.frames < 1:
-        raise LabError(f"--frames {arguments.frames}: a film has at least one frame behind the first")
+    refuse_frames(f"--frames {arguments.frames}", arguments.frames)
     if arguments.svg_movie is not None and not 0.1 <= arguments.svg_movie <= 3600:
         raise LabError(f"--svg-movie {arguments.svg_movie:g}: a film takes from 0.1 to 3600 seconds")
     if arguments.output is None and arguments.svg is None and arguments.svg_movie is None and not arguments.csv:
@@ -84,6 +84,14 @@ def run(arguments: argparse.Namespace) -> int:
     refuse_outputs(arguments)
     refuse_useless(arguments)
     return status_of(lambda: write(arguments))
+
+
+def refuse_frames(said: str, count: int) -> None:
+    """Refuses numbers of frames that no film has."""
+    if count < 1:
+        raise LabError(f"{said}: a film has at least one frame behind the first")
+    if count > MOST_FRAMES:
+        raise LabError(f"{said}: a film has at most {MOST_FRAMES:,} frames behind the first, and that many take minutes")
 
 
 def write(arguments: argparse.Namespace) -> None:

@@ -15,21 +15,34 @@ is another than the one that the leg wrote, that is found. What is kept is a tex
 """
 import gzip
 import hashlib
+import re
 from collections import defaultdict
 from collections.abc import Iterator, Mapping, Sequence
-from itertools import accumulate, groupby, pairwise
+from itertools import groupby, pairwise
 from pathlib import Path
+from typing import BinaryIO
 
 from lab.draws import words
 from lab.errors import LabError
-from lab.files import open_report
+from lab.limits import LONGEST_NAME, MOST_ATTEMPTS, MOST_COLUMNS
 from lab.outcome import ABANDONED, JOURNAL
+from lab.packed import Bound, open_report, within
 from lab.seeds import MODULUS
 from lab.world import World
 
 FRONT = "feast kept 1\n"
 PACKING = 6
 SUFFIX = ".kept.gz"
+# What bounds a report: an atom's line has its site, its name and its state; an event's has at most 44 bytes.
+LONGEST_ATOM = 8 + LONGEST_NAME + 20
+LONGEST_ENTRY = 64
+HEADS = 4  # lines that say what follows
+LONGEST = Bound(139_000_000, MOST_COLUMNS**2 + MOST_ATTEMPTS + HEADS)
+# The lines of a kept report. Each number has no more digits than it can have.
+ATOMS = re.compile(r"atoms (\d{1,6})", re.ASCII)
+TILE = re.compile(r"tile (\d{1,2}) (\d{1,7}) (\d{1,7})", re.ASCII)
+RUN = re.compile(r"(\d{1,7})(?:x(\d{1,7}))?", re.ASCII)
+LOST = re.compile(r"(\d{1,7}) (\d{1,3}) (\d{1,2}) (-?\d{1,7})", re.ASCII)
 
 
 class AnotherReport(LabError):
@@ -78,39 +91,66 @@ def runs(stamps: Sequence[int]) -> str:
     return " ".join(f"{way}x{count}" if count > 1 else str(way) for way, count in groups)
 
 
-def stamps_from(text: str) -> list[int]:
-    """The numbers of which these are the differences."""
-    ways: list[int] = []
-    for run in text.split():
-        way, _, count = run.partition("x")
-        ways += [int(way)] * int(count or 1)
-    return list(accumulate(ways))
+def stamps_from(text: str, events: int, most: int) -> list[int]:
+    """The stamps, so many and none above the most, of which these are the differences. Raises ValueError if there are others."""
+    runs_of_them = text.split(" ", events) if text else []
+    found: list[int] = []
+    last = 0
+    for run in runs_of_them:
+        match = RUN.fullmatch(run)
+        way, times = (int(match[1]), int(match[2] or 1)) if match is not None else (0, 0)
+        if way < 1 or len(found) + times > events or last + way * times > most:
+            raise ValueError("other stamps")
+        found += range(last + way, last + way * times + 1, way)
+        last += way * times
+    return found
 
 
 def read_report(path: Path) -> bytes:
-    """The bytes of a report, packed by gzip or not, or kept by a chain, with the leg's world beside it."""
+    """The bytes of a report, packed by gzip or not, or kept by a chain, with the leg's world beside it. Refuses one that is
+    longer than any report, or than any of its world, before it is held."""
     with open_report(path) as file:
-        data = file.read()
-    if not data.startswith(FRONT.encode()):
-        return data
-    world = path.with_name(path.name.partition(".")[0] + ".world")
-    if not world.exists():
-        raise LabError(f"{path}: a kept report is read with the world of its leg, and {world} is not there")
+        if file.read(len(FRONT)) == FRONT.encode():
+            return read_kept(path, file)
+        data = within(file, LONGEST)
+    if data is None:
+        raise LabError(f"{path}: too long for a report, which has at most {LONGEST.bytes:,} bytes and {LONGEST.lines:,} lines")
+    return data
+
+
+def read_kept(path: Path, file: BinaryIO) -> bytes:
+    """The report that was kept in an open file."""
+    place = path.with_name(path.name.partition(".")[0] + ".world")
+    if not place.exists():
+        raise LabError(f"{path}: a kept report is read with the world of its leg, and {place} is not there")
+    world = World.read(place)
+    data = within(file, longest(world))
+    if data is None:
+        raise AnotherReport(f"{path}: it is too long for a report of its world")
     try:
-        return unpacked(data.decode("ascii"), World.read(world))
+        return unpacked(data.decode("ascii"), world)
     except (ValueError, LookupError) as error:
         raise AnotherReport(f"{path}: it is damaged, or its world is another") from error
 
 
+def longest(world: World) -> Bound:
+    """The bound of what is kept of a report of a world."""
+    on, sites = world.tiles - len(world.off), world.columns * world.rows
+    entries = (world.attempts or 0) * on + 2 * on + HEADS
+    return Bound(sites * LONGEST_ATOM + entries * LONGEST_ENTRY, sites + entries)
+
+
 def unpacked(text: str, world: World) -> bytes:
     """The report that was kept. Raises ValueError or LookupError if there is none that leads to this text."""
-    head, *lines = text.removeprefix(FRONT).splitlines()
-    count = int(lines[0].removeprefix("atoms "))
-    made = Made(world)
-    at = count + 1
+    head, front, *lines = text.removeprefix(FRONT).removesuffix("\n").split("\n")
+    match = ATOMS.fullmatch(front)
+    if match is None:
+        raise ValueError("no number of atoms")
+    at = int(match[1])
+    made, atoms = Made(world), lines[:at]
     while at < len(lines):
         at = made.take(lines, at)
-    report = "".join(f"{line}\n" for line in ["feast 1", *lines[:count + 1], *made.lines()]).encode()
+    report = "".join(f"{line}\n" for line in ["feast 1", front, *atoms, *made.lines()]).encode()
     if head != f"digest {hashlib.sha256(report).hexdigest()}":
         raise ValueError("another digest")
     return report
@@ -122,24 +162,29 @@ class Made:
     def __init__(self, world: World) -> None:
         on = [tile for tile in range(world.tiles) if tile not in world.off]
         drawn = words([((world.seed or 0) + tile) % MODULUS for tile in on], 2 * (world.attempts or 0))
-        self.drawn = dict(zip(on, drawn, strict=True))
+        self.drawn = dict(zip(on, drawn, strict=True))  # what each tile drew that is still to come
+        self.is_alone = len(on) == 1
+        self.most = (world.attempts or 0) * len(on)  # a stamp is no greater
         self.world = world
         self.order: list[int] = []  # of each event its stamp and its tile, as one number
         self.events: list[str] = []
         self.abandoned: list[str] = []
 
     def take(self, lines: Sequence[str], at: int) -> int:
-        """Takes a tile whose part begins at a line; gives back where the next one begins."""
-        tile, events, count = map(int, lines[at].removeprefix("tile ").split(" "))
-        stamps = stamps_from(lines[at + 1])
+        """Takes a tile whose part begins at a line; gives back where the next one begins. Each tile comes once."""
+        head = TILE.fullmatch(lines[at])
+        if head is None:
+            raise ValueError("no tile")
+        tile, events, count = map(int, head.groups())
+        world, stream = self.world, self.drawn.pop(tile)
+        if events + count != len(stream) // 2:
+            raise ValueError("other attempts")
+        stamps = stamps_from(lines[at + 1], events, self.most)
         end = at + 2 + count
-        world, stream = self.world, self.drawn[tile]
         across, down = tile % world.tiles_x * world.width, tile // world.tiles_x * world.height
         sites = [f"{across + x} {down + y}" for y in range(world.height) for x in range(world.width)]
         places = [sites[word % len(sites)] for word in stream[::2]]
         attempts = self.given_up(tile, places, lines[at + 2:end])
-        if not len(stamps) == len(attempts) == events:
-            raise ValueError("other attempts")
         seeds = stream[1::2]
         self.order += [stamp << 6 | tile for stamp in stamps]
         self.events += [f"{stamp} {tile} {attempt} {places[attempt]} {seeds[attempt]:016x}"
@@ -150,7 +195,10 @@ class Made:
         """Notes the abandoned attempts of a tile; gives back those that were events."""
         attempt, lost = -1, set()
         for line in lines:
-            way, edge, holder, held = map(int, line.split(" "))
+            match = LOST.fullmatch(line)
+            if match is None:
+                raise ValueError("no abandoned attempt")
+            way, edge, holder, held = map(int, match.groups())
             attempt += way
             lost.add(attempt)
             self.abandoned.append(f"{tile} {attempt} {places[attempt]} {edge} {holder} {held + attempt}")
@@ -159,7 +207,7 @@ class Made:
     def lines(self) -> Iterator[str]:
         """The journal, in its order, and the abandoned attempts."""
         yield f"journal {len(self.events)}"
-        if len(self.drawn) == 1:
+        if self.is_alone:
             yield from self.events
         else:
             yield from (self.events[at] for at in sorted(range(len(self.order)), key=self.order.__getitem__))

@@ -1,12 +1,13 @@
 """Stamps: a drawing or a pattern in RLE, as acts that put its atoms on the plane."""
 import tempfile
-from collections.abc import Sequence
+from collections.abc import Iterable, Iterator, Sequence
 from pathlib import Path
 
 from lab.areas import Area, Site
-from lab.drawing import Drawing
+from lab.drawing import Drawing, Mark
 from lab.errors import LabError
 from lab.layout import Layout
+from lab.limits import MOST_COLUMNS
 from lab.paint import KEY, key
 
 NAME = "the drawing"
@@ -35,12 +36,21 @@ def stamped(text: str, keys: Sequence[str], place: Site, layout: Layout) -> list
     return [f"put:{atom}:{Area.of_sites(where).text()}" for atom, where in sites.items()]
 
 
+def within_a_plane(marks: Iterable[Mark]) -> Iterator[tuple[int, int, str]]:
+    """The column, the row and the symbol of marks. Refuses one that no plane has a site for, before the next one is made."""
+    for mark in marks:
+        if max(mark.x, mark.y) >= MOST_COLUMNS:
+            raise LabError(f"{NAME}: {mark.symbol} would stand at {mark.x} {mark.y}, and a plane has at most "
+                           f"{MOST_COLUMNS} columns and rows")
+        yield mark.x, mark.y, mark.symbol
+
+
 def marks_of(text: str) -> list[tuple[int, int, str]]:
     """The column, the row and the symbol of each mark of a drawing."""
     with tempfile.TemporaryDirectory() as room:
         path = Path(room) / "drawing"
         path.write_text(text, newline="")
         try:
-            return [(mark.x, mark.y, mark.symbol) for mark in Drawing.read(path).marks]
+            return list(within_a_plane(Drawing.read(path).marks))
         except LabError as error:
             raise LabError(str(error).replace(str(path), NAME)) from error

@@ -161,7 +161,7 @@ def plan_of(path: Path, text: str) -> Plan:
     try:
         found: Any = json.loads(text)
         form = found["form"]
-    except (ValueError, TypeError, KeyError) as error:
+    except (ValueError, TypeError, KeyError, RecursionError) as error:
         raise LabError(f"{path}: no plan of a sweep") from error
     if form != FORM:
         raise LabError(f"{path}: the plan has the form {form!r}, and this lab makes those of the form {FORM!r}")

@@ -1,6 +1,5 @@
 """A run of a sweep: a chain of one or more legs, made apart and then put in its place whole."""
 import argparse
-import csv
 import io
 import json
 import os
@@ -16,7 +15,7 @@ from pathlib import Path
 from lab import chain
 from lab.chain_folder import COLUMNS, COURSE
 from lab.errors import LabError
-from lab.files import PART, cause, read_text, sync, write_new
+from lab.files import PART, cause, read_rows, read_text, sync, write_new
 from lab.inputs import START, digest
 from lab.measures import WHOLE
 from lab.progress import Progress
@@ -124,7 +123,7 @@ def rows_of(sweep: Sweep, run: Run) -> list[list[str]]:
     if read_text(folder / LABEL) != label(plan, run):
         raise LabError(f"{folder / LABEL}: the run was made for another plan, or for another number")
     path = folder / COURSE
-    head, *legs = list(csv.reader(io.StringIO(read_text(path)))) or [[]]
+    head, *legs = read_rows(path)
     columns = [*COLUMNS, *plan.columns]
     if head != columns or any(len(leg) != len(columns) for leg in legs) or len(legs) < 2 - (plan.legs is not None):
         raise LabError(f"{path}: not the course of a run of this sweep")
