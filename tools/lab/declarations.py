@@ -9,7 +9,7 @@ from dataclasses import dataclass, field
 from pathlib import Path
 
 from lab.constants import tokens
-from lab.files import read_text
+from lab.files import read_byte_text
 from lab.layout import Layout
 from lab.stack_code import Function
 
@@ -26,7 +26,7 @@ def declarations(files: Sequence[Path]) -> dict[str, Declared]:
     """The classes of some element files, which the program accepts."""
     found: dict[str, Declared] = {}
     for path in files:
-        text = read_text(path)
+        text = read_byte_text(path)
         words = list(tokens(text))
         owner = Declared()
         braces = brackets = 0

@@ -164,6 +164,11 @@ def read_text(path: Path) -> str:
         raise LabError(f"{path}: byte {error.start + 1} is no part of a text in UTF-8") from error
 
 
+def read_comments(path: Path) -> str:
+    """The text of a file whose comments may have any bytes: in UTF-8, with a mark that can't be printed for each other byte."""
+    return read_bytes(path).decode(errors="surrogateescape")
+
+
 def read_rows(path: Path) -> list[list[str]]:
     """The rows of a table in CSV, of which there is at least one."""
     try:

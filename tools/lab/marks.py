@@ -21,7 +21,7 @@ from functools import cache
 from pathlib import Path
 
 from lab.errors import LabError
-from lab.files import read_text
+from lab.files import read_comments
 
 # Colours that are told apart also by those who don't see all colours (after Okabe and Ito).
 PALETTE = ("#0072b2", "#e69f00", "#009e73", "#d55e00", "#cc79a7", "#56b4e9", "#000000", "#f0e442")
@@ -45,15 +45,19 @@ class Mark:
 
 def marks(names: Sequence[str], sources: Iterable[Path]) -> list[Mark]:
     """The marks of the elements of these names, in their order. Raises LabError for a faulty command."""
-    given = {name: told for path in sources for name, told in _given(path)}
+    return marks_in(names, [(path, read_comments(path)) for path in sources])
+
+
+def marks_in(names: Sequence[str], texts: Iterable[tuple[Path, str]]) -> list[Mark]:
+    """The same of sources whose texts are at hand."""
+    given = {name: told for path, text in texts for name, told in _given(path, text)}
     colors = _colors(names, {name: told["color"] for name, told in given.items() if "color" in told})
     symbols = _symbols(names, {name: told["symbol"] for name, told in given.items() if "symbol" in told})
     return [Mark(name, colors[name], symbols[name], given.get(name, {}).get("color-by", "")) for name in names]
 
 
-def _given(path: Path) -> Iterator[tuple[str, dict[str, str]]]:
+def _given(path: Path, text: str) -> Iterator[tuple[str, dict[str, str]]]:
     """Each element of a source, with what the doc comment above it gives."""
-    text = read_text(path)
     doc: re.Match[str] | None = None
     above: re.Match[str] | None = None
     is_named = False

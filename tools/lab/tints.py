@@ -37,7 +37,7 @@ class Tint:
 
 def tinted(options: Sequence[str], layout: Layout, sources: Sequence[Path]) -> dict[str, Leaf]:
     """The member by which each element is coloured: that of an option `Element.member`, or of the source's \\color-by."""
-    found = {mark.name: of_source(layout, mark) for mark in marks(layout.elements, sources) if mark.color_by}
+    found = by_sources(layout, marks(layout.elements, sources))
     for option in options:
         match = MEMBER.fullmatch(option)
         if match is None:
@@ -47,6 +47,11 @@ def tinted(options: Sequence[str], layout: Layout, sources: Sequence[Path]) -> d
         except LabError as error:
             raise LabError(f"--color {option}: {error}") from error
     return found
+
+
+def by_sources(layout: Layout, marked: Sequence[Mark]) -> dict[str, Leaf]:
+    """The members that sources name, by their elements."""
+    return {mark.name: of_source(layout, mark) for mark in marked if mark.color_by}
 
 
 def of_source(layout: Layout, mark: Mark) -> Leaf:
