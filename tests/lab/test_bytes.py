@@ -2,7 +2,7 @@
 import io
 from contextlib import redirect_stderr
 
-from calls import LabCase, feast, here
+from calls import LabCase, Word, feast, here
 from lab.marks import marks
 
 WORLD = "feast 1\ntiles 1 1\nsize 8 8\nseed 3\nattempts 60\natom 1 1 Mouse\natom 4 5 Fence\n"
@@ -10,7 +10,8 @@ WORLD = "feast 1\ntiles 1 1\nsize 8 8\nseed 3\nattempts 60\natom 1 1 Mouse\natom
 ALL = bytes(byte for byte in range(1, 256) if byte not in b"*/\n")
 ELEMENTS = (b"// " + ALL + b"\n/* caf\xe9 " + ALL + b" */\n/** \xff \\color #123456 \\symbol \xc3\x89 */\n"
             b"element Fence { Void behave() { } }\n/** \\color #654321 \\symbol \xe9 */\n"
-            b"element Mouse { EventWindow ew; Unsigned(9) age; Void behave() { /* \xfc */ age += 1; fail(); } Void fail() { age = age / (age - age); } }\n")
+            b"element Mouse { EventWindow ew; Unsigned(9) age; Void behave() { /* \xfc */ age += 1; fail(); }"
+            b" Void fail() { age = age / (age - age); } }\n")
 
 
 class Bytes(LabCase):
@@ -37,8 +38,9 @@ class Bytes(LabCase):
         plain.parent.mkdir()
         plain.write_bytes(ELEMENTS.replace(b"\\symbol \xe9", b"\\symbol M").decode(errors="replace").encode())
         first = next(number for number, line in enumerate(self.passes("events", self.report).splitlines()) if ",1,1," in line)
-        for words in (["film", self.world, self.report, "--frames", "3", "--csv"], ["failures", self.world, self.report],
-                      ["trace", self.world, self.report, str(first)], ["atoms", self.report]):
+        calls: list[list[Word]] = [["film", self.world, self.report, "--frames", "3", "--csv"], ["failures", self.world, self.report],
+                                   ["trace", self.world, self.report, str(first)], ["atoms", self.report]]
+        for words in calls:
             with self.subTest(words[0]):
                 found, wanted = here(*words, self.elements), here(*words, plain)
                 self.assertEqual((found.status, found.wrote.replace(str(self.elements), "")),
@@ -47,6 +49,6 @@ class Bytes(LabCase):
         film = self.room / "film.html"
         self.assertEqual(here("film", self.world, self.report, "--frames", "3", "-o", film, self.elements).status, 0)
         self.assertIn('"color":"#123456","symbol":"\\u00c9"', film.read_text())
-        for words in (["--svg", "3"], ["--svg-movie", "2"]):
-            self.assertIn("<svg", here("film", self.world, self.report, *words, self.elements).wrote)
+        for option, value in (("--svg", "3"), ("--svg-movie", "2")):
+            self.assertIn("<svg", here("film", self.world, self.report, option, value, self.elements).wrote)
         self.passes("chain", self.room / "chain", "--legs", "1", "--failures", self.world, self.elements)

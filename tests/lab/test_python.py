@@ -8,6 +8,8 @@ import subprocess
 import sys
 import unittest
 from functools import cache
+from html import unescape
+from pathlib import Path
 
 from calls import EXAMPLES, PROGRESS, TOP, LabCase, feast, program
 from pages import pieces
@@ -30,7 +32,8 @@ grid = [[none(value) for value in row] for row in (run.at(40).grid("Cell.age"))]
 told = dict(events=plain(run.events), abandoned=plain(run.abandoned),
             atoms=[[none(it) for it in row] for row in plain(run.atoms)], grid=grid,
             counts=plain(run.counts(every=30)), audit=run.audit(), drift=run.drift,
-            film=len(run.film(3)._repr_html_()) > 10_000, svg="<svg" in run.at(3)._repr_svg_(), at=run.at(40).counts())
+            film=run.film(3).html, shown=run.film(3)._repr_html_(), svg=run.at(40)._repr_svg_(), at=run.at(40).counts(),
+            reprs=list(map(repr, [run, run.at(40), run.film(3)])))
 print(json.dumps(told))
 """
 
@@ -90,7 +93,24 @@ class Package(LabCase):
             left = feast("rewind", self.world, report, str(events), self.elements)
             self.assertEqual((cells, walls), (left.count(" Cell "), left.count(" Wall ")))
         self.assertEqual([row[0] for row in counts], [*range(0, len(records), 30), len(records)])
-        self.assertEqual((told["audit"], told["film"], told["svg"]), ("yes", True, True))
+        self.assertEqual(told["audit"], "yes")
+        self.check_pictures(told, report, len(records), len(wanted))
+
+    def check_pictures(self, told: dict[str, object], report: Path, events: int, atoms: int) -> None:
+        """Compares what a notebook shows with what the verb film writes, and how short the words for them are."""
+        page = self.room / "film.html"
+        self.passes("film", self.world, report, "--frames", "3", "-o", page, self.elements)
+        film = page.read_text()
+        self.assertEqual(told["film"], film)
+        shown = re.fullmatch(r'<iframe sandbox="allow-scripts" srcdoc="([^"]*)" [^<>]*></iframe>', str(told["shown"]))
+        assert shown is not None
+        self.assertEqual(unescape(shown[1]), film)
+        figure = self.passes("film", self.world, report, "--svg", "40", self.elements)
+        self.assertEqual(told["svg"], figure.replace(f"after 40 of {events} events", "after 40 events"))
+        there = sum(told["at"].values())  # type: ignore[attr-defined]
+        self.assertEqual(told["reprs"], [
+            f"<Run of w.world: {events} events, {len(told['abandoned'])} abandoned, {atoms} atoms>",  # type: ignore[arg-type]
+            f"<Moment of w.world after 40 events: {there} atoms>", f"<Film of w.world, a page of {len(film):,} letters>"])
 
     def test_plain(self) -> None:
         """On the standard library alone."""
@@ -151,6 +171,163 @@ class Package(LabCase):
         script = f"import sys; sys.path[:0] = [{str(self.room)!r}]; import lab; import feast_lab"
         done = subprocess.run(without_extras(), input=script, capture_output=True, text=True, check=False)
         self.assertIn("ImportError: feast_lab: another package lab is imported already", done.stderr)
+
+
+class Calls(LabCase):
+    """What a call may be given, and what it leaves."""
+
+    def setUp(self) -> None:
+        super().setUp()
+        self.world = self.file("w.world", WORLD)
+        self.elements = self.file("e.ulam", ELEMENTS)
+
+    def says(self, script: str, *words: str, python: list[str] | None = None, **more: str) -> list[str]:
+        """The lines that a script says, of a world and element files, in a Python."""
+        around = os.environ | {"PYTHONPATH": str(TOP / "tools"), "PYTHONDONTWRITEBYTECODE": "1"} | more
+        front = f"world, elements = {str(self.world)!r}, {str(self.elements)!r}\nimport sys\nsys.argv[1:] = {words!r}\n"
+        done = subprocess.run(python or without_extras(), input=front + script, capture_output=True, text=True,
+                              cwd=self.room, env={name: value for name, value in around.items() if value}, check=False)
+        self.assertEqual((done.returncode, PROGRESS.sub("", done.stderr)), (0, ""))
+        return done.stdout.splitlines()
+
+    def test_files_gone(self) -> None:
+        """A plane is shown when the run and its files are gone, or the element files are others by then."""
+        script = ("import feast_lab, gc, pathlib\n"
+                  "plane = feast_lab.run(world, elements, step=True, set={'Cell.odds': 2}).at(40)\n"
+                  "other = feast_lab.run(world, elements, step=True)\n"
+                  "kept = other.at(40)\n"
+                  "gc.collect()\n"
+                  "pathlib.Path(elements).unlink()\n"
+                  "print(plane.svg() == plane._repr_svg_() == kept.svg(), plane.svg().count('<svg'))\n")
+        self.assertEqual(self.says(script), ["True 1"])
+
+    def test_closed(self) -> None:
+        """A run that is closed has what it had at its end, and says in a line why it has no more; nothing is left of it."""
+        script = ("import feast_lab, pathlib, tempfile\n"
+                  "left = lambda: [it.name for it in pathlib.Path(tempfile.gettempdir()).iterdir()]\n"
+                  "with feast_lab.run(world, elements, step=True, set={'Cell.odds': 2}) as run: plane = run.at(40)\n"
+                  "print(left(), len(run.events), len(run.atoms) == len(run.at(43).lines), plane.counts() != {})\n"
+                  "for wrong in (lambda: run.at(3), run.audit, run.film, lambda: run.counts(9)):\n"
+                  "    try: wrong()\n"
+                  "    except feast_lab.LabError as error: print(error)\n")
+        (self.room / "tmp").mkdir()
+        said = "the run of w.world is closed; only what it had at its end is still there"
+        self.assertEqual(self.says(script, TMPDIR=str(self.room / "tmp")), ["[] 43 True True", *[said] * 4])
+
+    def test_elements(self) -> None:
+        """One file by its path or its name, or several."""
+        one, two = ELEMENTS.split("\nelement Wall")
+        self.file("one.ulam", one + "\n")
+        self.file("two.ulam", "element Wall" + two)
+        script = ("import feast_lab, pathlib\n"
+                  "path = pathlib.Path(elements)\n"
+                  "runs = [feast_lab.run(world, given, step=True).bytes for given in\n"
+                  "        (elements, path, [elements], (path,), ['one.ulam', pathlib.Path('two.ulam')], (it for it in [path]))]\n"
+                  "pathlib.Path('report').write_bytes(runs[0])\n"
+                  "print(len(set(runs)), feast_lab.read(world, 'report', elements).bytes == feast_lab.read(world, 'report', path).bytes)\n"
+                  "try: feast_lab.run(world, [])\n"
+                  "except feast_lab.LabError as error: print(error)\n")
+        self.assertEqual(self.says(script), ["1 True", "elements: at least one file has to be named"])
+
+    def test_seed(self) -> None:
+        """A run with a seed is, byte for byte, that of the first leg of a chain with that seed; the world stays as it is."""
+        chain = self.room / "chain"
+        self.passes("chain", chain, "--legs", "1", "--step", "--seed", "77", "--keep", "reports", self.world, self.elements)
+        script = ("import feast_lab, pathlib\n"
+                  "run = feast_lab.run(world, elements, step=True, seed=77)\n"
+                  "print(run.bytes == feast_lab.Chain('chain').leg(1).bytes, run.world.seed, run.at(3).title)\n"
+                  "print(feast_lab.run(pathlib.Path(world).read_text(), elements, step=True, seed=77).bytes == run.bytes, run.audit())\n"
+                  "print(len({feast_lab.run(world, elements, step=True, seed=seed).bytes for seed in (3, 6, 9)}))\n"
+                  "for seed in (-1, 1 << 64):\n"
+                  "    try: feast_lab.run(world, elements, seed=seed)\n"
+                  "    except feast_lab.LabError as error: print(error)\n")
+        last = "a seed is from 0 to 18446744073709551615"
+        self.assertEqual(self.says(script), ["True 77 w.world", "True yes", "3", f"seed=-1: {last}", f"seed={1 << 64}: {last}"])
+        self.assertEqual(self.world.read_text(), WORLD)
+
+    def test_no_program(self) -> None:
+        """Where no program is found, as after an installation, the error is one line that says what to do."""
+        site = self.room / "site"
+        shutil.copytree(TOP / "tools" / "feast_lab", site / "feast_lab")
+        for part in ("lab", "first_call"):
+            shutil.copytree(TOP / "tools" / part, site / "feast_lab" / "parts_of_the_lab" / part)
+        script = ("import feast_lab\n"
+                  "for program in (None, 'nowhere', '.'):\n"
+                  "    for call in (feast_lab.run, lambda world, elements, program: feast_lab.read(world, 'report', elements, program=program)):\n"
+                  "        try: call(world, elements, program=program)\n"
+                  "        except feast_lab.LabError as error: print(str(error).partition(': ')[2])\n")
+        self.file("report", feast("step", self.world, self.elements))
+        python = [sys.executable, "-B", "-I", "-S", "-c", f"import sys; sys.path.insert(0, {str(site)!r}); exec(sys.stdin.read())"]
+        said = "there is no program to call; name the built one by program= or in the variable FEAST_PROGRAM"
+        self.assertEqual(self.says(script, python=python, FEAST_PROGRAM=""), [said] * 6)
+
+
+class Wide(LabCase):
+    """Whole numbers beyond 2^53, of which a float loses the last digits."""
+
+    ELEMENTS = """element Cell { EventWindow ew; Unsigned(60) big; Unsigned(5) small; Void behave() { } }
+element Other { EventWindow ew; Int(64) deep; Void behave() { } }
+element Third { EventWindow ew; Unsigned(64) high; Void behave() { } }
+"""
+    BIG, DEEP, HIGH = (1 << 60) - 1, -(1 << 63) + 1, (1 << 64) - 1
+    # what each Python says of the atoms, as texts
+    SCRIPT = """
+import feast_lab
+run = feast_lab.run(sys.argv[1], sys.argv[2])
+none = lambda value: None if value != value else value
+for row in run.atoms:
+    print([str(none(row[name])) for name in ("big", "small", "deep", "high")])
+for name, x in (("Cell.big", 1), ("Other.deep", 2), ("Third.high", 3), ("Cell.small", 1), ("Cell", 1)):
+    print(name, run.grid(name)[1][x], none(run.grid(name)[0][0]))
+"""
+
+    def setUp(self) -> None:
+        super().setUp()
+        self.elements = self.file("wide.ulam", self.ELEMENTS)
+        states = [(self.BIG << 5 | 3) << 6, (self.DEEP + (1 << 64)) << 7, self.HIGH << 7]
+        atoms = "".join(f"atom {x} 1 {name} {state:018x}\n" for x, (name, state) in enumerate(
+            zip(("Cell", "Other", "Third"), states, strict=True), 1))
+        self.world = self.file("wide.world", f"feast 1\ntiles 1 1\nsize 8 8\nseed 3\nattempts 2\n{atoms}")
+
+    def says(self, python: list[str], script: str) -> list[str]:
+        """The lines that a script says in a Python."""
+        around = os.environ | {"PYTHONPATH": str(TOP / "tools"), "PYTHONDONTWRITEBYTECODE": "1"}
+        front = f"import sys\nsys.argv[1:] = {[str(self.world), str(self.elements), str(self.room / 'chain')]!r}\n"
+        done = subprocess.run(python, input=front + script, capture_output=True, text=True, env=around, check=False)
+        self.assertEqual((done.returncode, done.stderr), (0, ""))
+        return done.stdout.splitlines()
+
+    def wanted(self, small: str, one: str) -> list[str]:
+        """What the script is to say, with the words for the numbers that are floats."""
+        big, deep, high = map(str, (self.BIG, self.DEEP, self.HIGH))
+        rows = [[big, small, "None", "None"], ["None", "None", deep, "None"], ["None", "None", "None", high]]
+        return [*map(str, rows), f"Cell.big {big} None", f"Other.deep {deep} None", f"Third.high {high} None",
+                f"Cell.small {small} None", f"Cell {one} None"]
+
+    def test_plain(self) -> None:
+        """In lists all numbers are whole."""
+        self.assertEqual(self.says(without_extras(), self.SCRIPT), self.wanted("3", "1"))
+
+    def test_extras(self) -> None:
+        """In arrays members that are wide are Python's numbers, and others floats as before; in frames there is a type for them."""
+        python = with_extras()
+        if python is None:
+            self.skipTest("no Python has NumPy, pandas and Matplotlib")
+        self.assertEqual(self.says([python, "-"], self.SCRIPT), self.wanted("3.0", "1.0"))
+        script = ("import feast_lab\nframe = feast_lab.run(sys.argv[1], sys.argv[2]).frame('atoms')\n"
+                  "print([str(frame.dtypes[name]) for name in ('big', 'small', 'deep', 'high')])\n"
+                  "print(frame['big'][0], frame['deep'][1], frame['high'][2], int(frame['big'].isna().sum()))\n")
+        self.assertEqual(self.says([python, "-"], script), [
+            "['UInt64', 'float64', 'Int64', 'UInt64']", f"{self.BIG} {self.DEEP} {self.HIGH} 2"])
+
+    def test_course(self) -> None:
+        """What is measured of wide members has all digits in a chain's course; a mean is a float."""
+        measures = ["--sum", "Cell.big", "--min", "Other.deep", "--max", "Third.high", "--mean", "Cell.small", "--count", "Cell.small=3"]
+        self.passes("chain", self.room / "chain", "--legs", "1", *measures, self.world, self.elements)
+        script = ("import feast_lab\nrow = feast_lab.Chain(sys.argv[3]).course[1]\n"
+                  "print(row['sum(Cell.big)'], row['min(Other.deep)'], row['max(Third.high)'], row['mean(Cell.small)'])\n")
+        for python in filter(None, (without_extras(), [with_extras() or "", "-"] if with_extras() else None)):
+            self.assertEqual(self.says(python, script), [f"{self.BIG} {self.DEEP} {self.HIGH} 3.0"])
 
 
 class Page(LabCase):

@@ -9,6 +9,7 @@ from lab.chain_folder import Folder
 from lab.errors import LabError
 from lab.film_source import Source, chain_source
 from lab.kept import read_report
+from lab.measures import Measure, measures_of
 
 from feast_lab import arrays, sources
 from feast_lab.films import Film
@@ -27,6 +28,9 @@ class Chain:
     def source(self) -> Source:
         """Its legs, as a film takes them."""
         return chain_source(self.program, self.folder.path, [])
+
+    def __repr__(self) -> str:
+        return f"<Chain {self.folder.path}: {self.folder.done()} legs>"
 
     def __len__(self) -> int:
         return len(self.source.legs)
@@ -47,9 +51,10 @@ class Chain:
             own: arrays.Row = {"leg": leg.number, "attempts": leg.attempts, "events": leg.events, "abandoned": leg.abandoned}
             own |= {"failed": leg.failed} if course.has_failures else {}
             own["aeps"] = events / sites
-            measured = [float(number) if number else None for number in leg.measured]
+            measured = [number_of(text) if text else None for text in leg.measured]
             rows.append(own | dict(zip(elements, leg.counts, strict=True)) | dict(zip(course.measures, measured, strict=True)))
-        kinds = [*["u8"] * (3 + course.has_failures), "f8", *["u4"] * len(elements), *["f8"] * len(course.measures)]
+        of_measures = [kind_of(measure, sites) for measure in measures_of(course.measures, self.source.layout)]
+        kinds = [*["u8"] * (3 + course.has_failures), "f8", *["u4"] * len(elements), *of_measures]
         return arrays.columns(rows, course.head, ["u4", *kinds])
 
     def frame(self) -> Any:
@@ -81,3 +86,16 @@ class Chain:
     def film(self, frames: int = 400) -> Film:
         """The film of the chain."""
         return sources.film(self.program, self.source, frames)
+
+
+def number_of(text: str) -> int | float:
+    """What a cell of a measure has: a whole number, or a mean."""
+    return float(text) if "." in text else int(text)
+
+
+def kind_of(measure: Measure, sites: int) -> str:
+    """NumPy's kind of the column of a measure on a plane of so many sites."""
+    if measure.leaf is None or measure.kind == "mean":
+        return "f8"
+    most = sites if measure.kind == "sum" else 1
+    return arrays.kind_of(measure.leaf.least * most, measure.leaf.greatest * most)

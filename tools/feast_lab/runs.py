@@ -1,32 +1,40 @@
 """Runs: made here, or read from a report."""
+import os
 from collections.abc import Mapping, Sequence
 from functools import cached_property
 from pathlib import Path
 from tempfile import TemporaryDirectory
 from typing import Any
 
+from lab.chain_rule import Rule
 from lab.constants import constants, with_values
 from lab.drift import greatest, plans, tiles_of
 from lab.errors import LabError
-from lab.files import read_byte_text, write_whole
+from lab.files import read_byte_text, read_comments, write_new, write_whole
 from lab.film_source import Source
 from lab.frames import Reported
 from lab.kept import read_report
 from lab.layout import Layout
 from lab.outcome import ABANDONED, JOURNAL, Outcome, atom_lines
-from lab.program import Program
+from lab.program import INSTEAD, Program
 from lab.report import Reader
+from lab.seeds import MODULUS
+from lab.starting import drawn_world
 from lab.world import World
 
 from feast_lab import arrays, sources
 from feast_lab.films import Film
 from feast_lab.moments import Moment
 
-Paths = Sequence[str | Path]
+Paths = str | Path | Sequence[str | Path]
 
 
 class Run:
-    """A run of a world with element files: its events, its abandoned attempts, and its atoms at any moment."""
+    """A run of a world with element files: its events, its abandoned attempts, and its atoms at any moment.
+
+    `with` closes it at the end: its temporary files go away, and what the program has to be called for is over. What
+    it has given stays good.
+    """
 
     def __init__(self, program: Program, world: Path, files: Sequence[Path], report: bytes, room: TemporaryDirectory[str]) -> None:
         self.program = program
@@ -36,7 +44,24 @@ class Run:
         self._room = room  # the folder of copies, which goes away with the run
         self.world = World.read(world)
         self.layout = Layout.of(program, self.files)
+        self.texts = [(file, read_comments(file)) for file in self.files]
         self.outcome = Outcome.of(report)
+        self.is_closed = False
+
+    def __repr__(self) -> str:
+        told = self.outcome
+        return f"<Run of {self.path.name}: {told.events:,} events, {told.abandoned:,} abandoned, {len(atom_lines(told.atoms)):,} atoms>"
+
+    def __enter__(self) -> "Run":
+        return self
+
+    def __exit__(self, *_error: object) -> None:
+        self.close()
+
+    def close(self) -> None:
+        """Takes the run's temporary files away."""
+        self.is_closed = True
+        self._room.cleanup()
 
     def part(self, head: bytes, until: int | None = None) -> bytes:
         """The lines of the report behind the line that counts them."""
@@ -80,7 +105,7 @@ class Run:
         else:
             words: list[str | Path] = ["rewind", self.path, self._report(), str(events), *self.files]
             lines = self.program.call(words).text.splitlines()[2:]
-        return Moment(self.path.name, self.world, self.layout, self.files, events, lines)
+        return Moment(self.path.name, self.world, self.layout, self.texts, events, lines)
 
     def grid(self, name: str) -> Any:
         """The values of a member `Element.member` at the end, by row and column."""
@@ -104,9 +129,11 @@ class Run:
 
     def _report(self) -> Path:
         """The report as a file of the run's own folder."""
+        if self.is_closed:
+            raise LabError(f"the run of {self.path.name} is closed; only what it had at its end is still there")
         path = Path(self._room.name) / "report"
         if not path.exists():
-            write_whole(path, self.bytes)
+            write_new(path, self.bytes)
         return path
 
     def _source(self) -> Source:
@@ -115,18 +142,21 @@ class Run:
         return Source(self.path.name, self.world, self.layout, self.files, [leg])
 
 
-def run(world: str | Path, elements: Paths, *, step: bool = False, set: Mapping[str, object] | None = None,
-        program: str | Path | None = None) -> Run:
+def run(world: str | Path, elements: Paths, *, step: bool = False, seed: int | None = None,
+        set: Mapping[str, object] | None = None, program: str | Path | None = None) -> Run:
     """Makes a run.
 
-    `world` is a file, or the text of one, which has several lines. With `step` the run is made on one thread, in the
-    order that the world says. `set` gives constants, `Element.constant`, other values. `program` is the built program;
-    without it the one that `./lab` would call.
+    `world` is a file, or the text of one, which has several lines; `elements` is a file or several. With `step` the run is
+    made on one thread, in the order that the world says. With `seed` it is the run that the first leg of
+    `./lab chain --seed` makes: the attempts are drawn from that seed, and the order of a stepped run from the seed plus
+    the number of tiles. `set` gives constants, `Element.constant`, other values. `program` is the built program; without
+    it the one that `./lab` would call.
     """
+    called, files = found(program), files_of(elements)
     room: TemporaryDirectory[str] = TemporaryDirectory()
-    called = found(program)
     path = world_file(world, Path(room.name))
-    files = [Path(file).resolve() for file in elements]
+    if seed is not None:
+        path = seeded(path, seed, step, Path(room.name))
     if set:
         files = with_constants(files, set, Path(room.name))
     report = called.call(["step" if step else "run", path, *files]).output
@@ -142,20 +172,42 @@ def read(world: str | Path, report: str | Path, elements: Paths, *, program: str
         raise LabError(f"{report}: byte {error.start + 1} is no part of a report") from error
     reader.report(reader.atoms())
     reader.end()
-    room: TemporaryDirectory[str] = TemporaryDirectory()
-    return Run(found(program), Path(world).resolve(), [Path(file).resolve() for file in elements], data, room)
+    called, files = found(program), files_of(elements)
+    return Run(called, Path(world).resolve(), files, data, TemporaryDirectory())
 
 
 def found(program: str | Path | None) -> Program:
-    """The program that is named, or the one that the lab finds."""
-    return Program.find() if program is None else Program(Path(program).resolve())
+    """The program that is named, or the one that the lab finds. Refuses a name that is none of a program."""
+    called = Program.find() if program is None else Program(Path(program).resolve())
+    if not (called.path.is_file() and os.access(called.path, os.X_OK)):
+        raise LabError(f"{called.path}: there is no program to call; name the built one by program= or in the variable {INSTEAD}")
+    return called
+
+
+def files_of(elements: Paths) -> list[Path]:
+    """The element files that are named, one or several."""
+    named = [elements] if isinstance(elements, (str, os.PathLike)) else list(elements)
+    if not named:
+        raise LabError("elements: at least one file has to be named")
+    return [Path(file).resolve() for file in named]
+
+
+def seeded(world: Path, seed: int, step: bool, room: Path) -> Path:
+    """A copy of a world, under the same name, that draws its attempts from another seed, as a leg of a chain has it."""
+    was = drawn_world(world)
+    if not 0 <= seed < MODULUS:
+        raise LabError(f"seed={seed}: a seed is from 0 to {MODULUS - 1}")
+    path = room / "seeded" / world.name
+    path.parent.mkdir()
+    write_new(path, Rule(was, int(seed), step, {}).world_of(1, [atom.text() for atom in was.atoms]))
+    return path
 
 
 def world_file(world: str | Path, room: Path) -> Path:
     """The file of a world, which may be given as its text."""
     if isinstance(world, str) and "\n" in world:
         path = room / "world"
-        path.write_text(world)
+        write_new(path, world)
         return path
     return Path(world).resolve()
 

@@ -50,4 +50,4 @@ def film(program: Program, source: Source, count: int) -> Film:
     refuse_frames(f"film({count})", count)
     curves = Curves(source.measures, source.layout)
     films = curves.watched(played(program, source, source.moments(count)))
-    return Film(page_of(source, films, curves, tinted([], source.layout, source.files), has_failures=False))
+    return Film(page_of(source, films, curves, tinted([], source.layout, source.files), has_failures=False), source.title)
