@@ -37,14 +37,15 @@ def bytes_of(word: Word) -> bytes:
 @dataclass(frozen=True)
 class Answer:
     """How a call ended: its status (below 0: the signal that ended it), the first bytes that it wrote and
-    how many it wrote, the seconds of processor time that it took, and the most memory that it had, in
-    bytes."""
+    how many it wrote, the seconds of processor time that it took, the most memory that it had, in
+    bytes, and for how many seconds its first thread was ready while no processor was free for it."""
 
     status: int
     out: bytes
     size: int
     seconds: float
     memory: int
+    delay: float
 
     def shown(self) -> str:
         """The status, and the ends of what was written, to be read."""
@@ -57,11 +58,12 @@ class Ended(NamedTuple):
 
     status: int
     used: resource.struct_rusage
+    delay: float
 
     def answer(self, out: bytes, size: int) -> Answer:
         """The answer of a call that wrote so many bytes, of which these are the first."""
         seconds = self.used.ru_utime + self.used.ru_stime
-        return Answer(self.status, out, size, seconds, self.used.ru_maxrss * 1024)
+        return Answer(self.status, out, size, seconds, self.used.ru_maxrss * 1024, self.delay)
 
 
 @dataclass(frozen=True)
@@ -185,22 +187,31 @@ class Bench:
         print(f"  {text}", flush=True)
 
 
+def delay_of(pid: int) -> float:
+    """For how many seconds the first thread of a process was ready while no processor was free for it; 0 where the
+    system doesn't say."""
+    try:
+        return int(pathlib.Path(f"/proc/{pid}/schedstat").read_text().split()[1]) / 1e9
+    except (OSError, IndexError, ValueError):
+        return 0.0
+
+
 def wait(child: subprocess.Popen[bytes], seconds: float) -> Ended:
     """How a child ended; one that takes longer is killed (status -9)."""
     end = time.monotonic() + seconds
     pause = 0.0005
-    while True:
-        pid, status, used = os.wait4(child.pid, os.WNOHANG)
-        if pid != 0:
-            child.returncode = os.waitstatus_to_exitcode(status)
-            return Ended(child.returncode, used)
+    while os.waitid(os.P_PID, child.pid, os.WEXITED | os.WNOHANG | os.WNOWAIT) is None:
         if time.monotonic() > end:
             child.kill()
-            _, status, used = os.wait4(child.pid, 0)
+            _, _, used = os.wait4(child.pid, 0)
             child.returncode = -9
-            return Ended(-9, used)
+            return Ended(-9, used, 0.0)
         time.sleep(pause)
         pause = min(pause * 1.3, 0.05)
+    delay = delay_of(child.pid)
+    _, status, used = os.wait4(child.pid, 0)
+    child.returncode = os.waitstatus_to_exitcode(status)
+    return Ended(child.returncode, used, delay)
 
 
 def tool(name: str) -> Optional[str]:

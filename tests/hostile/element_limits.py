@@ -118,6 +118,8 @@ def words(bench: Bench, class_of: Callable[[bytes], bytes]) -> None:
     head = b"element A { Void behave() { "
     few = MOST_TOKENS - 10  # eight before these and two behind
     accepted(bench, "most tokens", head + b";" * few + b" } }")
+    # (a pass over the tokens that calls itself for each would end here, and on no text that nests alone)
+    accepted(bench, "most tokens, on a stack of 256 KiB", head + b";" * few + b" } }", Limits(stack=256 * 1024))
     text = head + b";" * (few + 1) + b" } }"
     refused(bench, "one token more", text, len(text), 13, b"too many tokens")
     bench.write("e", b";" * ELEMENT_LIMIT)

@@ -16,7 +16,7 @@ from bench import DONE, MEMORY, NO_FORM, Answer, Bench, Limits, main_of, tool
 from fronts import ELEMENT
 from jobs import STATE, WALKER, ZEROS, Job, element, jobs_of, lay, world
 from lab.limits import ELEMENT_LIMIT
-from rooms import KIB, rooms
+from rooms import KIB, LONG_REPORT, MOST_PRINTING, rooms
 
 HERE = pathlib.Path(__file__).resolve().parent
 # the number of a request that no call comes to
@@ -32,11 +32,11 @@ def compilers() -> Iterator[list[str]]:
     yield ["cc"]
 
 
-def build_refuser(bench: Bench) -> Optional[pathlib.Path]:
-    """The path of what refuses requests, or None where nothing builds it."""
-    made = bench.at("refuse.so")
+def build(bench: Bench, name: str) -> Optional[pathlib.Path]:
+    """The path of what is loaded before the program, `refuse` or `threads`; None where nothing builds it."""
+    made = bench.at(f"{name}.so")
     for command in compilers():
-        words = [*command, "-w", "-O1", "-fPIC", "-fno-builtin", "-shared", "-o", str(made), str(HERE / "refuse.c")]
+        words = [*command, "-w", "-O1", "-fPIC", "-fno-builtin", "-shared", "-o", str(made), str(HERE / f"{name}.c")]
         try:
             if subprocess.run(words, capture_output=True, check=False).returncode == 0:
                 return made
@@ -180,9 +180,35 @@ def ordinary(bench: Bench) -> Iterator[Job]:
         yield job
 
 
+def started(bench: Bench, counter: pathlib.Path, attempts: int) -> int:
+    """How many threads a stepped run of one tile with so many attempts starts."""
+    bench.write("w", b"feast 1\ntiles 1 1\nsize 8 8\nseed 1\nattempts %d\n" % attempts)
+    count = bench.at("threads")
+    count.write_bytes(b"")
+    answer = bench.call(["step", "w", "e"], env=dict(os.environ, LD_PRELOAD=str(counter), THREADS_COUNT=str(count)))
+    bench.expect(f"a run of {attempts} events", answer, DONE, None)
+    return count.stat().st_size
+
+
+def threads(bench: Bench) -> None:
+    """A report of more than 20,000 events is printed by as many threads as there are processors, up to eight, of which
+    one is that of the call; a shorter one by that alone."""
+    counter = build(bench, "threads")
+    if counter is None:
+        bench.note("no C compiler here: the threads that print a report are not counted")
+        return
+    bench.write("e", WALKER)
+    printing = min(len(os.sched_getaffinity(0)), MOST_PRINTING)
+    for attempts, due in ((LONG_REPORT, 0), (LONG_REPORT + 1, printing - 1), (10 * LONG_REPORT, printing - 1)):
+        found = started(bench, counter, attempts)
+        # (a long report is printed in rounds, and its threads are started in each)
+        held = found == due if attempts < 2 * LONG_REPORT else found >= due
+        bench.say(held, f"threads that print {attempts} events", f"{found} were started, not {due}")
+
+
 def memory(bench: Bench) -> None:
     """The table."""
-    refuser = build_refuser(bench)
+    refuser = build(bench, "refuse")
     if refuser is None:
         bench.note("no C compiler here: requests are not refused one by one")
     jobs = [*jobs_of(bench), *ordinary(bench)]
@@ -195,6 +221,7 @@ def memory(bench: Bench) -> None:
     bench.note(f"{tried} calls with refused requests, {shut} in small address spaces")
     large(bench)
     amplified(bench)
+    threads(bench)
     rooms(bench)
 
 

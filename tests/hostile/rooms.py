@@ -3,8 +3,10 @@
 A call has all its memory when it writes its answer: a pipe that is full keeps it there, and the system tells the most
 address space that it has had. That must be what the formula says, to a tenth, so room that is asked for twice is seen.
 In a tenth more than the formula says the call ends well, and in a quarter less it ends for want of memory and has
-put nothing. Runs of several tiles are left out, since each of their threads has a stack; and all is done on one
-processor, where no threads print a report.
+put nothing. Runs of several tiles are left out, since each of their threads has a stack; and all of this is done on
+one processor, where no threads print a report.
+
+The report that threads print on several processors has a formula of its own, with their stacks.
 """
 from __future__ import annotations
 
@@ -13,7 +15,7 @@ import pathlib
 import re
 import subprocess
 import time
-from typing import Iterator, NamedTuple, Optional
+from typing import Iterator, Mapping, NamedTuple, Optional
 
 from bench import DONE, MEMORY, Bench, Limits
 from jobs import PACKED, WALKER
@@ -31,6 +33,10 @@ TILES = 21_700
 MAP = 900
 # What a generated world takes, in kibibytes.
 GENERATED = 5_684
+# A report of more events than this is printed by as many threads as there are processors, up to so many.
+LONG_REPORT, MOST_PRINTING = 20_000, 8
+# What its lines have room in then, and what a thread's stack takes that is limited, in kibibytes.
+LINES, STACK = 8_192, 128
 
 
 class Room(NamedTuple):
@@ -67,10 +73,13 @@ def is_writing(process: int) -> bool:
         return False
 
 
-def most_space(bench: Bench, words: list[str], seconds: float) -> Optional[int]:
+def most_space(
+    bench: Bench, words: list[str], seconds: float, limits: Limits = Limits(), env: Optional[Mapping[str, str]] = None
+) -> Optional[int]:
     """The most address space that a call has had when it writes, in kibibytes; None if it writes nothing."""
     end, out = full_pipe()
-    child = subprocess.Popen([bench.program, *words], cwd=bench.folder, stdin=subprocess.DEVNULL, stdout=out)
+    child = subprocess.Popen([bench.program, *words], cwd=bench.folder, stdin=subprocess.DEVNULL, stdout=out,
+                             preexec_fn=limits.set, env=env)
     os.close(out)
     last = time.monotonic() + seconds
     while not is_writing(child.pid) and child.poll() is None and time.monotonic() < last:
@@ -102,21 +111,41 @@ def heirs(count: int, swaps: int) -> bytes:
 
 
 def rooms_of(attempts: int) -> Iterator[Room]:
-    """The calls over worlds with so many attempts, on one tile and on 64, and their reports."""
+    """The calls over worlds with so many attempts, on one tile and on 64, and their reports; nine of ten attempts of
+    the last of these are abandoned."""
     whole, parts = attempts, attempts // 64 * 64
     yield Room(["run", "one", "e"], ONE, 33, whole)
     yield Room(["runpack", "one", "c"], ONE, 33, whole)
     yield Room(["step", "one", "e"], 0, 72, whole)
     yield Room(["steppack", "one", "c"], 0, 72, whole)
     yield Room(["step", "many", "e"], TILES, 72, parts)
-    for world, fixed, count in (("one", 0, whole), ("many", MAP, parts)):
+    for world, fixed, count in (("one", 0, whole), ("many", MAP, parts), ("torn", MAP, parts)):
         yield Room(["audit", world, f"{world}.report", "e"], fixed, 140, count)
         yield Room(["replay", world, f"{world}.report", "e"], fixed, 94, count)
+    for world, fixed, count in (("one", 0, whole), ("many", MAP, parts)):
         yield Room(["rewind", world, f"{world}.report", "10", "e"], fixed, 569, count)
 
 
+def printing(bench: Bench) -> None:
+    """How much room a report takes that threads print: all of them share the room for lines."""
+    processors = min(len(os.sched_getaffinity(0)), MOST_PRINTING)
+    if processors < 2:
+        bench.note("a report that threads print: left out, since there is one processor")
+        return
+    # (the C library would set 64 MiB aside for what each thread allocates, which is nothing)
+    env = dict(os.environ, MALLOC_ARENA_MAX="1")
+    most = most_space(bench, ["step", "printed", "e"], 600, Limits(stack=STACK * KIB), env)
+    due = Room([], LINES + (processors - 1) * STACK, 72, LONG_REPORT + 1).due()
+    held = most is not None and abs(most - due) <= due / 10
+    bench.say(held, "a report that threads print: address space", f"{most} KiB, not {due:.0f}")
+    bench.note(f"a report that threads print: {most} KiB of address space, by the formula {due:.0f}")
+
+
 def rooms(bench: Bench) -> None:
-    """The rooms of calls, on one processor."""
+    """The rooms of calls, on one processor, and of printing on all of them."""
+    bench.write("e", WALKER)
+    bench.write("printed", f"feast 1\ntiles 1 1\nsize 8 8\nseed 1\nattempts {LONG_REPORT + 1}\n".encode())
+    printing(bench)
     processors = os.sched_getaffinity(0)
     os.sched_setaffinity(0, {min(processors)})
     try:
@@ -127,12 +156,12 @@ def rooms(bench: Bench) -> None:
 
 def rooms_here(bench: Bench) -> None:
     """Each of these calls, and those that write code."""
-    bench.write("e", WALKER)
     bench.write("c", PACKED)
     bench.write("long", heirs(10, 2000))
     attempts = MANY if bench.long else FEW
-    for name, tiles, own in (("one", "1 1", attempts), ("many", "8 8", attempts // 64)):
-        bench.write(name, f"feast 1\ntiles {tiles}\nsize 8 8\nseed 1\nattempts {own}\n".encode())
+    for name, tiles, own, order in (("one", "1 1", attempts, ""), ("many", "8 8", attempts // 64, ""),
+                                    ("torn", "8 8", attempts // 64, "order seed 9\n")):
+        bench.write(name, f"feast 1\ntiles {tiles}\nsize 8 8\nseed 1\nattempts {own}\n{order}".encode())
         bench.call(["step", name, "e"], seconds=600)
         bench.output.rename(bench.at(f"{name}.report"))
     for room in rooms_of(attempts):

@@ -1,25 +1,21 @@
 """Runs with a worker for each tile: many small ones of many tiles, each report checked; workers of very
 unequal load; all on one processor; and workers on small stacks or without any thread.
 
-On planes of 4, 16 and 64 tiles no tile may make far fewer events than the others, or get far ahead of them.
+How evenly tiles act and how far they are apart is in `pace`.
 
 What a report has to be is asked of the program itself, by forms that know no threads: `replay` of it has
 to write its atoms, and `audit` has to say yes. Its entries are counted here.
 """
 from __future__ import annotations
 
-import math
-import os
 import random
-import statistics
-import subprocess
 import sys
-import time
 from typing import Collection, NamedTuple, Optional, Sequence
 
 from bench import DONE, MEMORY, Bench, Limits, main_of, tool
 from element_texts import NESTS, deepest, nested
 from jobs import ZEROS
+from pace import alone, even
 
 ELEMENTS = b"""element Wander { EventWindow ew; Random random; Void behave() {
   Unsigned i = random.create(40) + 1; if (ew.isEmpty(i)) ew.swap(0, i); } }
@@ -160,118 +156,6 @@ def crowded(bench: Bench) -> None:
     bench.write("w", b"".join(lines))
     abandoned = checked(bench, "crowded borders", 64 * count, seconds=600)
     bench.note(f"crowded borders: {64 * count} attempts, {abandoned} abandoned")
-
-
-class Plane(NamedTuple):
-    """So many tiles each way, of so many columns and rows, each with so many attempts."""
-
-    tiles: int
-    side: int
-    attempts: int
-
-    @property
-    def name(self) -> str:
-        """What it is called."""
-        return f"{self.tiles} by {self.tiles} tiles of {self.side} by {self.side}"
-
-    def text(self) -> bytes:
-        """Its world: one site in four has an atom."""
-        head = b"feast 1\ntiles %d %d\nsize %d %d\nseed 1000\nattempts %d\n" % (
-            self.tiles, self.tiles, self.side, self.side, self.attempts)
-        sites = [(x, y) for y in range(0, self.tiles * self.side, 2) for x in range(0, self.tiles * self.side, 2)]
-        return head + b"".join(b"atom %d %d Wander\n" % site for site in sites)
-
-
-# on tiles of 8 by 8 sites nearly each attempt needs an edge
-PLANES = [Plane(2, 8, 20_000), Plane(4, 8, 20_000), Plane(8, 16, 15_000)]
-
-
-def tiles_of(report: bytes) -> list[int]:
-    """The tile of each event of a report, in the order of the journal."""
-    records = sections(report).records
-    lines = report.split(b"\n")
-    first = lines.index(b"journal %d" % records) + 1
-    return [int(line.split(b" ", 2)[1]) for line in lines[first : first + records]]
-
-
-def drift(tiles: Sequence[int], count: int) -> float:
-    """How far one of the tiles was ahead of another at one of a thousand moments: the part of its own events that
-    it had made by then, less the part that the other had."""
-    events = [tiles.count(tile) for tile in range(count)]
-    made = [0] * count
-    worst = 0.0
-    for moment in range(0, len(tiles), len(tiles) // 1000 + 1):
-        for tile in tiles[moment : moment + len(tiles) // 1000 + 1]:
-            made[tile] += 1
-        parts = [some / max(1, all_of_them) for some, all_of_them in zip(made, events)]
-        worst = max(worst, max(parts) - min(parts))
-    return worst
-
-
-def even(bench: Bench) -> None:
-    """On planes of 4, 16 and 64 tiles each tile makes at least a third of the mean number of events, and no tile
-    gets a tenth of its events ahead of another; both as the middle of three runs. The aims are three times that,
-    and half of it, so that a busy machine passes too."""
-    if len(os.sched_getaffinity(0)) < 2:
-        bench.note("how evenly tiles act: left out, since there is one processor")
-        return
-    bench.write("e", ELEMENTS)
-    for plane in PLANES:
-        count = plane.tiles**2
-        bench.write("w", plane.text())
-        poorest, drifts = [], []
-        for _ in range(3):
-            answer = bench.call(["run", "w", "e"])
-            if not bench.say(answer.status == DONE, plane.name, answer.shown()):
-                return
-            tiles = tiles_of(bench.output.read_bytes())
-            poorest.append(min(tiles.count(tile) for tile in range(count)) * count / len(tiles))
-            drifts.append(drift(tiles, count))
-        least, far = statistics.median(poorest), statistics.median(drifts)
-        bench.say(least >= 1 / 3, f"{plane.name}: the events of the poorest tile, of the mean", f"{least:.3f}")
-        bench.say(far < 0.1, f"{plane.name}: how far one tile gets ahead of another", f"{far:.3f}")
-        bench.note(f"{plane.name}: the poorest tile made {least:.2f} of the mean, the drift was {far:.3f}")
-
-
-def without_threads() -> list[bytes]:
-    """The words before a call that can start no thread; none if there is no way to forbid them."""
-    limit = [b"prlimit", b"--nproc=1:1"]
-    if os.geteuid() != 0:
-        return limit if tool("prlimit") is not None else []
-    if tool("prlimit") is None or tool("setpriv") is None:
-        return []
-    return [b"setpriv", b"--reuid=65534", b"--regid=65534", b"--clear-groups", *limit]
-
-
-def alone(bench: Bench) -> None:
-    """Where no thread can be started, workers that wait for others wait in vain: a run of 64 tiles then ends in at
-    most four times the time that it takes with threads, as the least of three."""
-    before = without_threads()
-    if not before:
-        bench.note("runs without threads: left out, since there is no prlimit here, or no setpriv")
-        return
-    plane = Plane(8, 64, 8_000)
-    bench.write("w", plane.text())
-    bench.write("e", ELEMENTS)
-    for name in ("w", "e"):
-        (bench.folder / name).chmod(0o644)
-    bench.folder.chmod(0o755)
-    if subprocess.run([*before, b"test", b"-x", bench.program.encode()]).returncode != 0:
-        bench.note("runs without threads: left out, since the user that they need can't reach the program")
-        return
-    times: dict[str, float] = {}
-    ways: tuple[tuple[str, Sequence[bytes]], ...] = (("with threads", []), ("without threads", before))
-    for name, words in ways:
-        times[name] = math.inf
-        for _ in range(3):
-            begin = time.perf_counter()
-            answer = bench.call(["run", "w", "e"], before=words, seconds=240)
-            times[name] = min(times[name], time.perf_counter() - begin)
-            if not bench.say(answer.status == DONE, f"{plane.name} {name}", answer.shown()):
-                return
-    held = times["without threads"] <= 4 * times["with threads"]
-    bench.say(held, f"{plane.name} without threads ends soon", f"{times}")
-    bench.note(f"{plane.name}: {times['with threads']:.2f} s with threads, {times['without threads']:.2f} s without")
 
 
 def stacks(bench: Bench) -> None:
