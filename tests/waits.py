@@ -2,11 +2,15 @@
 """Tests that nothing waits at an edge, as far as one can see it in the code: waits.py
 
 No contract counts the looks at a word or the turns of a loop, and a test could see them only by the clock. So this
-looks at the code of crates/*/src, tests and benches apart, for two things. What lets time go by (`spin_loop`,
-`yield_now`, `sleep` and `park`) stands only where a worker pauses or waits for others between two attempts, and where
-gates rest: in the functions of PAUSES, and each of these has what it is said to have (so that a pause also yields the
-processor, which no test can see). And what takes an edge, uses it or gives it back makes one step on its words
-and has no loop: each function of STEPS.
+looks at the code of crates/*/src, tests and benches apart, for three things, and at these words alone.
+
+What lets time go by (`spin_loop`, `yield_now`, `sleep` and `park`) stands only where a worker pauses or waits for
+others between two attempts, and where gates rest: in the functions of PAUSES, and each of these has what it is said to
+have (so that a pause also yields the processor, which no test can see). What takes an edge, uses it or gives it back
+makes one step on its words and has no loop: each function of STEPS. And the files in which a worker makes an attempt,
+and in which a thread prints its part of a report, have the loops of LOOPS and no others, each with this very
+condition; a call that goes through a list or a function that calls itself counts as a loop. What those files call
+elsewhere isn't looked at, unless it is a function of STEPS.
 """
 from __future__ import annotations
 
@@ -46,6 +50,32 @@ STEPS = {
     "tile_core/src/state.rt": {"lock": "try_take", "give": "give", "back": "give_back"},
 }
 LOOP = re.compile(r"\b(for|while|loop)\b")
+# What goes on for a while: a loop with what stands before its body, a call that goes through a list, and the mark of a
+# function that calls itself.
+THROUGH = "(?:try_)?(?:for_each|fold)|any|all|find\\w*|r?position|count|last|nth|sum|map_while|skip_while|take_while"
+ROUND = re.compile(rf"\b(?:for|while|loop)\b[^{{]*|\.\s*(?:{THROUGH})\s*\(|#\[cycle\(\w+\)\]")
+# For a file all that goes on for a while in it, by the function in which or before which that stands.
+LOOPS: dict[str, dict[str, list[str]]] = {
+    "tile_core/src/attempt.rt": {
+        "take_edges": ["while self.phase == Phase::Lock"],
+        "give_edges": ["while self.phase == Phase::Give"],
+    },
+    "tile_core/src/state.rt": {},
+    "tile_core/src/tile.rt": {"attempt_whole": ["while !phase.is_over()"]},
+    "tile_core/src/clocks.rt": {
+        "read_clocks": ["for i in 0..needs.len()"],
+        "write_clocks": ["for i in 0..needs.len()"],
+    },
+    "tile_threads/src/worker.rt": {
+        "work": ["while is_drawing(&self.tile)"],
+        "run_some": ["#[cycle(halves)]"],
+        "run_both": ["#[cycle(halves)]"],
+    },
+    "report_text/src/part.rt": {
+        "print_lines": ["while out.capacity() - out.len() >= LONGEST_RECORD"],
+        "put_walk": ["while let Some(entry) = walk.next()"],
+    },
+}
 
 
 def pauses(path: pathlib.Path, code: Code) -> Iterator[str]:
@@ -79,16 +109,36 @@ def steps(path: pathlib.Path, code: Code) -> Iterator[str]:
             yield f"{shown(path)}: `{function.name}` has a loop"
 
 
+def loops(path: pathlib.Path, code: Code) -> Iterator[str]:
+    """What goes on for a while in a file of LOOPS and isn't named there, and what is named and isn't there."""
+    wanted = LOOPS.get(shown(path))
+    if wanted is None:
+        return
+    functions = list(code.functions())
+    found: dict[str, list[str]] = {name: [] for name in wanted}
+    for hit in ROUND.finditer(code.text):
+        if re.match(r"for\s+\w+(?:<[^{]*>)?\s*$", hit[0]):
+            continue  # of an `impl .. for ..`
+        inside = [it.name for it in functions if it.body < hit.start() < it.end]
+        behind = [it.name for it in functions if it.start > hit.start()]
+        name = inside[-1] if inside else behind[0] if behind else ""
+        found.setdefault(name, []).append(" ".join(hit[0].split()))
+    for name, has in found.items():
+        if has != wanted.get(name, []):
+            yield f"{shown(path)}: `{name}` goes on for a while by {has}, not by {wanted.get(name, [])}"
+
+
 def main() -> int:
     """The command."""
     argparse.ArgumentParser(description="Tests that nothing waits at an edge, as far as one can see it in the code.").parse_args()
     files = [path for path in sources("src", ".rt") if not shown(path).startswith(("cases_", "bench_"))]
-    faults = [f"{name}: there is no such file" for name in [*PAUSES, *STEPS] if not (TOP / "crates" / name).is_file()]
+    named = [*PAUSES, *STEPS, *LOOPS]
+    faults = [f"{name}: there is no such file" for name in named if not (TOP / "crates" / name).is_file()]
     for path in files:
         code = Code(path.read_text())
-        faults += [*pauses(path, code), *steps(path, code)]
-    checked = sum(map(len, STEPS.values()))
-    print("\n".join([*faults, f"{len(files)} files, {checked} functions that make one step, {len(faults)} faults in what waits"]))
+        faults += [*pauses(path, code), *steps(path, code), *loops(path, code)]
+    checked = f"{sum(map(len, STEPS.values()))} functions that make one step, {len(LOOPS)} files whose loops are named"
+    print("\n".join([*faults, f"{len(files)} files, {checked}, {len(faults)} faults in what waits"]))
     return 1 if faults else 0
 
 
