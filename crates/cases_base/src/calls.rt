@@ -205,6 +205,24 @@ fn open_gates_let_workers_pass(rt: HostRuntime) {
     assert!(rt; rested(&gate) >= Duration::from_millis(2));
 }
 
+/// The time of a gate with the system's clock never falls, whether anybody rests meanwhile or not, and over some
+/// rests it rises.
+#[test]
+fn the_time_of_a_gate_never_falls(rt: HostRuntime) {
+    let gate = ClockGate { clock: &rt };
+    let begun = gate.time();
+    let mut last = begun;
+    for round in 0..100u64 {
+        if round % 4 == 0 {
+            gate.rest(Duration::from_micros(round));
+        }
+        let now = gate.time();
+        assert!(rt; last <= now, "{round}");
+        last = now;
+    }
+    assert!(rt; begun < last);
+}
+
 /// What a shelf answers for a file of six bytes, which it may load whole, for the same with a limit of
 /// two, and for the same once it is gone.
 fn told(

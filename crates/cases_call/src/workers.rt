@@ -6,7 +6,7 @@ use feast_run::Status;
 use std::alloc::Global;
 use std::sync::atomic::{AtomicU64, Ordering};
 use std::test::Fail;
-use std::thread::Threads;
+use std::thread::{Threads, yield_now};
 
 const WALKER: &str = "element Walker { EventWindow ew; Void behave() { ew.swap(0, 4); } }";
 
@@ -84,8 +84,10 @@ atom 15 16 Counter
 atom 16 16 Counter
 ";
 
-/// The most turns for which a gate holds an attempt back.
-const MOST_TURNS: u32 = 1_000_000_000;
+/// The most turns for which a gate holds an attempt back. A turn yields the processor, as those of a worker do that
+/// waits for the tile that is held back: other work on the machine makes the turns of both longer. That
+/// worker has patience for some hundred turns.
+const MOST_TURNS: u32 = 100_000_000;
 
 /// An attempt that is held back until the other of two tiles has come to the gate with an attempt of
 /// its own.
@@ -139,6 +141,7 @@ impl<'a> KeepingGate<'a> {
             if self.come(1 - tile.min(1)).load(Ordering::SeqCst) > until {
                 return;
             }
+            yield_now();
         }
         self.missed.fetch_add(1, Ordering::SeqCst);
     }

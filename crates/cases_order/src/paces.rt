@@ -67,6 +67,22 @@ impl Rest for Ending<'_> {
     }
 }
 
+/// A place where the worker of tile 1 comes to a count at the third rest.
+#[derive(Drop)]
+struct Coming<'a> {
+    rests: AtomicU64,
+    pace: &'a Pace,
+    count: u64,
+}
+
+impl Rest for Coming<'_> {
+    fn rest(&self, _time: Duration) {
+        if self.rests.fetch_add(1, Ordering::SeqCst) == 2 {
+            Stride::new(self.pace, 1).keep(self.count, &Place::new(0));
+        }
+    }
+}
+
 /// Two tiles of this many columns and rows.
 fn two_tiles(alloc: Global, side: u32) -> Result<Map, NoMemory>
     requires low { 8 ≤ side }
@@ -122,6 +138,33 @@ fn patience_ends(rt: HostRuntime) -> Result<(), Fail> {
     draw(&mut stride, NEAR, 100_000, &place);
     assert!(rt; 0 < first && first < 1000, "{first}");
     assert!(rt; place.rests() < first);
+    Ok(())
+}
+
+/// A wait that ends well restores patience: after it a wait in vain takes as long as the first, which one that
+/// comes directly after that doesn't.
+#[test]
+fn a_wait_that_ends_well_restores_patience(rt: HostRuntime) -> Result<(), Fail> {
+    let map = two_tiles(rt.alloc(), 8)?;
+    for restored in [false, true] {
+        let pace = Pace::new(&map);
+        let place = Place::new(0);
+        let mut stride = Stride::new(&pace, 0);
+        stride.keep(NEAR, &place);
+        let first = place.rests();
+        if restored {
+            let coming = Coming {
+                rests: AtomicU64::new(0),
+                pace: &pace,
+                count: 2 * NEAR,
+            };
+            stride.keep(2 * NEAR, &coming);
+            assert!(rt; coming.rests.load(Ordering::SeqCst) == 3);
+        }
+        stride.keep(3 * NEAR, &place);
+        let last = place.rests();
+        assert!(rt; 0 < last && (last == first) == restored, "{first}, {last}");
+    }
     Ok(())
 }
 
