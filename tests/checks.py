@@ -7,10 +7,12 @@ from __future__ import annotations
 
 import concurrent.futures
 import fnmatch
+import re
 import subprocess
 import time
 import unittest
-from dataclasses import dataclass
+from collections import Counter
+from dataclasses import dataclass, replace
 from typing import Any, Callable, Iterable, Iterator, Optional, Sequence
 
 # How many checks are tried at once of a part that allows it.
@@ -20,10 +22,12 @@ ASIDE = 4
 class Check(unittest.TestCase):
     """A check: `fault` gives what is wrong, or nothing."""
 
-    def __init__(self, name: str, fault: Callable[[], Optional[str]]) -> None:
+    def __init__(self, name: str, fault: Callable[[], Optional[str]], parts: Sequence[str] = ()) -> None:
+        """Once it was tried, `parts` has why parts of it were left out, a reason for each."""
         super().__init__("holds")
         self.name = name
         self.fault = fault
+        self.parts = parts
 
     def id(self) -> str:
         """The name."""
@@ -45,13 +49,14 @@ class Wrong(AssertionError):
 
 @dataclass(frozen=True)
 class Outcome:
-    """How a check went: its name, the seconds it took, what is wrong (nothing if it passed), and why it was left out
-    (nothing if it was tried)."""
+    """How a check went: its name, the seconds it took, what is wrong (nothing if it passed), why it was left out
+    (nothing if it was tried), and why parts of it were, a reason for each."""
 
     name: str
     seconds: float
     fault: str = ""
     left_out: str = ""
+    parts: tuple[str, ...] = ()
 
 
 class Result(unittest.TestResult):
@@ -73,7 +78,7 @@ class Result(unittest.TestResult):
         """Takes in that a test is over."""
         super().stopTest(test)
         seconds = time.monotonic() - self.begin
-        self.outcomes.append(Outcome(test.id(), seconds, "\n".join(self.said), self.left_out))
+        self.outcomes.append(Outcome(test.id(), seconds, "\n".join(self.said), self.left_out, tuple(getattr(test, "parts", ()))))
 
     def addFailure(self, test: unittest.TestCase, err: Any) -> None:
         """Takes in what is wrong."""
@@ -111,6 +116,11 @@ class Result(unittest.TestResult):
             self.outcomes.append(Outcome(str(test), 0.0, said))
 
 
+def reasons(outcomes: Iterable[Outcome]) -> Counter[str]:
+    """How often each reason stands for a check, or a part of one, that was left out."""
+    return Counter(reason for it in outcomes for reason in (it.left_out if not it.fault else "", *it.parts) if reason)
+
+
 def flat(tests: Iterable[Any]) -> Iterator[unittest.TestCase]:
     """The tests of suites in suites."""
     for test in tests:
@@ -141,9 +151,17 @@ def tried(tests: Sequence[unittest.TestCase], aside: bool) -> list[Outcome]:
     if not aside:
         result = Result()
         unittest.TestSuite(tests).run(result)
-        return result.outcomes
+        return [outcome for it in result.outcomes for outcome in each_left_out(it, tests)]
     with concurrent.futures.ThreadPoolExecutor(ASIDE) as pool:
         return [outcome for found in pool.map(alone, tests) for outcome in found]
+
+
+def each_left_out(outcome: Outcome, tests: Sequence[unittest.TestCase]) -> list[Outcome]:
+    """An outcome; in place of one of a class or a module that is left out, one for each of its tests."""
+    shared = re.fullmatch(r"setUp(?:Class|Module) \((.*)\)", outcome.name)
+    if not shared or not outcome.left_out:
+        return [outcome]
+    return [replace(outcome, name=test.id()) for test in tests if test.id().startswith(f"{shared[1]}.")] or [outcome]
 
 
 def alone(test: unittest.TestCase) -> list[Outcome]:

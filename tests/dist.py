@@ -157,17 +157,19 @@ class Gate(Repository):
         for name in ("driver", "passed"):
             self.file(f"tests/{name}.py", f"import sys\nprint('{name}', *sys.argv[1:])\nsys.exit('fail' in sys.argv)\n")
         untried, built = "proofs: not tried here (./test all)\n", self.top / BUILT.program
+        left_out = built.with_name("left_out.json")
         for words, status, out in (
             ([], 0, f"driver\n{untried}"), (["quick"], 0, f"driver\n{untried}"),
             (["quick", "lab", "-k", "film"], 0, f"driver lab -k film\n{untried}"), (["quick", "fail"], 1, f"driver fail\n{untried}"),
-            (["every"], 2, ""), (["all"], 1, f"driver --program {built}\n"),
+            (["every"], 2, ""), (["all"], 1, f"driver --program {built} --left-out {left_out}\n"),
         ):
             done = self.call("test", *words)
             self.assertEqual((done.returncode, done.stdout), (status, out), done.stderr)
         self.call("tools/dist")
         done = self.call("test", "all")
         self.assertEqual(done.returncode, 0, done.stderr)
-        self.assertRegex(done.stdout, rf"\Adist/ has the program .*\ndriver --program {built}\npassed .*{built} {KIT}\n\Z")
+        self.assertRegex(done.stdout, rf"\Adist/ has the program .*\ndriver --program {built} --left-out {left_out}\n"
+                                      rf"passed .*{built} {KIT} {left_out}\n\Z")
         self.file("fails", "x")
         self.assertEqual(self.call("test", "all").returncode, 1)
 

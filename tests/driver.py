@@ -23,7 +23,7 @@ is tried by itself at the end.
 
 A check is named PART/NAME. `-k` chooses those whose names have the word in them, or match it if it has a `*`; it may be
 given several times. The program is the one that ./feast would run, or the one that FEAST_PROGRAM names. The last line counts
-all checks; the status is 1 if one failed.
+all checks, and what was left out, by reason; the status is 1 if one failed.
 """
 from __future__ import annotations
 
@@ -31,6 +31,7 @@ import argparse
 import concurrent.futures
 import importlib.util
 import itertools
+import json
 import multiprocessing
 import os
 import signal
@@ -49,7 +50,7 @@ sys.dont_write_bytecode = True
 # (a file and a package of tools are called `lab` and `first_call` here too: tools goes first, and parts have other names)
 sys.path[0:0] = [str(TOP / "tools"), str(HERE)]
 
-from checks import Check, Choice, Outcome, tried  # noqa: E402
+from checks import Check, Choice, Outcome, reasons, tried  # noqa: E402
 from lab.errors import LabError  # noqa: E402
 from lab.program import Program  # noqa: E402
 
@@ -170,11 +171,20 @@ def told(part: str, outcomes: Sequence[Outcome], seconds: float) -> None:
 
 
 def counted(outcomes: Sequence[Outcome]) -> str:
-    """How many checks passed, failed and were left out, with each reason once."""
+    """How many checks passed, failed and were left out, and how many of these, and of parts of others, for each reason."""
     failed = sum(bool(it.fault) for it in outcomes)
-    left_out = [it.left_out for it in outcomes if it.left_out and not it.fault]
-    reasons = f", {len(left_out)} left out ({'; '.join(sorted(set(left_out)))})" if left_out else ""
-    return f"{len(outcomes) - failed - len(left_out)} passed, {failed} failed{reasons}"
+    left_out = sum(bool(it.left_out and not it.fault) for it in outcomes)
+    parts = sum(len(it.parts) for it in outcomes)
+    said = [f"{count} {what}{'s' * (count > 1)}{of} left out"
+            for count, what, of in ((left_out, "check", ""), (parts, "part", " of others")) if count]
+    why = "; ".join(f"{count}: {reason}" for reason, count in sorted(reasons(outcomes).items()))
+    return ", ".join([f"{len(outcomes) - failed - left_out} passed", f"{failed} failed", *said]) + (f" ({why})" if why else "")
+
+
+def note(outcomes: Sequence[Outcome], path: Optional[Path]) -> None:
+    """Puts into a file, if one is named, how often each reason stands for what was left out."""
+    if path:
+        path.write_text(json.dumps(reasons(outcomes), indent=2, sort_keys=True) + "\n")
 
 
 def slowest(found: Sequence[tuple[str, Outcome]], most: int) -> None:
@@ -191,6 +201,7 @@ def parser() -> argparse.ArgumentParser:
     made.add_argument("--program", type=Path, metavar="FILE", help="this program, in place of that of ./feast")
     made.add_argument("--without-program", action="store_true", help="the parts that want no program")
     made.add_argument("--times", type=int, default=0, metavar="N", help="at the end, the N checks that took longest")
+    made.add_argument("--left-out", type=Path, metavar="FILE", help="puts into FILE what was left out, counted by reason")
     made.add_argument("--list", action="store_true", help="the names of the checks, which are not tried")
     return made
 
@@ -235,6 +246,7 @@ def run(parts: Sequence[str], program: Optional[Path], given: argparse.Namespace
     slowest(found, given.times)
     everything = [outcome for _, outcome in found]
     print(f"in all: {counted(everything)}, in {time.monotonic() - begin:.0f} s")
+    note(everything, given.left_out)
     return 1 if not found or any(outcome.fault for outcome in everything) else 0
 
 

@@ -37,8 +37,9 @@ from checks import Check  # noqa: E402
 TABLES = ["words", "edge", "memory", "elements", "bases", "texts", "fronts", "workers"]
 
 
-def fault(program: str, long: bool, table: str) -> Optional[str]:
-    """Runs a table, which prints its figures and what did not hold, and says how much did not."""
+def fault(program: str, long: bool, table: str, left_out: Optional[list[str]] = None) -> Optional[str]:
+    """Runs a table, which prints its figures and what did not hold, and says how much did not. Why parts of it are left
+    out is added to `left_out`."""
     bench = Bench(program, long)
     bench.title = table
     begin = time.monotonic()
@@ -47,17 +48,19 @@ def fault(program: str, long: bool, table: str) -> Optional[str]:
         getattr(importlib.import_module(table), table)(bench)
     finally:
         bench.close()
+        if left_out is not None:
+            left_out += bench.left_out
     seconds = time.monotonic() - begin
     print(f"{table}: {bench.held} held, {len(bench.faults)} did not, in {seconds:.0f} s", flush=True)
     return f"{len(bench.faults)} did not hold" if bench.faults else None
 
 
-def fault_apart(program: str, table: str) -> Optional[str]:
+def fault_apart(program: str, table: str, left_out: list[str]) -> Optional[str]:
     """The same of the quick part of a table that may be tried beside others: what it prints comes in one piece."""
     lines = io.StringIO()
     try:
         with contextlib.redirect_stdout(lines):
-            return fault(program, False, table)
+            return fault(program, False, table, left_out)
     finally:
         print(lines.getvalue(), end="", flush=True)
 
@@ -65,7 +68,8 @@ def fault_apart(program: str, table: str) -> Optional[str]:
 def checks(program: pathlib.Path) -> Iterator[Check]:
     """A check for the quick part of each table."""
     for table in TABLES:
-        yield Check(table, partial(fault_apart, str(program), table))
+        left_out: list[str] = []
+        yield Check(table, partial(fault_apart, str(program), table, left_out), left_out)
 
 
 def main() -> int:

@@ -9,6 +9,7 @@ import os
 import shutil
 import subprocess
 import sys
+import tarfile
 import tempfile
 import unittest
 from pathlib import Path
@@ -68,12 +69,12 @@ class Repository(unittest.TestCase):
         self.git("commit", "-qm", "all")
         return self.git("rev-parse", "HEAD")
 
-    def call(self, script: str, *words: str) -> subprocess.CompletedProcess[str]:
+    def call(self, script: str, *words: str, mask: int = 0o022) -> subprocess.CompletedProcess[str]:
         """A call of a script of the repository. Git takes its names from the environment."""
         around = {name: value for name, value in os.environ.items() if name != "FEAST_PROGRAM"}
         around |= {"PATH": f"{self.kit / 'bin'}:/usr/bin:/bin", "GIT_COMMITTER_NAME": "A", "GIT_COMMITTER_EMAIL": "a@b.c"}
         return subprocess.run([sys.executable, "-B", self.top / script, *words], capture_output=True, text=True,
-                              env=around, check=False)
+                              env=around, check=False, umask=mask)
 
     def copy(self, *names: str) -> None:
         """Copies files and folders of this repository."""
@@ -97,15 +98,16 @@ class Pretended(Repository):
         self.program.chmod(0o755)
         self.git("init", "-q")
         self.head = self.committed()
+        self.left_out = self.file(self.room / "left_out", '{"it writes no report": 3}')
         self.pass_all()
 
     def pass_all(self) -> str:
         """Notes that all passed; what is said."""
-        return self.call("tests/passed.py", self.head, str(self.program), "the-kit\n logic 1\n").stdout
+        return self.call("tests/passed.py", self.head, str(self.program), "the-kit\n logic 1\n", str(self.left_out)).stdout
 
-    def release(self) -> subprocess.CompletedProcess[str]:
+    def release(self, mask: int = 0o022) -> subprocess.CompletedProcess[str]:
         """A call of tools/release."""
-        return self.call("tools/release", str(self.made))
+        return self.call("tools/release", str(self.made), mask=mask)
 
     def refused(self, says: str) -> None:
         """Tries that a release is refused in one line with these words, and leaves nothing."""
@@ -126,7 +128,46 @@ class Pretended(Repository):
         sum_of = hashlib.sha256(PROGRAM.encode()).hexdigest()
         self.assertEqual(told, f"commit {self.head}\nproved with the-kit logic 1\nSHA-256 of bin/feast {sum_of}\n")
         self.assertFalse((self.made / "crates.txt").exists() or (self.made / "crates").exists())
+        self.assertEqual(sorted(path.name for path in (self.made / "tools").iterdir()), ["lab", "proved"])
+        self.assertFalse((self.made / "tools/proved/dist.py").exists())
         self.assertEqual((self.made / "licences/itoa/LICENSE-MIT").read_text(), "of itoa\n")
+
+    def test_archive(self) -> None:
+        """An archive beside the folder has the same files, is the same bytes each time, and gives no group a right to write,
+        whatever the maker's mask is."""
+        packed, again = self.room / "made.tar.gz", self.room / "again.tar.gz"
+        self.assertEqual(self.release(0o002).returncode, 0)
+        packed.rename(again)
+        shutil.rmtree(self.made)
+        self.assertEqual(self.release(0o077).returncode, 0)
+        self.assertEqual(packed.read_bytes(), again.read_bytes())
+        subprocess.run(["tar", "-xzpf", packed, "-C", self.room], check=True)
+        self.assertEqual(*(self.modes(folder) for folder in (self.made, self.room / "feast-0.4.0")))
+        self.assertEqual(set(self.modes(self.made).values()), {0o644, 0o755})
+        with tarfile.open(packed) as files:
+            self.assertEqual({(it.uid, it.gid, it.uname, it.name.split("/")[0]) for it in files}, {(0, 0, "", "feast-0.4.0")})
+
+    def modes(self, folder: Path) -> dict[str, int]:
+        """The modes of all that a folder has, by its path."""
+        return {str(path.relative_to(folder)): path.stat().st_mode & 0o7777 for path in (folder, *folder.rglob("*"))}
+
+    def test_left_out(self) -> None:
+        """What a run of the tests left out has to be on the list."""
+        self.left_out.write_text('{"it writes no report": 3, "no Chromium": 2, "vim is not there": 1}')
+        self.pass_all()
+        self.refused("./test all left out what a release asks for: no Chromium (2); vim is not there (1)")
+
+    def test_version_of_the_program(self) -> None:
+        """The folder's launcher tells the version, the program and the kit; those of another program it doesn't know."""
+        self.release()
+        sum_of = hashlib.sha256(PROGRAM.encode()).hexdigest()
+        call = [str(self.made / "feast"), "--version"]
+        self.assertEqual(subprocess.check_output(call, text=True, env={"PATH": "/usr/bin:/bin"}),
+                         f"feast 0.4.0\nprogram {sum_of}\nkit the-kit logic 1\n")
+        other = self.file(self.room / "other", "#!/bin/sh\n")
+        other.chmod(0o755)
+        said = subprocess.check_output(call, text=True, env={"PATH": "/usr/bin:/bin", "FEAST_PROGRAM": str(other)})
+        self.assertEqual(said.splitlines()[2], "kit not known")
 
     def test_launcher(self) -> None:
         """The launcher of the folder calls the folder's program, from any place and without the kit."""
@@ -190,11 +231,11 @@ class Pretended(Repository):
         """The program of dist/ has to be the one with which ./test all passed, whatever FEAST_PROGRAM names."""
         self.program.write_text(PROGRAM + "# changed\n")
         self.head = self.committed()
-        self.call("tests/passed.py", self.head, str(self.file(self.room / "gate", PROGRAM)), "the-kit")
+        self.call("tests/passed.py", self.head, str(self.file(self.room / "gate", PROGRAM)), "the-kit", str(self.left_out))
         self.refused("dist/feast: it is not the program with which ./test all has passed")
         self.program.unlink()
         self.head = self.committed()
-        self.call("tests/passed.py", self.head, str(self.room / "gate"), "the-kit")
+        self.call("tests/passed.py", self.head, str(self.room / "gate"), "the-kit", str(self.left_out))
         self.refused("dist/feast: No such file")
 
     def test_program_that_does_not_run(self) -> None:
@@ -224,6 +265,7 @@ class Pretended(Repository):
         self.git("tag", "v0.4.0")
         self.assertEqual(self.release().returncode, 0)
         shutil.rmtree(self.made)
+        (self.room / "made.tar.gz").unlink()
         (self.top / "docs/page.md").write_text("y\n")
         self.head = self.committed()
         self.pass_all()
@@ -233,6 +275,9 @@ class Pretended(Repository):
         self.file(self.made / "kept", "x")
         self.assertIn(f"{self.made}: it is there already", self.release().stderr)
         self.assertEqual([path.name for path in self.made.iterdir()], ["kept"])
+        shutil.rmtree(self.made)
+        self.file(self.room / "made.tar.gz", "x")
+        self.assertIn("made.tar.gz: it is there already", self.release().stderr)
 
     def test_kit(self) -> None:
         """The licences of the kit's parts have to be had."""
@@ -269,7 +314,7 @@ class Real(Repository):
             changes.write(f"\n## {version} (2026-12-01)\n")
         self.git("init", "-q")
         head = self.committed()
-        self.call("tests/passed.py", head, str(program), "kit")
+        self.call("tests/passed.py", head, str(program), "kit", str(self.file(self.room / "left_out", "{}")))
         done = self.call("tools/release", str(self.made))
         self.assertEqual((done.returncode, done.stderr), (0, ""))
 
@@ -287,6 +332,12 @@ class Real(Repository):
         written = self.used("./feast", "run", *walk)
         self.assertIn("\n\n" + "".join(f"    {line}\n" for line in written.splitlines()), (TOP / "README.md").read_text())
         (self.room / "work" / "report").write_text(written)
+        told = self.used("./lab", "--version").splitlines()
+        self.assertEqual([line.split()[0] for line in told], ["lab", "program", "kit"])
+        self.assertEqual(told[1:], self.used("./feast", "--version").splitlines()[1:])
+        self.assertEqual(told[2], "kit kit")
+        tools = sorted(path.name for path in (self.made / "tools").iterdir())
+        self.assertEqual(tools, ["feast_lab", "help.txt", "lab", "proved", "pyproject.toml", "work"])
         self.used("./lab", "film", walk[0], "report", "-o", "walk.html", walk[1])
         self.assertIn("<html", (self.room / "work" / "walk.html").read_text())
 

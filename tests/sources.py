@@ -4,12 +4,13 @@ from __future__ import annotations
 
 import subprocess
 import sys
+import unittest
 from functools import partial
 from pathlib import Path
 from typing import Iterator, Optional
 
 sys.dont_write_bytecode = True
-from checks import Check  # noqa: E402
+from checks import Check, tried  # noqa: E402
 from tree import files  # noqa: E402
 
 HERE = Path(__file__).resolve().parent
@@ -43,10 +44,38 @@ def pieces() -> Optional[str]:
     return f"of {names} the pieces have {[[test.id() for test in piece] for piece in found]}" if wrong else None
 
 
+class Shared(unittest.TestCase):
+    """Three tests whose class is left out. They are tried by `left_out` alone."""
+
+    @classmethod
+    def setUpClass(cls) -> None:
+        raise unittest.SkipTest("no such tool")
+
+    def test_a(self) -> None:
+        """Never tried."""
+
+    test_b = test_c = test_a
+
+
+def left_out() -> Optional[str]:
+    """Whether what is left out isn't counted by its reason: each test of a class, a check alone, and parts of one."""
+    from driver import counted
+
+    def lacking() -> Optional[str]:
+        raise unittest.SkipTest("no such tool")
+
+    tests = [*unittest.defaultTestLoader.loadTestsFromTestCase(Shared), Check("whole", lambda: None),
+             Check("alone", lacking), Check("parts", lambda: None, ["one processor", "one processor"])]
+    said = counted(tried(tests, False))
+    due = "2 passed, 0 failed, 4 checks left out, 2 parts of others left out (4: no such tool; 2: one processor)"
+    return None if said == due else f"what was left out is told as `{said}`, not as `{due}`"
+
+
 def checks(_: object) -> Iterator[Check]:
-    """A check for each script, one for links, and one for the driver's pieces."""
+    """A check for each script, one for links, and two for the driver's pieces and for what it says of checks left out."""
     yield Check("links", links)
     yield Check("pieces", pieces)
+    yield Check("left_out", left_out)
     for script, *options in SCRIPTS:
         yield Check(script, partial(fault, script, *options))
 

@@ -106,6 +106,7 @@ class Bench:
         self.held = 0
         self.faults: list[str] = []
         self.notes: list[str] = []
+        self.left_out: list[str] = []
         self.title = ""
 
     def close(self) -> None:
@@ -180,6 +181,11 @@ class Bench:
         """Counts a call that is to end with this status and these bytes (None: any)."""
         held = answer.status == status and (out is None or (answer.out == out and answer.size == len(out)))
         return self.say(held, name, f"{answer.shown()}, not status {status}, {(out or b'')[:160]!r}")
+
+    def leave_out(self, reason: str, what: str) -> None:
+        """Keeps that something is left out, and why."""
+        self.left_out.append(reason)
+        self.note(f"{what}: left out, since {reason}")
 
     def note(self, text: str) -> None:
         """Keeps a figure, to be shown at the end."""

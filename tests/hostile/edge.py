@@ -259,7 +259,7 @@ def edge(bench: Bench) -> None:
     if may_trace():
         write_faults(bench)
     else:
-        bench.note("no strace here: faults of single reads and writes are left out")
+        bench.leave_out("strace is not on this machine", "faults of single reads and writes")
 
 
 if __name__ == "__main__":

@@ -195,7 +195,7 @@ def threads(bench: Bench) -> None:
     one is that of the call; a shorter one by that alone."""
     counter = build(bench, "threads")
     if counter is None:
-        bench.note("no C compiler here: the threads that print a report are not counted")
+        bench.leave_out("there is no C compiler", "the threads that print a report")
         return
     bench.write("e", WALKER)
     printing = min(len(os.sched_getaffinity(0)), MOST_PRINTING)
@@ -210,7 +210,7 @@ def memory(bench: Bench) -> None:
     """The table."""
     refuser = build(bench, "refuse")
     if refuser is None:
-        bench.note("no C compiler here: requests are not refused one by one")
+        bench.leave_out("there is no C compiler", "requests that are refused one by one")
     jobs = [*jobs_of(bench), *ordinary(bench)]
     tried = shut = 0
     for job in jobs:

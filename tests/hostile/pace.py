@@ -148,7 +148,7 @@ def tried(bench: Bench, plane: Plane) -> Optional[Shown]:
 def even(bench: Bench) -> None:
     """The acting tiles of each plane act evenly."""
     if len(os.sched_getaffinity(0)) < 2:
-        bench.note("how evenly tiles act: left out, since there is one processor")
+        bench.leave_out("there is one processor", "how evenly tiles act")
         return
     bench.write("e", WANDER)
     for plane in PLANES:
@@ -178,7 +178,7 @@ def alone(bench: Bench) -> None:
     doesn't count for which no processor was free: other work makes it longer by that, and the other one by far less."""
     before = without_threads()
     if not before:
-        bench.note("runs without threads: left out, since there is no prlimit here, or no setpriv")
+        bench.leave_out("prlimit or setpriv is not on this machine", "runs without threads")
         return
     plane = Plane(8, 64, 8_000)
     bench.write("w", plane.text())
@@ -187,7 +187,7 @@ def alone(bench: Bench) -> None:
         (bench.folder / name).chmod(0o644)
     bench.folder.chmod(0o755)
     if subprocess.run([*before, b"test", b"-x", bench.program.encode()]).returncode != 0:
-        bench.note("runs without threads: left out, since the user that they need can't reach the program")
+        bench.leave_out("the user nobody can't reach the program", "runs without threads")
         return
     ways: tuple[tuple[str, Sequence[bytes]], ...] = (("with threads", []), ("without threads", before))
     times = {name: math.inf for name, _ in ways}

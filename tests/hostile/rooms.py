@@ -130,7 +130,7 @@ def printing(bench: Bench) -> None:
     """How much room a report takes that threads print: all of them share the room for lines."""
     processors = min(len(os.sched_getaffinity(0)), MOST_PRINTING)
     if processors < 2:
-        bench.note("a report that threads print: left out, since there is one processor")
+        bench.leave_out("there is one processor", "a report that threads print")
         return
     # (the C library would set 64 MiB aside for what each thread allocates, which is nothing)
     env = dict(os.environ, MALLOC_ARENA_MAX="1")

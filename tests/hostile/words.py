@@ -52,7 +52,7 @@ def words(bench: Bench) -> None:
         if tool("bash") is not None:
             under_names(bench, job)
     if tool("bash") is None:
-        bench.note("no bash here: other names of the program are left out")
+        bench.leave_out("bash is not on this machine", "other names of the program")
 
 
 if __name__ == "__main__":

@@ -203,7 +203,7 @@ def workers(bench: Bench) -> None:
         many(bench, 1000 if bench.long else 40, one)
         unequal(bench, one)
     else:
-        bench.note("no taskset here: runs on one processor are left out")
+        bench.leave_out("taskset is not on this machine", "runs on one processor")
 
 
 if __name__ == "__main__":

@@ -64,6 +64,19 @@ class Launcher(LabCase):
         """A call of the program itself."""
         return subprocess.run([program(), *words], capture_output=True, check=False, timeout=60)
 
+    def test_version(self) -> None:
+        """The launcher alone tells its version, the program and the kit, and of no program it begins no proof; the program
+        itself knows no such word."""
+        shutil.copy(TOP / "VERSION", self.top)
+        version = (TOP / "VERSION").read_text().strip()
+        done = self.call("--version")
+        told = f"feast {version}\nprogram {digest_of(self.program)}\nkit a kit\n"
+        self.assertEqual((done.returncode, done.stdout.decode(), done.stderr), (0, told, b""))
+        self.assertEqual((self.direct("--version").returncode, self.call("--version", "x").returncode), (2, 2))
+        (self.top / "HANDLES").write_text("changed\n")
+        done = self.call("--version")
+        self.assertEqual((done.returncode, done.stdout.decode()), (0, f"feast {version}\nprogram none\n"))
+
     def test_refusals_in_a_pipe(self) -> None:
         """Standard output and the status are the program's own; standard error tells of the refusal."""
         self.file("w", "feast 3\n")
@@ -204,6 +217,7 @@ class Launcher(LabCase):
         forms = self.direct().stdout.decode().removeprefix("E00 usage: feast ").strip().split(" | ")
         wanted = {f"{word} {words}" for form in forms for names, _, words in [form.partition(" ")]
                   for word in names.split("|")}
-        self.assertEqual({line.replace("JOURNAL", "REPORT") for line in wanted}, told)
+        # (one word is the launcher's own)
+        self.assertEqual({line.replace("JOURNAL", "REPORT") for line in wanted} | {"--version"}, told)
         for name in re.findall(r"\b(?:docs/\w+|README|examples/\w+)\.\w+", text):
             self.assertTrue((TOP / name).is_file(), name)

@@ -14,6 +14,7 @@ from typing import Any, NoReturn, TextIO, cast
 
 from lab.errors import LabError
 from lab.files import cause
+from lab.version import Version
 from lab.words import settle
 
 VERBS = ("check", "explain", "chain", "live", "film", "sweep", "rates", "events", "failures", "trace", "atoms", "paint", "scatter",
@@ -43,6 +44,7 @@ def parser(modules: dict[str, ModuleType]) -> Parser:
     form = argparse.RawDescriptionHelpFormatter
     top = Parser(prog="./lab", formatter_class=form, epilog=EPILOG,
                  description="Long runs, a live window, films, sweeps, rates, atoms and checks, beside the program.")
+    top.add_argument("--version", action=Version, nargs=0, help="the version, the program's SHA-256 and the kit that proved it")
     choice = top.add_subparsers(metavar="VERB", required=True)
     for verb, module in modules.items():
         text = module.__doc__ or ""

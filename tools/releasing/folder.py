@@ -12,6 +12,9 @@ PATHS = [
     "README.md", "CHANGELOG.md", "CITATION.cff", "CONTRIBUTING.md", "LICENSE-APACHE", "LICENSE-MIT", "SECURITY.md",
     "VERSION", "docs", "editors", "examples", "feast", "lab", "tools",
 ]
+# What of these is for those who make the program and its releases.
+MAKERS = ["tools/dist", "tools/first_call", "tools/pictures", "tools/proved/__main__.py", "tools/proved/dist.py", "tools/release",
+          "tools/releasing"]
 PROGRAM = "bin/feast"
 # The kit's crates of which parts are in the program, and which have licences.
 PARTS = ("arrayvec", "indexmap", "itoa", "rand_core", "rand_xoshiro", "thiserror")
@@ -19,8 +22,8 @@ LICENCES = ("LICENSE*", "COPYRIGHT*")
 
 
 def fill(folder: Path, top: Path, program: Path, kit: Path, record: Record) -> None:
-    """Fills a folder with all that users get, the checksums last."""
-    unpack(top, PATHS, folder)
+    """Fills a folder with all that users get, the checksums last. The owner alone may write to it."""
+    unpack(top, [*PATHS, *(f":(exclude){path}" for path in MAKERS)], folder)
     placed = folder / PROGRAM
     placed.parent.mkdir()
     shutil.copyfile(program, placed)
@@ -28,6 +31,8 @@ def fill(folder: Path, top: Path, program: Path, kit: Path, record: Record) -> N
     copy_licences(kit, folder / "licences")
     (folder / "KIT").write_text(told(record))
     (folder / "SHA256SUMS").write_text(checksums(folder))
+    for path in (folder, *folder.rglob("*")):
+        path.chmod(0o755 if path.is_dir() or path.stat().st_mode & 0o100 else 0o644)
 
 
 def told(record: Record) -> str:

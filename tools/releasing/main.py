@@ -1,8 +1,9 @@
 """Makes a released folder of the commit that is checked out, and tags the commit with the version's number.
 
 It asks that the tree has no change, that VERSION, CHANGELOG.md and CITATION.cff agree, that the last run of `./test all`
-in this clone passed on this very commit, and that the program of dist/, which the folder gets, is the one with which it
-passed.
+in this clone passed on this very commit and left nothing out but what the list of tools/releasing/left_out.py has, and that
+the program of dist/, which the folder gets, is the one with which it passed. Beside the folder it puts FOLDER.tar.gz, which
+has the same files and is the same bytes each time.
 """
 from __future__ import annotations
 
@@ -16,6 +17,8 @@ from pathlib import Path
 
 from proved.found import DIST
 
+from releasing import left_out
+from releasing.archive import NAME, pack
 from releasing.folder import PROGRAM, fill
 from releasing.record import Record, digest
 from releasing.tree import ReleaseError, changes, commit_of, git, tagged
@@ -47,20 +50,28 @@ def release(top: Path, folder: Path, kit: Path) -> None:
         raise ReleaseError(f"the tag {tag} is there, and names another commit: a new release needs a new VERSION")
     folder.parent.mkdir(parents=True, exist_ok=True)
     with tempfile.TemporaryDirectory(dir=folder.parent, prefix=".release-") as name:
-        made = Path(name) / "made"
+        made, packed = Path(name) / "made", Path(name) / "packed"
         made.mkdir()
         fill(made, top, top / DIST.program, kit, record)
         try_out(made)
+        pack(made, packed, f"feast-{tag[1:]}", int(git(top, "show", "-s", "--format=%ct", "HEAD")))
         if at is None:
             git(top, "tag", "--annotate", "--message", f"feast {tag[1:]}", tag)
+        os.rename(packed, archive_of(folder))
         os.rename(made, folder)
     print(f"{folder}: feast {tag[1:]}; the tag is {tag}")
 
 
+def archive_of(folder: Path) -> Path:
+    """Where the archive of a folder lies."""
+    return folder.with_name(folder.name + NAME)
+
+
 def asked(top: Path, folder: Path) -> Record:
     """The note of the run of `./test all`. ReleaseError if the tree, the note, the program or the folder isn't as it has to be."""
-    if folder.exists():
-        raise ReleaseError(f"{folder}: it is there already")
+    for path in (folder, archive_of(folder)):
+        if path.exists():
+            raise ReleaseError(f"{path}: it is there already")
     changed = changes(top)
     if changed:
         raise ReleaseError(f"the tree has changes that are not committed: {', '.join(changed[:5])}")
@@ -69,6 +80,7 @@ def asked(top: Path, folder: Path) -> Record:
         raise ReleaseError(f"./test all has passed on {record.commit[:12]}, and not on {commit_of(top)[:12]}, which is checked out")
     if record.program != digest(top / DIST.program):
         raise ReleaseError(f"{DIST.program}: it is not the program with which ./test all has passed")
+    left_out.check(record.left_out)
     return record
 
 

@@ -17,11 +17,13 @@ NAME = "feast-passed.json"
 
 @dataclass(frozen=True)
 class Record:
-    """The commit on which everything passed, the SHA-256 of the program that was built of it, and the kit's line."""
+    """The commit on which everything passed, the SHA-256 of the program that was built of it, the kit's line, and what was
+    left out: how many checks, or parts of them, for each reason."""
 
     commit: str
     program: str
     kit: str
+    left_out: dict[str, int]
 
     def write(self, top: Path) -> Path:
         """Puts the note in its place, whole; gives the place."""
