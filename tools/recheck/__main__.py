@@ -1,0 +1,13 @@
+"""`python3 tools/recheck ..`: the second reader by itself, without the lab."""
+import sys
+from pathlib import Path
+
+if sys.version_info < (3, 11):
+    sys.stderr.write("recheck: it needs Python 3.11 or later, and python3 is %d.%d here\n" % sys.version_info[:2])
+    sys.exit(2)
+sys.dont_write_bytecode = True
+sys.path.insert(0, str(Path(__file__).resolve().parent.parent))
+
+from recheck.main import main  # noqa: E402
+
+sys.exit(main(sys.argv[1:]))
