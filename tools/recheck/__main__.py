@@ -2,8 +2,8 @@
 import sys
 from pathlib import Path
 
-if sys.version_info < (3, 11):
-    sys.stderr.write("recheck: it needs Python 3.11 or later, and python3 is %d.%d here\n" % sys.version_info[:2])
+if sys.version_info < (3, 9):  # PyPy's, where it is packaged
+    sys.stderr.write("recheck: it needs Python 3.9 or later, and this is %d.%d\n" % sys.version_info[:2])
     sys.exit(2)
 sys.dont_write_bytecode = True
 sys.path.insert(0, str(Path(__file__).resolve().parent.parent))

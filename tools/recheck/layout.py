@@ -3,9 +3,9 @@ from __future__ import annotations
 
 from . import trees
 from .faults import Refused
+from .limits import STATE_BITS
 
 QUARK_BITS = 32
-ELEMENT_BITS = 71
 MOST_TOLD = 2**64 - 1
 
 
@@ -14,7 +14,7 @@ def lay_out(classes: list[trees.Class]) -> None:
     done: dict[trees.Class, int] = {}
     for it in classes:
         it.bits = bits_of(it, done)
-        if it.bits > (QUARK_BITS if it.is_quark else ELEMENT_BITS):
+        if it.bits > (QUARK_BITS if it.is_quark else STATE_BITS):
             raise Refused(40 if it.is_quark else 41, it.word.at, min(it.bits, MOST_TOLD))
 
 

@@ -5,27 +5,30 @@ from typing import Iterator, Union
 
 from . import trees
 from .faults import Refused
+from .limits import MOST_INSTRS
 from .trees import VOID, NumberType, Type
 
-MOST_INSTRUCTIONS = 65_536
 PAIRS = {"&&": 3, "||": 4}
 Node = Union[trees.Expr, trees.Statement]
 NODES = (trees.Expr, trees.Block, trees.If, trees.Loop, trees.Return, trees.Jump, trees.Declare, trees.Assign, trees.Do)
 
 
 def check_lengths(elements: list[trees.Class]) -> None:
-    """Refuses the first element whose code is too long, with all functions that it calls, each once for each first bit."""
-    lengths: dict[trees.Function, Length] = {}
+    """Refuses the first element whose code is too long."""
     for it in elements:
-        to_do = [(next(f for f in it.functions() if f.word.text == "behave"), 0)]
-        total = 0
-        for function, first in to_do:
-            length = lengths.get(function) or lengths.setdefault(function, Length(function))
-            total += length.total
-            called = [(callee, first + bits) for callee, bits in length.calls]
-            to_do += [call for call in dict.fromkeys(called) if call not in to_do]
-        if total > MOST_INSTRUCTIONS:
+        if length_of(it) > MOST_INSTRS:
             raise Refused(60, it.word.at)
+
+
+def length_of(element: trees.Class) -> int:
+    """The instructions of an element, with all functions that it calls, each once for each first bit."""
+    lengths: dict[trees.Function, Length] = {}
+    to_do = [(next(f for f in element.functions() if f.word.text == "behave"), 0)]
+    for function, first in to_do:
+        length = lengths.get(function) or lengths.setdefault(function, Length(function))
+        called = [(callee, first + bits) for callee, bits in length.calls]
+        to_do += [call for call in dict.fromkeys(called) if call not in to_do]
+    return sum(lengths[function].total for function, _ in to_do)
 
 
 def fit(type: Type) -> int:

@@ -10,6 +10,7 @@ from . import trees
 from .elements import elements_of, read_elements
 from .faults import Refused, RefusedLine, line_and_column, refusal_line
 from .layout import layout_text
+from .limits import ELEMENT_LIMIT, JOURNAL_LIMIT, MOST_ATTEMPTS, MOST_FILES, WORLD_LIMIT
 from .meaning import event_maker
 from .order import replay, verdict
 from .report import Journal, atoms_text, read_report, report_text
@@ -33,9 +34,6 @@ and writes `yes`, or the first thing that is wrong with the report: the line tha
 
 It shares no code with feast or the lab: docs/recheck.md.
 """
-ELEMENT_LIMIT, TEXT_LIMIT = 1_048_576, 268_435_456
-MOST_FILES = 64
-MOST_FIRST = 1_000_000
 
 
 class Over(Exception):
@@ -85,7 +83,7 @@ class Job:
     """A world with elements: its start, and what makes an event there."""
 
     def __init__(self, world: bytes, files: Sequence[bytes]) -> None:
-        data = load(world, TEXT_LIMIT)
+        data = load(world, WORLD_LIMIT)
         self.world: World = at_lines_of(5, world, lambda: read_world(data))
         classes = elements_in(files)
         self.names = [it.word.text for it in elements_of(classes)]
@@ -96,7 +94,7 @@ class Job:
 
     def journal(self, name: bytes) -> Journal:
         """The events and abandoned attempts of a report of the world."""
-        self.report = load(name, TEXT_LIMIT)
+        self.report = load(name, JOURNAL_LIMIT)
         return at_lines_of(6, name, lambda: read_report(self.report, self.world.plane, self.world.plan))
 
 
@@ -153,7 +151,7 @@ def written(words: Sequence[bytes]) -> str:
         return replayed(rest[0], rest[1], files)
     if verb == b"audit":
         return audit(rest[0], rest[1], files)
-    if not re.fullmatch(rb"0|[1-9][0-9]{0,6}", rest[2]) or int(rest[2]) > MOST_FIRST:
+    if not re.fullmatch(rb"0|[1-9][0-9]{0,6}", rest[2]) or int(rest[2]) > MOST_ATTEMPTS:
         raise Over(2, USAGE)
     return replayed(rest[0], rest[1], files, int(rest[2]))
 
@@ -180,13 +178,19 @@ def words_of(args: Sequence[str]) -> list[bytes]:
     raise SystemExit(0 if words in ([b"--help"], [b"-h"]) else 2)
 
 
+def answer(words: Sequence[bytes]) -> tuple[int, bytes]:
+    """The status of a call, and what it writes."""
+    try:
+        return 0, written(words).encode()
+    except Over as over:
+        return over.status, over.text
+
+
 def main(args: Sequence[str]) -> int:
     """The command; gives the status, which is the program's."""
     words = words_of(args)
     try:
-        status, text = 0, written(words).encode()
-    except Over as over:
-        status, text = over.status, over.text
+        status, text = answer(words)
     except MemoryError:
         return 8
     try:

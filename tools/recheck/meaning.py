@@ -11,10 +11,8 @@ from . import trees
 from .draws import STEP, WORD, mixed
 from .elements import elements_of
 from .functions import python_text
+from .limits import MOST_CALLS, MOST_TURNS
 from .windows import Event, Grid, kind_of
-
-TURNS = 1_000
-MOST_CALLS = 16
 
 
 class Failed(Exception):
@@ -104,13 +102,18 @@ def shifted(bits: int, count: int) -> int:
     return 0 if abs(count) >= 64 else bits << count if count >= 0 else bits >> -count
 
 
+def ones(bits: int) -> int:
+    """How many ones are among bits."""
+    return bin(bits).count("1")
+
+
 def event_maker(classes: list[trees.Class], grid: Grid) -> Event:
     """What makes an event on a grid with the elements of these classes, at a place and with a seed."""
     window, random = Window(grid), Random()
     space: dict[str, Any] = {
         "g": grid.atoms, "live": grid.live, "sites": window.sites, "offsets": grid.offsets, "put": window.put, "swap": window.swap,
         "item": window.item, "part": window.part, "below": random.below, "fail": fail, "turns": 0,
-        "quotient": quotient, "remainder": remainder, "shifted": shifted,
+        "quotient": quotient, "remainder": remainder, "shifted": shifted, "ones": ones,
     }
     text, names = python_text(elements_of(classes), grid.offsets, MOST_CALLS)
     exec(compile(text, "<elements>", "exec"), space)
@@ -121,7 +124,7 @@ def event_maker(classes: list[trees.Class], grid: Grid) -> Event:
         act = behave.get(kind_of(atoms[p]))
         if act is None:
             return
-        space["turns"] = TURNS
+        space["turns"] = MOST_TURNS
         random.state = seed
         window.before.clear()
         try:

@@ -8,15 +8,12 @@ from typing import Iterator, Optional
 
 from . import trees
 from .faults import Refused
+from .limits import MOST_CLASSES, MOST_MEMBERS, MOST_PARAMS, STATE_BITS
 
 BUILT_IN: dict[str, trees.PlainType] = {
     it.name: it for it in (trees.ATOM, trees.VOID, trees.WINDOW, trees.RANDOM, trees.EMPTY)
 }
 NUMBERS = {"Int": (2, 64, 32), "Unsigned": (1, 64, 32), "Bits": (1, 64, 8), "Bool": (1, 1, 1), "Unary": (1, 64, 32)}
-MOST_CLASSES = 256
-MOST_MEMBERS = 64
-MOST_PARAMS = 8
-MOST_ITEMS = 71
 
 
 class Names:
@@ -119,7 +116,7 @@ class Declared:
         """Notes the length of an array."""
         if member.written is not None:
             member.length = number_of(member.written, self.of.known)
-            if not 1 <= member.length <= MOST_ITEMS:
+            if not 1 <= member.length <= STATE_BITS:
                 raise Refused(36, member.word.at)
 
     def declare_params(self, function: trees.Function) -> None:

@@ -9,9 +9,9 @@ from typing import Union
 from . import trees
 from .expressions import Reader
 from .faults import Refused
+from .limits import MOST_DEPTH
 from .tokens import Token, too_deep, value_of
 
-MOST_DEPTH = 64
 ASSIGNMENTS = frozenset("= += -= *= /= %= &= |= ^= <<= >>=".split())
 
 

@@ -5,9 +5,9 @@ from typing import Optional, Union
 
 from . import trees
 from .faults import Refused
+from .limits import MOST_LOCALS
 from .names import Names, known_at
 
-MOST_LOCALS = 64
 CALLS = {trees.WINDOW: ("swap", "isLive", "isEmpty"), trees.RANDOM: ("create", "oneIn")}
 Named = Union[trees.Local, trees.Seen]
 

@@ -5,8 +5,8 @@ import re
 from typing import Iterator, NamedTuple
 
 from .faults import Refused
+from .limits import LONGEST_NAME, MOST_TOKENS
 
-MOST_TOKENS = 200_000
 LARGEST_NUMBER = 2**32 - 1
 
 KEYWORDS = frozenset(
@@ -53,7 +53,7 @@ def scanned(text: str, file: int) -> Iterator[Token]:
             raise Refused(10, (file, at))
         yield token
         end = at + len(token.text)
-        if token.kind == "number" or end - at == 255:
+        if token.kind == "number" or end - at == LONGEST_NAME:
             if WORD_LETTER.match(text, end):
                 raise Refused(10, (file, end))
         at = past_blanks(text, end, file)

@@ -163,27 +163,31 @@ class Seen:
 Step = Union[Self, Local, Seen, Field, Function, Constant, str]
 
 
-@dataclass(eq=False)
 class Expr:
+    """An expression; its type is noted once types are checked."""
+
     at: Spot
-    type: Type = field(default=VOID, kw_only=True)
+    type: Type = VOID
 
 
 @dataclass(eq=False)
 class Number(Expr):
     """A number; `plain` if no `u` is behind it."""
 
+    at: Spot
     value: int
     plain: bool
 
 
 @dataclass(eq=False)
 class Truth(Expr):
+    at: Spot
     value: bool
 
 
 @dataclass(eq=False)
 class Path(Expr):
+    at: Spot
     is_own: bool
     words: list[Word]
     steps: list[Step] = field(default_factory=list)
@@ -191,40 +195,47 @@ class Path(Expr):
 
 @dataclass(eq=False)
 class Call(Expr):
+    at: Spot
     path: Path
     args: list[Expr]
 
 
 @dataclass(eq=False)
 class Index(Expr):
+    at: Spot
     path: Path
     index: Expr
 
 
 @dataclass(eq=False)
 class Instance(Expr):
+    at: Spot
     of: TypeRef
 
 
 @dataclass(eq=False)
 class Group(Expr):
+    at: Spot
     inner: Expr
 
 
 @dataclass(eq=False)
 class Cast(Expr):
+    at: Spot
     of: TypeRef
     value: Expr
 
 
 @dataclass(eq=False)
 class Prefix(Expr):
+    at: Spot
     sign: str
     value: Expr
 
 
 @dataclass(eq=False)
 class Pair(Expr):
+    at: Spot
     sign: str
     left: Expr
     right: Expr
@@ -232,6 +243,7 @@ class Pair(Expr):
 
 @dataclass(eq=False)
 class Is(Expr):
+    at: Spot
     value: Expr
     of: TypeRef
 
@@ -240,6 +252,7 @@ class Is(Expr):
 class As(Expr):
     """The condition of an `if` that asks for the type of a local."""
 
+    at: Spot
     path: Path
     of: TypeRef
 

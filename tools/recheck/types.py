@@ -86,11 +86,12 @@ class FunctionTyper(Typer):
         self.loops -= 1
 
     def returns(self, it: trees.Return) -> None:
-        """A `return` has a value exactly if the function has a result."""
+        """A `return` has a value exactly if the function has a result; the value is checked first."""
         result = self.function.of.type
+        type = VOID if it.value is None else self.value(it.value, result)
         if (it.value is None) != (result is VOID):
             refuse(50, it.at)
-        if it.value is not None and not is_assignable(self.value(it.value, result), result):
+        if it.value is not None and not is_assignable(type, result):
             refuse(52, it.at)
 
     def declare(self, it: trees.Declare) -> None:

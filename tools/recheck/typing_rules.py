@@ -157,10 +157,10 @@ class Typer:
     def call(self, it: trees.Call) -> Type:
         """The type of a call, which may be `Void`."""
         last = it.path.steps[-1]
+        if begins_with_local(it.path) or not isinstance(last, (str, trees.Function)):
+            refuse(50, it.at)
         if isinstance(last, str):
             return self.built_in(it, last)
-        if not isinstance(last, trees.Function) or begins_with_local(it.path):
-            refuse(50, it.at)
         if len(it.args) != len(last.params):
             refuse(53, it.at)
         for arg, (of, _) in zip(it.args, last.params):

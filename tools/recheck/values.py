@@ -4,8 +4,8 @@ from __future__ import annotations
 from typing import Callable, NamedTuple, Optional
 
 from . import trees
+from .limits import STATE_BITS
 from .trees import NumberType, Type
-from .windows import STATE_BITS
 
 KIND = STATE_BITS
 
@@ -161,7 +161,7 @@ class Expressions:
             half = 1 << bits.type.width - 1
             text = f"(({moved} & {bits.ones()} ^ {half}) - {half})"
         elif bits.type.kind == "Unary":
-            text += ".bit_count()"
+            text = f"ones({text})"
         return Made(text, *range_of(bits.type))
 
     def start(self, path: trees.Path) -> tuple[Optional[str], int]:

@@ -6,11 +6,12 @@ from __future__ import annotations
 
 from typing import Callable
 
+from .limits import STATE_BITS
+
 # Makes an event at a place of a grid, with its seed.
 Event = Callable[[int, int], None]
 
 REACH = 4
-STATE_BITS = 71
 
 # The offsets (dx, dy) of the sites: by distance, then by column, then by row.
 SITES = sorted(

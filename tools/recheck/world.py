@@ -8,8 +8,9 @@ from typing import Iterator, Optional, Sequence
 
 from .draws import Attempt, drawn_attempts, xoshiro
 from .faults import RefusedLine
+from .limits import LEAST_SIDE, MOST_ACROSS, MOST_ATTEMPTS, MOST_SIDE, STATE_BITS
 from .plane import Plane, Shape
-from .windows import STATE_BITS, Grid, atom
+from .windows import Grid, atom
 
 NUMBER = rb"(0|[1-9][0-9]{0,19})"
 NAME = rb"([A-Z][A-Za-z0-9_]{0,254})"
@@ -39,8 +40,6 @@ NEXT = {
     "atom": ["atom", "order"],
     "order": ["order"],
 }
-MOST_ACROSS, LEAST_SIDE, MOST_SIDE = 8, 8, 64
-MOST_ATTEMPTS = 1_000_000
 END_OF_SEEDS = 2**64
 
 
