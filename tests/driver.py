@@ -13,6 +13,7 @@ The parts, in the order in which they are begun:
   tables      the tables of tests/tables
   errors      the examples of docs/errors.md
   audits      audits of the reports of the cases
+  recheck     the second reader of tools/recheck, against tables, cases and the program
   edits       each crate has its edits that the check must refuse, each can be applied, and they show its public calls
   sources     what scripts find in the sources: answers of NoMemory, libraries, statements, clauses, limits
   release     tools/release, and the released folder used without the kit
@@ -80,6 +81,7 @@ PARTS = {
     "tables": Part("tables.py", aside=True),
     "errors": Part("errors.py", aside=True),
     "audits": Part("audits.py", aside=True),
+    "recheck": Part("second_reader.py", pieces=4),
     "edits": Part("edits.py", wants_program=False),
     "sources": Part("sources.py", wants_program=False, aside=True),
     "release": Part("release.py", aside=True),

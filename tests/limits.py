@@ -9,7 +9,8 @@ In crates/*/src and crates/*/specs, comments and texts apart, the numbers of NUM
 that they are, and elsewhere as often as EXCEPTIONS says, no more and no less. `--list` shows where.
 
 tools/lab/limits.py has limits by the names and with the numbers of the table, each once, and none that no other file
-uses. No other Python file gives one of these names a value, but for those of APART.
+uses. tools/recheck/limits.py, which is written apart, has some of the names with the same numbers. No other Python file gives
+one of these names a value, but for those of APART.
 """
 from __future__ import annotations
 
@@ -63,10 +64,11 @@ NO_LIMITS = {
 LITERAL = re.compile(r"(?<![\w'])(0x[0-9a-fA-F_]+|0o[0-7_]+|0b[01_]+|[0-9][0-9_]*)(?:[iu](?:8|16|32|64|128|size))?(?![\w'])")
 IMPORT = re.compile(r"^from lab\.limits import (\([^)]*\)|[^\n]*)", re.MULTILINE)
 MODULE = TOP / "tools/lab/limits.py"
+SECOND = TOP / "tools/recheck/limits.py"
 # The folders that have Python, beside the scripts at the top.
 PYTHON = ("tools", "tests", "bench", "editors")
 # The Python that is written apart from the rest, and so has limits of its own.
-APART = {"tests/models/plane.py", "tests/hostile/reading.py", "tests/hostile/base_model.py"}
+APART = {"tools/recheck/limits.py", "tests/models/plane.py", "tests/hostile/reading.py", "tests/hostile/base_model.py"}
 
 
 @dataclass(frozen=True)
@@ -199,10 +201,10 @@ def number_faults(limits: list[Limit], declared: list[Constant], found: list[Pla
             yield f"{name}: {number} ({reason}) stands {counts[name, number]} times, not {times}"
 
 
-def module() -> list[tuple[str, object]]:
-    """The names that the module of Python gives to values, each with its value."""
+def module(path: pathlib.Path) -> list[tuple[str, object]]:
+    """The names that a module of Python gives to values, each with its value."""
     found: list[tuple[str, object]] = []
-    for statement in ast.parse(MODULE.read_text()).body:
+    for statement in ast.parse(path.read_text()).body:
         if isinstance(statement, (ast.Assign, ast.AnnAssign)):
             value = statement.value.value if isinstance(statement.value, ast.Constant) else None
             targets = statement.targets if isinstance(statement, ast.Assign) else [statement.target]
@@ -238,7 +240,7 @@ def given(text: str) -> set[str]:
 def python_faults(limits: list[Limit]) -> Iterator[str]:
     """What the module of Python has otherwise than the table, or twice, or for nobody; and what stands beside it."""
     numbers = {limit.name: limit.number for limit in limits}
-    mine = module()
+    mine = module(MODULE)
     texts = {str(path.relative_to(TOP)): path.read_text() for path in python_files()}
     used = {word for text in texts.values() for names in IMPORT.findall(text) for word in re.findall(r"\w+", names)}
     for name, value in mine:
@@ -248,6 +250,9 @@ def python_faults(limits: list[Limit]) -> Iterator[str]:
             yield f"tools/lab/limits.py: `{name}` stands there several times"
         if name not in used:
             yield f"tools/lab/limits.py: `{name}` is used nowhere"
+    for name, value in module(SECOND):
+        if numbers.get(name) != value:
+            yield f"tools/recheck/limits.py: `{name}` is {value}, and in docs/formats.md {numbers.get(name)}"
     own = {path: sorted(given(text) & set(numbers)) for path, text in texts.items()}
     for path, names in own.items():
         if names and path not in APART:

@@ -1,0 +1,179 @@
+#!/usr/bin/env python3
+"""Tries the second reader of tools/recheck against tables, cases and a program: second_reader.py PROGRAM [NAME..].
+
+  tables/SUBJECT  the rows of tests/tables that are calls which it knows have its answers too
+  lengths         it counts as many instructions as the table of codes has
+  cases/NAME      so have the cases of tests/cases, those of the examples with fewer attempts; what the program writes in
+                  a run of several tiles is judged by it: `yes`
+  planted/FIELD   a report with one byte changed in a field gets no `yes`, and the same line as from the program's audit
+"""
+from __future__ import annotations
+
+import contextlib
+import importlib
+import os
+import re
+import shutil
+import sys
+import tempfile
+import unittest
+from functools import partial
+from pathlib import Path
+from typing import Iterator, Mapping, Optional, Sequence
+
+HERE = Path(__file__).resolve().parent
+sys.dont_write_bytecode = True
+sys.path[0:0] = [str(HERE.parent / "tools"), str(HERE / "tables")]
+
+from checks import Check  # noqa: E402
+from program import File, bytes_of, call, written  # noqa: E402
+from recheck.elements import elements_of, read_elements  # noqa: E402
+from recheck.length import length_of  # noqa: E402
+from recheck.main import answer  # noqa: E402
+from rows import Row, shown  # noqa: E402
+from run import CASES, copy_examples, make_spaces, words_of  # noqa: E402
+
+EXAMPLES = HERE.parent / "examples"
+SUBJECTS = "tokens grammar readings names classes bases stages typing_rules worlds reports calls".split()
+KNOWN = (b"check", b"step", b"run", b"replay", b"audit", b"rewind")
+# So many attempts has each tile of an example here, and so many bytes at most the files of a row.
+ATTEMPTS = 500
+MOST_BYTES = 100_000
+# A call is left to the program if its world has more attempts than this.
+MOST_MADE = 10_000
+# The fields of a line of a report, by the part that it stands in.
+FIELDS = {
+    "atoms": ("x", "y", "name", "state"),
+    "journal": ("stamp", "tile", "attempt", "x", "y", "seed"),
+    "abandoned": ("tile", "attempt", "x", "y", "edge", "holder", "holder-attempt"),
+}
+
+
+@contextlib.contextmanager
+def inside(folder: Path) -> Iterator[None]:
+    """In another folder for a while."""
+    before = os.getcwd()
+    os.chdir(folder)
+    try:
+        yield
+    finally:
+        os.chdir(before)
+
+
+def answered(words: Sequence[bytes], files: Mapping[str, File]) -> tuple[int, bytes]:
+    """What the second reader answers in a new folder that has these files alone."""
+    with tempfile.TemporaryDirectory() as folder:
+        for name, content in files.items():
+            (Path(folder) / name).write_bytes(bytes_of(content))
+        with inside(Path(folder)):
+            return answer(words)
+
+
+def has_tiles(texts: Sequence[bytes]) -> bool:
+    """Whether one of some texts is a world of several tiles."""
+    return any(re.search(rb"^tiles (?!1 1\r?$)", text, re.M) for text in texts)
+
+
+def is_short(texts: Sequence[bytes]) -> bool:
+    """Whether files are small, and their worlds have few attempts."""
+    attempts = [int(found[1]) for text in texts for found in re.finditer(rb"^attempts (\d+)$", text, re.M)]
+    return sum(map(len, texts)) <= MOST_BYTES and max(attempts, default=0) <= MOST_MADE
+
+
+def is_known(words: Sequence[bytes], files: Mapping[str, File]) -> bool:
+    """Whether the second reader has an answer of its own to a call: it makes no run of several tiles."""
+    is_run = words[:1] == [b"run"] and has_tiles([bytes_of(file) for file in files.values()])
+    return words[:1] in [[verb] for verb in KNOWN] and not is_run
+
+
+def table_fault(subject: str) -> Optional[str]:
+    """The first row of a table that the second reader answers in another way."""
+    tried = 0
+    for number, row in enumerate(importlib.import_module(subject).rows(), 1):
+        words = row.words.encode().split(b" ") if isinstance(row, Row) else []
+        if isinstance(row, Row) and is_known(words, row.files) and is_short([bytes_of(file) for file in row.files.values()]):
+            tried += 1
+            found, wanted = answered(words, row.files), (row.status, bytes_of(row.output))
+            if found != wanted:
+                return f"row {number}: {row.words}: {shown(found)}, not {shown(wanted)}"
+    return None if tried else "no row is known"
+
+
+def lengths_fault() -> Optional[str]:
+    """The first code of the table of codes whose length the second reader counts in another way."""
+    tried = 0
+    for number, row in enumerate(importlib.import_module("codes").rows(), 1):
+        if isinstance(row, Row) and row.words == "code a" and row.status == 0:
+            tried += 1
+            elements = elements_of(read_elements([bytes_of(row.files["a"])]))
+            found = [length_of(it) for it in elements]
+            wanted = [int(length) for length in re.findall(r"^element \S+ \d+ (\d+)$", bytes_of(row.output).decode(), re.M)]
+            if found != wanted:
+                return f"row {number}: {found}, not {wanted}"
+    return None if tried else "no row is known"
+
+
+def shortened(world: Path) -> bytes:
+    """An example's world with fewer attempts."""
+    return re.sub(rb"^attempts \d+$", b"attempts %d" % ATTEMPTS, world.read_bytes(), flags=re.M)
+
+
+def case_fault(program: Path, case: Path) -> Optional[str]:
+    """What is wrong with the second reader's answer to a case, or with its judgement of what the program writes."""
+    with tempfile.TemporaryDirectory() as folder:
+        copy = Path(folder) / "case"
+        shutil.copytree(case, copy)
+        make_spaces(copy)
+        copy_examples(copy)
+        words = words_of(case / "args")
+        if case.name.startswith("example-"):
+            (copy / os.fsdecode(words[1])).write_bytes(shortened(copy / os.fsdecode(words[1])))
+        files = {file.name: file.read_bytes() for file in copy.iterdir() if file.is_file()}
+        if not is_short(list(files.values())):
+            raise unittest.SkipTest("it takes long")
+        done = call(program, words, copy)
+        wanted = done.returncode, done.stdout
+        with inside(copy):
+            if not is_known(words, files) and done.returncode == 0:
+                (copy / "the report").write_bytes(done.stdout)
+                words, wanted = [b"audit", words[1], b"the report", *words[2:]], (0, b"yes\n")
+            found = answer(words)
+    return None if found == wanted else f"{shown(found)}, not {shown(wanted)}"
+
+
+def planted_fault(program: Path, part: str, field: int) -> Optional[str]:
+    """Whether a report with another last byte in a field of a part's first lines is told from a report."""
+    world, elements = EXAMPLES / "wator-tiles.world", EXAMPLES / "wator.ulam"
+    with tempfile.TemporaryDirectory() as folder, inside(Path(folder)):
+        Path("w").write_bytes(shortened(world))
+        lines = written(program, "step", "w", elements).splitlines(keepends=True)
+        first = next(number for number, line in enumerate(lines) if line.startswith(f"{part} ")) + 1
+        words = [b"audit", b"w", b"r", os.fsencode(elements)]
+        for line in (first, first + 7):
+            fields = lines[line].rstrip("\n").split(" ")
+            fields[field] = fields[field][:-1] + ("1" if fields[field][-1] != "1" else "2")
+            Path("r").write_text("".join([*lines[:line], " ".join(fields) + "\n", *lines[line + 1 :]]))
+            found, done = answer(words), call(program, words)
+            if found == (0, b"yes\n") or found != (done.returncode, done.stdout):
+                return f"line {line + 1}: {shown(found)}, not {shown((done.returncode, done.stdout))}"
+    return None
+
+
+def checks(program: Path) -> Iterator[Check]:
+    """All checks."""
+    for subject in SUBJECTS:
+        yield Check(f"tables/{subject}", partial(table_fault, subject))
+    yield Check("lengths", lengths_fault)
+    for case in sorted(CASES.iterdir()):
+        words = words_of(case / "args")
+        if words[:1] in [[verb] for verb in KNOWN] and not (case / "stdout").exists():
+            yield Check(f"cases/{case.name}", partial(case_fault, program, case))
+    for part, names in FIELDS.items():
+        for field, name in enumerate(names):
+            yield Check(f"planted/{part}-{name}", partial(planted_fault, program, part, field))
+
+
+if __name__ == "__main__":
+    from driver import only
+
+    sys.exit(only("recheck"))
