@@ -18,7 +18,7 @@ from lab.version import Version
 from lab.words import settle
 
 VERBS = ("check", "explain", "chain", "live", "film", "sweep", "rates", "events", "failures", "trace", "atoms", "paint", "scatter",
-         "unpack")
+         "unpack", "recheck")
 EPILOG = """Bad input gets one line on standard error and status 2. Files are written whole or not at all.
 The lab calls the program that ./feast has built; the variable FEAST_PROGRAM names another one."""
 
