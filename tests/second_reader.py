@@ -5,7 +5,7 @@
   lengths         it counts as many instructions as the table of codes has
   cases/NAME      so have the cases of tests/cases, those of the examples with fewer attempts; what the program writes in
                   a run of several tiles is judged by it: `yes`
-  planted/FIELD   a report with one byte changed in a field gets no `yes`, and the same line as from the program's audit
+  planted/FIELD   a report with one byte changed in a field gets the same line as from the program's audit, and no `yes`
 """
 from __future__ import annotations
 
@@ -41,6 +41,8 @@ ATTEMPTS = 500
 MOST_BYTES = 100_000
 # A call is left to the program if its world has more attempts than this.
 MOST_MADE = 10_000
+# In so many lines of a part a byte is planted, and about as many again.
+MOST_PLANTED = 12
 # The fields of a line of a report, by the part that it stands in.
 FIELDS = {
     "atoms": ("x", "y", "name", "state"),
@@ -141,22 +143,55 @@ def case_fault(program: Path, case: Path) -> Optional[str]:
     return None if found == wanted else f"{shown(found)}, not {shown(wanted)}"
 
 
+class Planted:
+    """A report, and what both judges say of it with another line in it."""
+
+    def __init__(self, program: Path) -> None:
+        self.program = program
+        world, self.elements = EXAMPLES / "tutorial" / "rumour.world", EXAMPLES / "tutorial" / "rumour.ulam"
+        Path("w").write_bytes(re.sub(rb"^attempts .*$", b"attempts 40", world.read_bytes(), flags=re.M))
+        self.lines = written(program, "step", "w", self.elements).splitlines(keepends=True)
+
+    def some_of(self, part: str) -> range:
+        """Some of the lines of a part."""
+        first = next(number for number, line in enumerate(self.lines) if line.startswith(f"{part} ")) + 1
+        count = int(self.lines[first - 1].split()[1])
+        return range(first, first + count, max(count // MOST_PLANTED, 1))
+
+    def fault(self, line: int, field: int, word: str, may_be_yes: bool) -> Optional[str]:
+        """What is wrong with the judgement of the report with another word in a field of a line."""
+        fields = self.lines[line].rstrip("\n").split(" ")
+        fields[field] = word
+        Path("r").write_text("".join([*self.lines[:line], " ".join(fields) + "\n", *self.lines[line + 1 :]]))
+        words = [b"audit", b"w", b"r", os.fsencode(self.elements)]
+        found, done = answer(words), call(self.program, words)
+        if found == (done.returncode, done.stdout) and (may_be_yes or found[1] != b"yes\n"):
+            return None
+        return f"line {line + 1}: {shown(found)}, not {shown((done.returncode, done.stdout))}"
+
+
 def planted_fault(program: Path, part: str, field: int) -> Optional[str]:
-    """Whether a report with another last byte in a field of a part's first lines is told from a report."""
-    world, elements = EXAMPLES / "wator-tiles.world", EXAMPLES / "wator.ulam"
+    """What differs in the judgements of a report with another last byte in a field of one line. It is no report then,
+    unless the attempt that an abandoned one names may be another too."""
     with tempfile.TemporaryDirectory() as folder, inside(Path(folder)):
-        Path("w").write_bytes(shortened(world))
-        lines = written(program, "step", "w", elements).splitlines(keepends=True)
-        first = next(number for number, line in enumerate(lines) if line.startswith(f"{part} ")) + 1
-        words = [b"audit", b"w", b"r", os.fsencode(elements)]
-        for line in (first, first + 7):
-            fields = lines[line].rstrip("\n").split(" ")
-            fields[field] = fields[field][:-1] + ("1" if fields[field][-1] != "1" else "2")
-            Path("r").write_text("".join([*lines[:line], " ".join(fields) + "\n", *lines[line + 1 :]]))
-            found, done = answer(words), call(program, words)
-            if found == (0, b"yes\n") or found != (done.returncode, done.stdout):
-                return f"line {line + 1}: {shown(found)}, not {shown((done.returncode, done.stdout))}"
-    return None
+        planted = Planted(program)
+        words = ((line, planted.lines[line].split()[field]) for line in planted.some_of(part))
+        faults = (planted.fault(line, field, other_end(word, 1 if line % 2 else 9), part == "abandoned") for line, word in words)
+        return next((fault for fault in faults if fault), None)
+
+
+def named_fault(program: Path) -> Optional[str]:
+    """What differs in the judgements of a report in which an abandoned attempt names another attempt of the holder."""
+    with tempfile.TemporaryDirectory() as folder, inside(Path(folder)):
+        planted = Planted(program)
+        named = ((line, int(planted.lines[line].split()[6])) for line in planted.some_of("abandoned"))
+        faults = (planted.fault(line, 6, str(max(it + by, 0)), True) for line, it in named for by in (-9, -6, -4, -3, -2, 2, 4, 9))
+        return next((fault for fault in faults if fault), None)
+
+
+def other_end(word: str, more: int) -> str:
+    """A word with another last letter or digit."""
+    return word[:-1] + (str((int(word[-1]) + more) % 10) if word[-1].isdigit() else "b" if word[-1] == "a" else "a")
 
 
 def checks(program: Path) -> Iterator[Check]:
@@ -171,6 +206,7 @@ def checks(program: Path) -> Iterator[Check]:
     for part, names in FIELDS.items():
         for field, name in enumerate(names):
             yield Check(f"planted/{part}-{name}", partial(planted_fault, program, part, field))
+    yield Check("planted/another-attempt", partial(named_fault, program))
 
 
 if __name__ == "__main__":
