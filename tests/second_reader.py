@@ -2,6 +2,7 @@
 """Tries the second reader of tools/recheck against tables, cases and a program: second_reader.py PROGRAM [NAME..].
 
   tables/SUBJECT  the rows of tests/tables that are calls which it knows have its answers too
+  meaning/NUMBER  it makes the events of small elements as the program does
   lengths         it counts as many instructions as the table of codes has
   cases/NAME      so have the cases of tests/cases, those of the examples with fewer attempts; what the program writes in
                   a run of several tiles is judged by it: `yes`
@@ -41,6 +42,17 @@ ATTEMPTS = 500
 MOST_BYTES = 100_000
 # A call is left to the program if its world has more attempts than this.
 MOST_MADE = 10_000
+# Members and bodies of elements whose atoms make some events each, by the second reader and by the program.
+MEANINGS = [
+    ("Int(4) a; Int(7) b;", "a = a - 3; b = a * 9 - b / (a - 1); if (a == -8) a = 7;"),
+    ("Unary(5) u; Unsigned(3) n; Bits(6) b;", "u += 2; if (u == 5) u = 1; n = n + u; b = (b << 1) ^ ~(Bits(6)) n; b >>= n;"),
+    ("Unsigned(3) a[4]; Unsigned(3) i; Int(50) w;", "a[i] += 2; i = i + 1; w = w * 3 - (Int) i; if (i > 3) i = (Unsigned) (w % 4);"),
+    ("Int(40) w;", "w = w * -3 + 70000; Int k = (Int) w; w = w - k % 7;"),
+    ("Unsigned(6) n;", "n = down(n + 3); } Unsigned down(Unsigned k) { if (k > 1) return down(k - 1) + 1; return k;"),
+    ("Unsigned(9) n;", "for (Unsigned i = 0; i < n * 100; i++) { if (i % 2 == 1) continue; if (i > 1200) break; } if (n != 10) n += 3;"),
+    ("Unsigned(4) n;", "Unsigned i = random.create(6); ew.swap(0, i); n++; ew[i + 36] = self;"),
+    ("Unsigned(4) n; Bool b;", "Atom x = ew[random.create(41)]; if (x as A) { x.n += 5; b = !x.b; ew[2] = x; } else b = random.oneIn(3);"),
+]
 # In so many lines of a part a byte is planted, and about as many again.
 MOST_PLANTED = 12
 # The fields of a line of a report, by the part that it stands in.
@@ -99,6 +111,19 @@ def table_fault(subject: str) -> Optional[str]:
             if found != wanted:
                 return f"row {number}: {row.words}: {shown(found)}, not {shown(wanted)}"
     return None if tried else "no row is known"
+
+
+def meaning_fault(program: Path, members: str, body: str) -> Optional[str]:
+    """What differs in the reports of a world in which an element acts often."""
+    text = f"element A {{ EventWindow ew; Random random; {members} Void behave() {{ {body} }} }}"
+    atoms = "".join(f"atom {x} {y} A {(x * 77 + y) << 58:018x}\n" for x in range(8) for y in range(8))
+    with tempfile.TemporaryDirectory() as folder, inside(Path(folder)):
+        Path("a").write_text(text)
+        Path("w").write_text(f"feast 1\ntiles 1 1\nsize 8 8\nseed 3\nattempts {ATTEMPTS}\n{atoms}")
+        found, done = answer([b"step", b"w", b"a"]), call(program, ["step", "w", "a"])
+    if found[0] == 0 and found == (done.returncode, done.stdout):
+        return None
+    return f"{shown(found)}, not {shown((done.returncode, done.stdout))}"
 
 
 def lengths_fault() -> Optional[str]:
@@ -199,6 +224,8 @@ def checks(program: Path) -> Iterator[Check]:
     for subject in SUBJECTS:
         yield Check(f"tables/{subject}", partial(table_fault, subject))
     yield Check("lengths", lengths_fault)
+    for number, (members, body) in enumerate(MEANINGS, 1):
+        yield Check(f"meaning/{number}", partial(meaning_fault, program, members, body))
     for case in sorted(CASES.iterdir()):
         words = words_of(case / "args")
         if words[:1] in [[verb] for verb in KNOWN] and not (case / "stdout").exists():
