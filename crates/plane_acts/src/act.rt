@@ -7,7 +7,7 @@ ghost use Rattle.draw_stream.specs.Words.{tile_state, tile_word};
 ghost use Rattle.cell_grid.specs.Grid.{ArePlanesAlike};
 ghost use Rattle.cell_grid.specs.Shut.{is_inside};
 ghost use Rattle.plane_acts.specs.Acts.{IsActOn, after_act, area_of, atom_after, is_empty_atom, sites_before, with_bit_changed, words_drawn, words_per_site};
-ghost use Rattle.plane_acts.specs.Steps.{Begun, IsUpTo, sites_above};
+ghost use Rattle.plane_acts.specs.Steps.{Start, IsUpTo, sites_above};
 
 use crate::chance::Chance;
 use crate::words::ActWords;
@@ -73,7 +73,8 @@ impl Act {
         requires column { x < grid.old.width }
         requires row { y < grid.old.height }
         requires inside { is_inside (area_of self.now) x y ≡ true }
-        ensures step { (b : Begun) → b.act ≡ self.now → IsUpTo b (sites_before (area_of self.now) x y) words.old grid.old → IsUpTo b (sites_before (area_of self.now) x y + 1) words.new grid.new }
+        ensures step { let k = sites_before (area_of self.now) x y in
+            (s : Start) → IsUpTo self.now s k words.old grid.old → IsUpTo self.now s (k + 1) words.new grid.new }
         ensures plane { ArePlanesAlike grid.old grid.new }
     {
         let atom = self.atom_after(grid.get(x, y), words);
@@ -87,7 +88,8 @@ impl Act {
         requires area { IsActOn grid.old.width grid.old.height self.now }
         requires top { (area_of self.now).top ≤ y }
         requires bottom { y < (area_of self.now).bottom }
-        ensures step { (b : Begun) → b.act ≡ self.now → IsUpTo b (sites_above (area_of self.now) y) words.old grid.old → IsUpTo b (sites_above (area_of self.now) (y + 1)) words.new grid.new }
+        ensures step { let above = sites_above (area_of self.now) in
+            (s : Start) → IsUpTo self.now s (above y) words.old grid.old → IsUpTo self.now s (above (y + 1)) words.new grid.new }
         ensures plane { ArePlanesAlike grid.old grid.new }
     {
         let area = self.area();

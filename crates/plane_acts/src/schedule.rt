@@ -78,9 +78,10 @@ impl Schedule {
         ensures { result.now ≡ filter (is_of leg) self.now.once }
     {
         let once = self.once.as_slice();
-        let start = once.partition_point(|o| o.leg < leg);
-        let end = once.partition_point(|o| o.leg <= leg);
-        &once[start..end]
+        let earlier = once.partition_point(|o| o.leg < leg);
+        let rest = &once[earlier..];
+        let count = rest.partition_point(|o| o.leg <= leg);
+        &rest[..count]
     }
 
     /// Does what is due before a leg: the acts whose period divides its number, and then those of
@@ -92,20 +93,21 @@ impl Schedule {
         ensures plane { ArePlanesAlike grid.old grid.new }
     {
         let mut words = ActWords::new(seed);
-        self.act_again(leg, &mut words, grid);
+        act_again(self.every.as_slice(), leg, &mut words, grid);
         act_each(self.once_of(leg), &mut words, grid);
     }
+}
 
-    /// Does the acts whose period divides the number of a leg.
-    fn act_again(&self, leg: u32, words: &mut ActWords, grid: &mut Grid)
-        requires { All (λ e. IsActOn grid.old.width grid.old.height e.act) self.now.every }
-        ensures acts { AreDone (map (λ e. e.act) (filter (is_due leg) self.now.every)) words.old grid.old words.new grid.new }
-        ensures plane { ArePlanesAlike grid.old grid.new }
-    {
-        for entry in self.every.as_slice() {
-            if leg % entry.period == 0 {
-                entry.act.act_on(words, grid);
-            }
+/// Does those of these acts whose period divides the number of a leg.
+fn act_again(every: &[Every], leg: u32, words: &mut ActWords, grid: &mut Grid)
+    requires periods { All (λ e. 1 ≤ e.period) every.now }
+    requires areas { All (λ e. IsActOn grid.old.width grid.old.height e.act) every.now }
+    ensures acts { AreDone (map (λ e. e.act) (filter (is_due leg) every.now)) words.old grid.old words.new grid.new }
+    ensures plane { ArePlanesAlike grid.old grid.new }
+{
+    for entry in every {
+        if leg % entry.period == 0 {
+            entry.act.act_on(words, grid);
         }
     }
 }

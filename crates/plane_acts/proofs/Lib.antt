@@ -1,0 +1,4 @@
+pub mod Done
+pub mod Found
+pub mod Sites
+pub mod Steps
