@@ -9,6 +9,8 @@ ghost use Rattle.plane_acts.specs.Acts.{IsActOn};
 use bit_field::Atom;
 use cell_grid::{Grid, Rectangle};
 use plane_acts::{Act, BILLION, Chance, Every, Once, Schedule};
+use std::alloc::Global;
+use std::process::Abort;
 use std::test::Fail;
 
 /// The column, row, type and state of an atom.
@@ -53,7 +55,7 @@ const TWICE_FLIPPED: [Placed; 34] = [
     (4, 7, 1, 0x0),
 ];
 
-/// A plane of 24 by 16 sites before the acts of leg 4. Columns 8 to 15 of rows 0 to 7 are not live.
+/// A second plane, of 24 by 16 sites, before the acts of leg 4. Columns 8 to 15 of rows 0 to 7 are not live.
 const BEFORE: [Placed; 3] = [
     (7, 3, 1, 0x3),
     (16, 3, 2, 0x0),
@@ -152,6 +154,17 @@ fn plant(grid: &mut Grid, placed: &[Placed])
     }
 }
 
+/// The second plane before its acts.
+fn half_live(rt: &impl Abort, alloc: Global) -> Grid
+    ensures columns { result.width ≡ 24 }
+    ensures rows { result.height ≡ 16 }
+{
+    let mut grid = Grid::new(alloc, 24, 16).expect(rt, "there is room for a grid");
+    grid.shut(8, 0, 8, 8);
+    plant(&mut grid, &BEFORE);
+    grid
+}
+
 /// The acts on the second plane that are done again and again. The last is not due before leg 4.
 fn again() -> [Every; 3]
     ensures areas { All (λ e. IsActOn 24 16 e.act) result }
@@ -215,9 +228,7 @@ fn what_is_not_live_takes_words_and_stays_empty(rt: HostRuntime) -> Result<(), F
     let schedule = Schedule::new(every, Vec::from_slice(rt.alloc(), &once())?);
     assert!(rt; schedule.every().len() == 3 && schedule.once().len() == 6);
     assert!(rt; schedule.once_of(4).len() == 4 && schedule.once_of(3).is_empty());
-    let mut grid = Grid::new(rt.alloc(), 24, 16)?;
-    grid.shut(8, 0, 8, 8);
-    plant(&mut grid, &BEFORE);
+    let mut grid = half_live(&rt, rt.alloc());
     schedule.act_before(4, u64::MAX, &mut grid);
     assert!(rt; has(&grid, &AFTER));
     Ok(())
