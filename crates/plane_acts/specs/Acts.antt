@@ -57,9 +57,9 @@ words_drawn act = words_per_site act * site_count (area_of act)
 abbrev pub is_hit : ℕ → ℕ → Bool
 is_hit chance word = nat_lt (word % BILLION) chance
 
--- whether an atom is the empty one
-abbrev pub is_empty_atom : AtomValue → Bool
-is_empty_atom a = a.kind == 0 && a.state == 0
+-- whether an atom is another than the empty one
+abbrev pub is_occupant : AtomValue → Bool
+is_occupant a = not (a.kind == 0 && a.state == 0)
 
 -- the atom with one bit of its state changed; bit 0 is the most significant of the 71
 abbrev pub with_bit_changed : AtomValue → ℕ → AtomValue
@@ -70,7 +70,7 @@ abbrev pub atom_after : Act → ℕ → ℕ → AtomValue → AtomValue
 atom_after (Clear area) first second a = empty_atom
 atom_after (Put area atom) first second a = atom
 atom_after (Erase chance area) first second a = if is_hit chance first then empty_atom else a
-atom_after (Flip chance area) first second a = if (is_hit chance first && not (is_empty_atom a)) then with_bit_changed a (second % STATE_BITS) else a
+atom_after (Flip chance area) first second a = if (is_hit chance first && is_occupant a) then with_bit_changed a (second % STATE_BITS) else a
 atom_after (Attempts count) first second a = a
 
 -- the atom that an act leaves at site (x, y) of its area, if the site is live; the words of the act are those of the stream of a seed from word n on

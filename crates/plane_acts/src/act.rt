@@ -1,12 +1,12 @@
 //! One act.
 
-ghost use Rattle.std.specs.Prelude.{◌≡◌, ℕ, ◌+◌, ◌%◌, ◌<◌, ◌≤◌, ◌&&◌, not, true, if◌then◌else◌};
+ghost use Rattle.std.specs.Prelude.{◌≡◌, ℕ, ◌+◌, ◌%◌, ◌<◌, ◌≤◌, ◌&&◌, true, if◌then◌else◌};
 ghost use Rattle.bit_field.specs.Atom.{empty_atom};
 ghost use Rattle.bit_field.specs.declared.TheConstants.{STATE_BITS};
 ghost use Rattle.draw_stream.specs.Words.{tile_state, tile_word};
 ghost use Rattle.cell_grid.specs.Grid.{ArePlanesAlike};
 ghost use Rattle.cell_grid.specs.Shut.{is_inside};
-ghost use Rattle.plane_acts.specs.Acts.{IsActOn, after_act, area_of, atom_after, is_empty_atom, sites_before, with_bit_changed, words_drawn, words_per_site};
+ghost use Rattle.plane_acts.specs.Acts.{IsActOn, after_act, area_of, atom_after, is_occupant, sites_before, with_bit_changed, words_drawn, words_per_site};
 ghost use Rattle.plane_acts.specs.Steps.{Start, IsUpTo, sites_above};
 
 use crate::chance::Chance;
@@ -122,7 +122,7 @@ fn erased(atom: Atom, hit: bool) -> Atom
 /// The atom with one bit of its state changed, which a word tells, if the site is hit and the atom
 /// is not empty, and otherwise the atom.
 fn flipped(atom: Atom, hit: bool, word: u64) -> Atom
-    ensures { result ≡ (if (hit && not (is_empty_atom atom)) then with_bit_changed atom (word % STATE_BITS) else atom) }
+    ensures { result ≡ (if (hit && is_occupant atom) then with_bit_changed atom (word % STATE_BITS) else atom) }
 {
     if hit && atom != Atom::new(0, 0) {
         let bit = (word % u64::from(STATE_BITS)) as u32;
