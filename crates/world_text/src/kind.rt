@@ -9,17 +9,28 @@ use crate::line::Line;
 
 /// The kind of a line of a world, or `Start` if there is no line before.
 #[derive(Clone, Copy)]
-pub(crate) enum Kind {
+pub enum Kind {
+    /// No line.
     Start,
+    /// The version.
     Header,
+    /// How many tiles there are.
     Tiles,
+    /// The size of a tile.
     Size,
+    /// A tile that is off.
     Off,
+    /// The seed of the attempts.
     Seed,
+    /// How many attempts each tile draws.
     Attempts,
+    /// An attempt that is written out.
     Try,
+    /// An atom.
     Atom,
+    /// The seed of the order of a stepped run.
     OrderSeed,
+    /// Tiles of the order of a stepped run.
     Order,
 }
 
@@ -90,8 +101,9 @@ pub(crate) fn kind_of(line: &Line) -> Kind
     }
 }
 
-/// The fault of line `n`, if it can't be where it is.
-pub(crate) fn misplaced_fault(last: Kind, n: u64) -> WorldFault
+/// The fault of line `n`, if it can't be where it is: `BadHeader` if it is the first one, otherwise
+/// `BadLine`.
+pub fn misplaced_fault(last: Kind, n: u64) -> WorldFault
     ensures { fault_of result ≡ Some (misplaced_code last, n) }
 {
     match last {

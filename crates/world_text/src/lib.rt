@@ -4,6 +4,9 @@
 //! A text is read in two steps. `read` takes it apart and answers what it says, or the first faulty
 //! line; `name` then gives the atoms the types of their names. `print` writes a world as a text
 //! that reads as this world again.
+//!
+//! A text that has such lines among its own, as that of a chain, takes them apart with `line_of` and
+//! `name_state`, and gathers what they say in a `PartialWorld`.
 #![tactic(auto)]
 
 mod atoms;
@@ -13,6 +16,7 @@ mod kind;
 mod law;
 mod line;
 mod named;
+mod partial_world;
 mod printed;
 mod ranges;
 mod raw_world;
@@ -22,9 +26,13 @@ mod take;
 mod world;
 
 pub use fault::WorldFault;
+pub use kind::{Kind, misplaced_fault};
 pub use law::{laws, reads_again};
-pub use named::name;
+pub use line::Line;
+pub use named::{kinds_of, name, type_of};
+pub use partial_world::PartialWorld;
 pub use printed::print;
 pub use raw_world::RawWorld;
 pub use reader::read;
+pub use take::{line_of, name_state};
 pub use world::{Order, Placed, World};

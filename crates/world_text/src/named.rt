@@ -22,8 +22,8 @@ use std::collections::HashMap;
 use tile_map::Map;
 
 /// The type number of each name: its place among the names, from 1, the first one if it has
-/// several.
-fn kinds_of(alloc: Global, names: &[Name]) -> Result<HashMap<&[u8], u16>, NoMemory>
+/// several. `NoMemory` if there is none for the map.
+pub fn kinds_of(alloc: Global, names: &[Name]) -> Result<HashMap<&[u8], u16>, NoMemory>
     requires { length names.now ≤ 65535 }
     ensures { IfOk result (λ m. AreKinds names.now m) }
 {
@@ -34,8 +34,8 @@ fn kinds_of(alloc: Global, names: &[Name]) -> Result<HashMap<&[u8], u16>, NoMemo
     Ok(kinds)
 }
 
-/// The type number of a name.
-fn type_of(kinds: &HashMap<&[u8], u16>, name: &[u8]) -> Option<u16>
+/// The type number of a name, from what `kinds_of` gave. None if no element has the name.
+pub fn type_of(kinds: &HashMap<&[u8], u16>, name: &[u8]) -> Option<u16>
     ensures { (names : List (List ℕ)) → AreKinds names kinds.now → result ≡ type_of names name.now }
 {
     kinds.get(name).copied()

@@ -17,7 +17,7 @@ use crate::fault::WorldFault;
 use crate::kind::{Kind, kind_of, may_follow, misplaced_fault};
 use crate::line::Line;
 use crate::ranges::{in_range, too_many};
-use crate::take::line;
+use crate::take::line_of;
 use draw_stream::Attempt;
 use feast_base::NoMemory;
 use std::alloc::Global;
@@ -151,7 +151,12 @@ fn put(alloc: Global, draft: &mut Draft, n: u64, line: &Line) -> Result<(), NoMe
 
 /// Takes line `n`, or says why it can't be there.
 #[tactic(auto, unfolding(crate::specs::Drafts::step))]
-fn step_line(alloc: Global, draft: &mut Draft, n: u64, line: &Line) -> Result<(), WorldFault>
+pub(crate) fn step_line(
+    alloc: Global,
+    draft: &mut Draft,
+    n: u64,
+    line: &Line,
+) -> Result<(), WorldFault>
     requires { IsDraft (draft_value draft.old) }
     ensures { Steps n (step n (draft_value draft.old) (Some (line_value line.now))) (draft_value draft.new) result }
 {
@@ -176,7 +181,7 @@ fn step_text(alloc: Global, draft: &mut Draft, n: u64, text: &[u8]) -> Result<()
     requires { IsDraft (draft_value draft.old) }
     ensures { Steps n (step n (draft_value draft.old) (line_of text.now)) (draft_value draft.new) result }
 {
-    match line(alloc, text) {
+    match line_of(alloc, text) {
         Ok(Some(said)) => step_line(alloc, draft, n, &said),
         Ok(None) => Err(misplaced_fault(draft.last, n)),
         Err(NoMemory) => Err(WorldFault::NoMemory),

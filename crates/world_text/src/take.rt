@@ -34,10 +34,11 @@ fn state_of(args: Option<&[u8]>) -> Option<u128>
     }
 }
 
-/// The name of a type, and perhaps a state.
+/// The name of a type, and the state that the field after it says, or 0 if there is none. None if
+/// the fields have another form.
 #[inline(never)]
 #[tactic(auto, unfolding(crate::specs::Forms::name_state))]
-fn name_state(args: Option<&[u8]>) -> Option<(&[u8], u128)>
+pub fn name_state(args: Option<&[u8]>) -> Option<(&[u8], u128)>
     ensures { option_map (λ r. (r.0.now, r.1)) result ≡ name_state (fields_left args.entry) }
 {
     let (name, rest) = first_field(args?);
@@ -150,9 +151,10 @@ fn short_form<'a>(word: &[u8], args: Option<&'a [u8]>) -> Option<Line<'a>>
     plane_form(word, args)
 }
 
-/// What a line says.
+/// What a line says. None if it has none of the forms of a world's lines. `NoMemory` if there is
+/// none for the tiles of an `order` line.
 #[tactic(auto, unfolding(crate::specs::Forms::form, crate::specs::Forms::form_of))]
-pub(crate) fn line<'a>(alloc: Global, text: &'a [u8]) -> Result<Option<Line<'a>>, NoMemory>
+pub fn line_of<'a>(alloc: Global, text: &'a [u8]) -> Result<Option<Line<'a>>, NoMemory>
     ensures { IfOk result (λ o. option_map line_value o ≡ line_of text.now) }
 {
     let (word, args) = first_field(text);

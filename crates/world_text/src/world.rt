@@ -1,4 +1,5 @@
 //! A world.
+ghost use Rattle.std.specs.Prelude.{◌≡◌};
 
 use bit_field::Atom;
 use draw_stream::AttemptPlan;
@@ -35,6 +36,22 @@ pub struct World {
     pub atoms: Vec<Placed>,
     /// The order of a stepped run.
     pub order: Order,
+}
+
+impl World {
+    /// The map and the atoms alone.
+    pub fn into_map_and_atoms(self) -> (Map, Vec<Placed>)
+        ensures map { result.0 ≡ self.map }
+        ensures atoms { result.1.items ≡ self.atoms.items }
+    {
+        let World {
+            map,
+            plan,
+            atoms,
+            order,
+        } = self;
+        (map, atoms)
+    }
 }
 
 // Written by hand, not derived: so a caller drops it by one call.

@@ -1,0 +1,30 @@
+-- What a line of a chain says.
+use Rattle.std.specs.Prelude.{ℕ, List}
+use Rattle.world_text.specs.Line.{Line as WorldLine}
+use Rattle.chain_text.specs.declared.chain.Journal.{Journal}
+
+-- an area: its first column and row, and how many columns and rows it has
+pub record Area : Type 0 where
+  pub x : ℕ
+  pub y : ℕ
+  pub w : ℕ
+  pub h : ℕ
+
+-- an act: its numbers are of any size that its form allows, but for a chance, which is in billionths
+pub data ActLine : Type 0 where
+  clear : Area → ActLine
+  put : Area → List ℕ → ℕ → ActLine
+  erase : ℕ → Area → ActLine
+  flip : ℕ → Area → ActLine
+  attempts : ℕ → ActLine
+
+-- a line: `chain 1`; one that a world has too; or one of the chain's own
+pub data Line : Type 0 where
+  header : Line
+  plain : WorldLine → Line
+  legs : ℕ → Line
+  first : ℕ → Line
+  journal : Journal → Line
+  print : ℕ → Line
+  every : ℕ → ActLine → Line
+  act : ℕ → ActLine → Line
