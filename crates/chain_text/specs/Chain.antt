@@ -4,8 +4,10 @@ use Rattle.bit_field.specs.Atom.{AtomValue}
 use Rattle.bit_field.specs.declared.TheConstants.{STATE_BITS}
 use Rattle.draw_stream.specs.Plans.{tiles_on}
 use Rattle.feast_base.specs.declared.limits.TheConstants.{MOST_ATTEMPTS}
-use Rattle.plane_acts.specs.Acts.{Act}
-use Rattle.plane_acts.specs.Schedules.{AreActsOn, Every, IsSchedule, Once, ScheduleValue}
+use Rattle.plane_acts.specs.declared.act.Act.{Act}
+use Rattle.plane_acts.specs.Schedules.{AreActsOn, IsSchedule, ScheduleValue}
+use Rattle.plane_acts.specs.declared.schedule.Every.{Every}
+use Rattle.plane_acts.specs.declared.schedule.Once.{Once}
 use Rattle.plane_acts.specs.declared.act.Act.TheVariants.{Put}
 use Rattle.tile_map.specs.Plane.{MapValue, IsMap, site, is_live}
 use Rattle.world_text.specs.declared.world.Placed.{Placed}

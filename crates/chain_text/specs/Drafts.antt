@@ -1,9 +1,12 @@
 -- What the lines of a chain say, one after another: their order, their ranges, and what they add.
 use Rattle.std.specs.Prelude.{ℕ, ◌+◌, ◌≡◌, ◌≤◌, ◌<◌, ◌*◌, ◌^◌, Bool, true, false, not, ◌&&◌, List, [], ◌∷◌, ◌++◌, All, nat_le, nat_lt, Option, Some, None, Result, Ok, Err, if◌then◌else◌}
 use Rattle.bit_field.specs.declared.TheConstants.{STATE_BITS}
-use Rattle.cell_grid.specs.Shut.{Rectangle, rectangle}
+use Rattle.cell_grid.specs.Shut.{rectangle}
+use Rattle.cell_grid.specs.declared.marks.Rectangle.{Rectangle}
 use Rattle.feast_base.specs.declared.limits.TheConstants.{MOST_ATTEMPTS}
-use Rattle.plane_acts.specs.Acts.{Act, IsActOn, IsAreaOf}
+use Rattle.plane_acts.specs.Acts.{IsActOn, IsAreaOf}
+use Rattle.plane_acts.specs.declared.act.Act.{Act}
+use Rattle.plane_acts.specs.declared.chance.TheConstants.{BILLION}
 use Rattle.plane_acts.specs.declared.act.Act.TheVariants.{Clear, Erase, Flip, Attempts}
 use Rattle.std.specs.List.Sorted.{IsNonDecreasingBy}
 use Rattle.draw_stream.specs.Plans.{tiles_on}
@@ -12,6 +15,7 @@ use Rattle.world_text.specs.Drafts.{DraftValue, IsDraft, between, misplaced_code
 use Rattle.world_text.specs.Line.{atom, header as world_header, attempts as world_attempts, Line as WorldLine}
 use Rattle.world_text.specs.declared.kind.Kind.{Kind}
 use Rattle.world_text.specs.declared.kind.Kind.TheVariants.{Start, Attempts as AttemptsLine}
+use Rattle.window_sites.specs.declared.window.TheConstants.{MOST_COLUMNS}
 use Rattle.chain_text.specs.Line.{Area, ActLine, clear, put, erase, flip, attempts, Line, header, plain, legs, first, journal, print, every, act}
 use Rattle.chain_text.specs.declared.chain.Journal.{Journal}
 use Rattle.chain_text.specs.declared.chain.Journal.TheVariants.{Whole, Short, Counts}
@@ -37,6 +41,10 @@ pub record ChainDraft : Type 0 where
 -- before any line
 abbrev pub nothing_said : ChainDraft
 nothing_said = record { stage = Plane; world = no_world_said; legs = 1; first = 1; journal = Whole; leg = 1; every = []; once = [] }
+
+-- a draft that says what a world says, and nothing else
+abbrev pub only_world : DraftValue → ChainDraft
+only_world w = record nothing_said { world = w }
 
 -- the lines about the plane and its attempts are not over
 abbrev pub is_plane : Stage → Bool
@@ -204,6 +212,19 @@ abbrev pub IsRawAct : MapValue → RawAct → Type 0
 IsRawAct m (Known a) = IsActOn (m.tx * m.w) (m.ty * m.h) a × IsFew m a
 IsRawAct m (Named r name s) = IsAreaIn m r × (s < 2 ^ STATE_BITS)
 
+-- an area of a plane of the largest size
+pub record IsSmall (a : Area) : Type 0 where
+  pub columns : a.x + a.w ≤ MOST_COLUMNS
+  pub rows : a.y + a.h ≤ MOST_COLUMNS
+
+-- an act whose numbers are those of an act of a chain with some plane
+abbrev pub IsSmallAct : ActLine → Type 0
+IsSmallAct (clear a) = IsSmall a
+IsSmallAct (put a name s) = IsSmall a
+IsSmallAct (erase p a) = IsSmall a × (p ≤ BILLION)
+IsSmallAct (flip p a) = IsSmall a × (p ≤ BILLION)
+IsSmallAct (attempts k) = k ≤ MOST_ATTEMPTS
+
 -- an act of a chain with this plane, and the number that it stands with
 pub record IsNumberedAct (m : MapValue) (a : NumberedAct) : Type 0 where
   pub low : 1 ≤ a.number
@@ -213,7 +234,7 @@ pub record IsNumberedAct (m : MapValue) (a : NumberedAct) : Type 0 where
 pub record IsChainDraft (d : ChainDraft) : Type 0 where
   pub world : IsDraft d.world
   pub whole : is_plane d.stage ≡ false → world_missing d.world.last ≡ None
-  pub acted : is_plane d.stage ≡ true → (d.every ≡ []) × (d.once ≡ [])
+  pub early : is_plane d.stage ≡ true → d ≡ only_world d.world
   pub some : (1 ≤ d.legs) × (d.legs ≤ MOST_LEGS)
   pub first : (1 ≤ d.first) × (d.first + d.legs ≤ LAST_LEG + 1)
   pub leg : (1 ≤ d.leg) × (d.leg ≤ LAST_LEG)

@@ -42,7 +42,7 @@ abbrev pub area : ℕ → ℕ → ℕ → ℕ → Area
 area x y w h = record { x = x; y = y; w = w; h = h }
 
 -- the area that the first four fields say, and the other fields
-unfoldable pub take_area : List (List ℕ) → Option (Area × List (List ℕ))
+abbrev pub take_area : List (List ℕ) → Option (Area × List (List ℕ))
 take_area args = with (take_number args) (λ x. with (take_number x.1) (λ y. with (take_number y.1) (λ w. option_map (λ h. (area x.0 y.0 w.0 h.0, h.1)) (take_number w.1))))
 
 -- an area alone

@@ -1,9 +1,9 @@
 -- The numbers of a chain's legs, and their worlds.
-use Rattle.std.specs.Prelude.{ℕ, ◌+◌, ◌-◌, ◌*◌, ◌%◌, ◌^◌, ◌==◌, List, [], ◌∷◌, map, if◌then◌else◌}
+use Rattle.std.specs.Prelude.{ℕ, ◌+◌, ◌-◌, ◌*◌, ◌%◌, ◌^◌, ◌==◌, fold, map, if◌then◌else◌}
 use Rattle.cell_grid.specs.Grid.{GridValue}
 use Rattle.draw_stream.specs.Plans.{seeded}
-use Rattle.plane_acts.specs.Acts.{Act}
-use Rattle.plane_acts.specs.Schedules.{Once}
+use Rattle.plane_acts.specs.declared.act.Act.{Act}
+use Rattle.plane_acts.specs.declared.schedule.Once.{Once}
 use Rattle.plane_acts.specs.declared.act.Act.TheVariants.{Attempts}
 use Rattle.report_text.specs.Report.{Shown, shown_atoms}
 use Rattle.tile_map.specs.Plane.{tiles_of}
@@ -29,14 +29,13 @@ abbrev pub count_after : ℕ → Act → ℕ
 count_after count (Attempts k) = k
 count_after count a = count
 
--- how many attempts each tile draws in leg k after these acts, if it was this many before
-unfoldable pub counts_after : ℕ → ℕ → List Once → ℕ
-counts_after count k [] = count
-counts_after count k (o ∷ more) = counts_after (if o.leg == k then count_after count o.act else count) k more
+-- how many attempts each tile draws after an act that is done once, if it was this many before: an act of another leg changes nothing
+abbrev pub count_by : ℕ → ℕ → Once → ℕ
+count_by k count o = if o.leg == k then count_after count o.act else count
 
 -- how many attempts each tile draws in leg k: those of the last act of that leg that says so, or else the chain's
 abbrev pub leg_attempts : ChainValue → ℕ → ℕ
-leg_attempts c k = counts_after c.attempts k c.schedule.once
+leg_attempts c k = fold (count_by k) c.attempts c.schedule.once
 
 -- a shown atom, as a world places it
 abbrev pub placed : Shown → Placed

@@ -1,6 +1,7 @@
 -- What a line of a chain says.
-use Rattle.std.specs.Prelude.{ℕ, List}
-use Rattle.world_text.specs.Line.{Line as WorldLine}
+use Rattle.std.specs.Prelude.{ℕ, ◌≤◌, List}
+use Rattle.plane_acts.specs.declared.chance.TheConstants.{BILLION}
+use Rattle.world_text.specs.Line.{Line as WorldLine, IsFormed as IsWorldFormed}
 use Rattle.chain_text.specs.declared.chain.Journal.{Journal}
 
 -- an area: its first column and row, and how many columns and rows it has
@@ -28,3 +29,21 @@ pub data Line : Type 0 where
   print : ℕ → Line
   every : ℕ → ActLine → Line
   act : ℕ → ActLine → Line
+
+-- what the form of a chance gives
+abbrev pub IsFormedAct : ActLine → Type 0
+IsFormedAct (erase p a) = p ≤ BILLION
+IsFormedAct (flip p a) = p ≤ BILLION
+IsFormedAct a = Unit {0}
+
+-- an act that many legs may have
+abbrev pub IsRepeated : ActLine → Type 0
+IsRepeated (attempts k) = ⊥
+IsRepeated a = Unit {0}
+
+-- what the forms of digits, names, chances and acts give
+abbrev pub IsFormed : Line → Type 0
+IsFormed (plain l) = IsWorldFormed l
+IsFormed (every k a) = IsFormedAct a × IsRepeated a
+IsFormed (act k a) = IsFormedAct a
+IsFormed l = Unit {0}

@@ -5,17 +5,24 @@ ghost use Rattle.text_lines.specs.Fields.{fields_left, is_digit, number_and_fiel
 ghost use Rattle.plane_acts.specs.declared.chance.TheConstants.{BILLION};
 ghost use Rattle.chain_text.specs.Forms.{are_places, billionths_of, chance_of, fraction_of, take_chance};
 
-use plane_acts::{BILLION, Chance};
+use plane_acts::BILLION;
 use text_lines::first_field;
 
 /// How many digits a billionth has after the point.
 const PLACES: usize = 9;
 
+/// Whether all bytes are digits.
+fn are_digits(bytes: &[u8]) -> bool
+    ensures { result ≡ list_all is_digit bytes.now }
+{
+    bytes.iter().all(|b| b'0' <= *b && *b <= b'9')
+}
+
 /// Whether there are one to nine digits, and nothing else.
 fn are_places(bytes: &[u8]) -> bool
     ensures { result ≡ are_places bytes.now }
 {
-    bytes.iter().all(|b| b'0' <= *b && *b <= b'9') && 1 <= bytes.len() && bytes.len() <= PLACES
+    are_digits(bytes) && (1 <= bytes.len() && bytes.len() <= PLACES)
 }
 
 /// What at most nine digits are worth.
@@ -57,23 +64,23 @@ fn fraction(field: &[u8]) -> Option<u32>
 
 /// The billionths of a chance: `0`, `1`, or `0.` and one to nine digits. None for another form.
 #[tactic(auto, unfolding(crate::specs::Forms::chance_of))]
-fn chance(field: &[u8]) -> Option<Chance>
-    ensures { result ≡ chance_of field.now }
+fn chance(field: &[u8]) -> Option<u32>
+    ensures value { result ≡ chance_of field.now }
+    ensures bound { IfSome result (λ p. p ≤ BILLION) }
 {
     if field == b"0".as_slice() {
-        return Some(Chance::of_billionths(0));
+        return Some(0);
     }
     if field == b"1".as_slice() {
-        return Some(Chance::of_billionths(BILLION));
+        return Some(BILLION);
     }
-    let billionths = fraction(field)?;
-    Some(Chance::of_billionths(billionths))
+    fraction(field)
 }
 
 /// The chance that the first of some fields is, and the other fields. None if there is no field, or
 /// the first is of another form.
 #[tactic(auto, unfolding(crate::specs::Forms::take_chance))]
-pub(crate) fn take_chance(args: Option<&[u8]>) -> Option<(Chance, Option<&[u8]>)>
+pub(crate) fn take_chance(args: Option<&[u8]>) -> Option<(u32, Option<&[u8]>)>
     ensures { number_and_fields result ≡ take_chance (fields_left args.entry) }
 {
     let (first, rest) = first_field(args?);

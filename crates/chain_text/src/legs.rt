@@ -1,7 +1,6 @@
 //! The numbers of a chain's legs.
-ghost use Rattle.std.specs.Prelude.{◌≡◌, ◌≤◌, ◌*◌};
-ghost use Rattle.chain_text.specs.Chain.{IsChain};
-ghost use Rattle.chain_text.specs.Legs.{act_seed, count_after, counts_after, leg_attempts, leg_seed, order_seed};
+ghost use Rattle.std.specs.Prelude.{◌≡◌, fold};
+ghost use Rattle.chain_text.specs.Legs.{act_seed, count_after, count_by, leg_attempts, leg_seed, order_seed};
 ghost use Rattle.chain_text.specs.Values.{chain_value};
 
 use crate::chain::Chain;
@@ -19,7 +18,7 @@ fn count_after(count: u64, act: &Act) -> u64
 
 /// How many attempts each tile draws in a leg after some acts, if it was this many before.
 fn counts_after(count: u64, leg: u32, acts: &[Once]) -> u64
-    ensures { result ≡ counts_after count leg acts.now }
+    ensures { result ≡ fold (count_by leg) count acts.now }
 {
     let mut count = count;
     for once in acts {

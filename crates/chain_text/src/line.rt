@@ -1,7 +1,6 @@
 //! What a line of a chain says.
 
 use crate::chain::Journal;
-use plane_acts::Chance;
 
 /// An area: its first column and row, and how many columns and rows it has.
 #[derive(Clone, Copy)]
@@ -12,13 +11,14 @@ pub(crate) struct Area {
     pub(crate) h: u128,
 }
 
-/// What an act says. Its numbers are of any size that its form allows, but for a chance.
+/// What an act says. Its numbers are of any size that its form allows, but for a chance, which is
+/// in billionths.
 #[derive(Drop)]
 pub(crate) enum ActLine<'a> {
     Clear(Area),
     Put(Area, &'a [u8], u128),
-    Erase(Chance, Area),
-    Flip(Chance, Area),
+    Erase(u32, Area),
+    Flip(u32, Area),
     Attempts(u128),
 }
 

@@ -1,6 +1,9 @@
 //! Giving the atoms of a chain the types of their names.
-ghost use Rattle.std.specs.Prelude.{ℕ, ◌≡◌, ◌≤◌, IfOk, List, length};
+ghost use Rattle.std.specs.Prelude.{ℕ, ◌≡◌, ◌≤◌, ◌<◌, ◌^◌, All, IfOk, List, length};
+ghost use Rattle.bit_field.specs.declared.TheConstants.{STATE_BITS};
 ghost use Rattle.chain_text.specs.Chain.{IsChain};
+ghost use Rattle.chain_text.specs.Named.{FitsAtom, IfNamed, NamesEvery, NamesOnce, named_act, origin_of};
+ghost use Rattle.world_text.specs.Named.{AreKinds};
 ghost use Rattle.chain_text.specs.Values.{Names, chain_value};
 
 use crate::chain::Chain;
@@ -14,14 +17,17 @@ use std::alloc::Global;
 use std::collections::HashMap;
 use world_text::{WorldFault, kinds_of, type_of};
 
-/// An act with the type of its atom's name.
-fn name_act(kinds: &HashMap<&[u8], u16>, raw: &NumberedAct) -> Result<Act, WorldFault> {
-    match &raw.act {
-        RawAct::Known(act) => Ok(*act),
-        RawAct::Named(area, name, state) => match type_of(kinds, name.bytes()) {
-            Some(kind) => Ok(Act::Put(*area, Atom::new(kind, *state))),
-            None => Err(WorldFault::UnknownElement(raw.line)),
-        },
+/// An act with the type of its atom's name. None if no element has the name.
+fn name_act(kinds: &HashMap<&[u8], u16>, act: &RawAct) -> Option<Act>
+    requires { IfNamed act.now (λ s. s < 2 ^ STATE_BITS) }
+    ensures { (names : List (List ℕ)) → AreKinds names kinds.now → result ≡ named_act names act.now }
+{
+    match act {
+        RawAct::Known(act) => Some(*act),
+        RawAct::Named(area, name, state) => {
+            let kind = type_of(kinds, name.bytes())?;
+            Some(Act::Put(*area, Atom::new(kind, *state)))
+        }
     }
 }
 
@@ -30,12 +36,18 @@ fn name_every(
     alloc: Global,
     kinds: &HashMap<&[u8], u16>,
     acts: &[NumberedAct],
-) -> Result<Vec<Every>, WorldFault> {
+) -> Result<Vec<Every>, WorldFault>
+    requires { All FitsAtom acts.now }
+    ensures { (names : List (List ℕ)) → AreKinds names kinds.now → NamesEvery names acts.now result }
+{
     let mut named = Vec::new(alloc);
     for raw in acts {
+        let Some(act) = name_act(kinds, &raw.act) else {
+            return Err(WorldFault::UnknownElement(raw.line));
+        };
         named.push(Every {
             period: raw.number,
-            act: name_act(kinds, raw)?,
+            act,
         })?;
     }
     Ok(named)
@@ -46,12 +58,18 @@ fn name_once(
     alloc: Global,
     kinds: &HashMap<&[u8], u16>,
     acts: &[NumberedAct],
-) -> Result<Vec<Once>, WorldFault> {
+) -> Result<Vec<Once>, WorldFault>
+    requires { All FitsAtom acts.now }
+    ensures { (names : List (List ℕ)) → AreKinds names kinds.now → NamesOnce names acts.now result }
+{
     let mut named = Vec::new(alloc);
     for raw in acts {
+        let Some(act) = name_act(kinds, &raw.act) else {
+            return Err(WorldFault::UnknownElement(raw.line));
+        };
         named.push(Once {
             leg: raw.number,
-            act: name_act(kinds, raw)?,
+            act,
         })?;
     }
     Ok(named)

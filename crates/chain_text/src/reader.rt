@@ -11,6 +11,7 @@ use text_lines::{is_skipped, next_line};
 use world_text::WorldFault;
 
 /// Whether a text is to be read as a chain: its first line that is not skipped is `chain 1`.
+#[tactic(auto, using(crate::proofs::Begins::begins_here, crate::proofs::Begins::begins_later, crate::proofs::Begins::begins_never, text_lines::proofs::Cuts::lines_none))]
 pub fn is_chain(bytes: &[u8]) -> bool
     ensures { result ≡ is_chain bytes.now }
 {

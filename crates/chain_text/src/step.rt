@@ -1,12 +1,13 @@
 //! Taking one line after others.
-ghost use Rattle.std.specs.Prelude.{◌≡◌, ◌++◌, ◌∷◌, [], IfOk, IsFalse, IsTrue, OnOk, Ok, Some, true};
-ghost use Rattle.chain_text.specs.Drafts.{IsChainDraft, act_in_range, asks_too_many, in_range, numbered, put_line, raw_act, rectangle_of, area_in_range, step, step_line, step_own, too_many, with_world};
+ghost use Rattle.std.specs.Prelude.{◌≡◌, ◌≤◌, ◌++◌, ◌∷◌, [], IfOk, IsFalse, IsTrue, OnOk, Some};
+ghost use Rattle.chain_text.specs.Drafts.{IsChainDraft, IsSmall, IsSmallAct, asks_too_many, in_range, journal_stage, numbered, plain_stage, put_line, raw_act, rectangle_of, step, step_line, step_own, with_world};
 ghost use Rattle.chain_text.specs.Forms.{line_of};
+ghost use Rattle.chain_text.specs.Line.{IsFormed};
 ghost use Rattle.chain_text.specs.Reading.{Steps, line_step};
 ghost use Rattle.chain_text.specs.Values.{act_value, area_value, draft_value, line_value};
-ghost use Rattle.tile_map.specs.Plane.{IsMap, MapValue};
-ghost use Rattle.world_text.specs.Drafts.{DraftValue, IsDraft, step as world_step};
-ghost use Rattle.world_text.specs.Line.{IsFormed};
+ghost use Rattle.chain_text.specs.declared.limits.TheConstants.{LAST_LEG};
+ghost use Rattle.world_text.specs.Drafts.{IsDraft, step as world_step};
+ghost use Rattle.world_text.specs.Line.{IsFormed as IsWorldFormed};
 ghost use Rattle.world_text.specs.Values.{line_value as world_line_value};
 
 use crate::chain::Journal;
@@ -18,14 +19,15 @@ use crate::stage::{Stage, may_come};
 use crate::take::line;
 use cell_grid::Rectangle;
 use feast_base::{Name, NoMemory};
-use plane_acts::Act;
+use plane_acts::{Act, Chance};
 use std::alloc::Global;
 use text_lines::is_skipped;
 use world_text::{WorldFault, misplaced_fault};
 
 /// The rectangle of an area.
 fn rectangle(area: &Area) -> Rectangle
-    ensures { (m : MapValue) → IsMap m → IsTrue (area_in_range m (area_value area.now)) → result ≡ rectangle_of (area_value area.now) }
+    requires { IsSmall (area_value area.now) }
+    ensures { result ≡ rectangle_of (area_value area.now) }
 {
     Rectangle {
         left: area.x as u32,
@@ -36,15 +38,24 @@ fn rectangle(area: &Area) -> Rectangle
 }
 
 /// An act before its atom's type has a number.
-fn raw_act(alloc: Global, act: &ActLine) -> Result<RawAct, NoMemory> {
+fn raw_act(alloc: Global, act: &ActLine) -> Result<RawAct, NoMemory>
+    requires { IsSmallAct (act_value act.now) }
+    ensures { IfOk result (λ a. a ≡ raw_act (act_value act.now)) }
+{
     match act {
         ActLine::Clear(area) => Ok(RawAct::Known(Act::Clear(rectangle(area)))),
         ActLine::Put(area, name, state) => {
             let name = Name::new(alloc, name)?;
             Ok(RawAct::Named(rectangle(area), name, *state))
         }
-        ActLine::Erase(chance, area) => Ok(RawAct::Known(Act::Erase(*chance, rectangle(area)))),
-        ActLine::Flip(chance, area) => Ok(RawAct::Known(Act::Flip(*chance, rectangle(area)))),
+        ActLine::Erase(billionths, area) => Ok(RawAct::Known(Act::Erase(
+            Chance::of_billionths(*billionths),
+            rectangle(area),
+        ))),
+        ActLine::Flip(billionths, area) => Ok(RawAct::Known(Act::Flip(
+            Chance::of_billionths(*billionths),
+            rectangle(area),
+        ))),
         ActLine::Attempts(count) => Ok(RawAct::Known(Act::Attempts(*count as u32))),
     }
 }
@@ -56,7 +67,11 @@ fn push_act(
     line: u64,
     number: u128,
     act: &ActLine,
-) -> Result<(), NoMemory> {
+) -> Result<(), NoMemory>
+    requires act { IsSmallAct (act_value act.now) }
+    requires number { number ≤ LAST_LEG }
+    ensures { OnOk result (acts.new.items ≡ acts.old.items ++ numbered line number (act_value act.now) ∷ []) }
+{
     let act = raw_act(alloc, act)?;
     acts.push(NumberedAct {
         line,
@@ -67,7 +82,9 @@ fn push_act(
 }
 
 /// The stage after a line that says which reports there are.
-fn journal_stage(journal: Journal) -> Stage {
+fn journal_stage(journal: Journal) -> Stage
+    ensures { result ≡ journal_stage journal }
+{
     match journal {
         Journal::Counts { .. } => Stage::Counted,
         _ => Stage::Recorded,
@@ -75,7 +92,14 @@ fn journal_stage(journal: Journal) -> Stage {
 }
 
 /// Takes line `n`, which adds an act or sets a number of the chain.
-fn put_line(alloc: Global, draft: &mut Draft, n: u64, line: &Line) -> Result<(), NoMemory> {
+#[tactic(auto, using(crate::proofs::Small::small_every, crate::proofs::Small::small_once), unfolding(crate::specs::Drafts::put_line, crate::specs::Drafts::in_range))]
+fn put_line(alloc: Global, draft: &mut Draft, n: u64, line: &Line) -> Result<(), NoMemory>
+    requires shape { IsChainDraft (draft_value draft.old) }
+    requires formed { IsFormed (line_value line.now) }
+    requires range { IsTrue (in_range (draft_value draft.old) (line_value line.now)) }
+    requires few { IsFalse (asks_too_many (draft_value draft.old) (line_value line.now)) }
+    ensures { OnOk result (draft_value draft.new ≡ put_line n (draft_value draft.old) (line_value line.now)) }
+{
     match line {
         Line::Legs(count) => {
             draft.stage = Stage::Legs;
@@ -110,7 +134,11 @@ fn put_line(alloc: Global, draft: &mut Draft, n: u64, line: &Line) -> Result<(),
 }
 
 /// Takes line `n`, which is one of the chain's own, or says why it can't be there.
-fn step_own(alloc: Global, draft: &mut Draft, n: u64, line: &Line) -> Result<(), WorldFault> {
+fn step_own(alloc: Global, draft: &mut Draft, n: u64, line: &Line) -> Result<(), WorldFault>
+    requires shape { IsChainDraft (draft_value draft.old) }
+    requires formed { IsFormed (line_value line.now) }
+    ensures { Steps n (step_own n (draft_value draft.old) (line_value line.now)) (draft_value draft.new) result }
+{
     if !in_range(draft, line) {
         return Err(WorldFault::OutOfRange(n));
     }
@@ -122,7 +150,9 @@ fn step_own(alloc: Global, draft: &mut Draft, n: u64, line: &Line) -> Result<(),
 }
 
 /// The stage after a line that a world has too.
-fn plain_stage(line: &world_text::Line) -> Stage {
+fn plain_stage(line: &world_text::Line) -> Stage
+    ensures { result ≡ plain_stage (world_line_value line.now) }
+{
     match line {
         world_text::Line::Atom { .. } => Stage::Atom,
         _ => Stage::Plane,
@@ -135,14 +165,23 @@ fn step_plain(
     draft: &mut Draft,
     n: u64,
     line: &world_text::Line,
-) -> Result<(), WorldFault> {
+) -> Result<(), WorldFault>
+    requires shape { IsDraft draft.old.world }
+    requires formed { IsWorldFormed (world_line_value line.now) }
+    ensures { Steps n (with_world (draft_value draft.old) (plain_stage (world_line_value line.now)) (world_step n draft.old.world (Some (world_line_value line.now)))) (draft_value draft.new) result }
+{
     draft.world.take(alloc, n, line)?;
     draft.stage = plain_stage(line);
     Ok(())
 }
 
 /// Takes line `n`, which may come here, or says why it can't be there.
-fn step_line(alloc: Global, draft: &mut Draft, n: u64, line: &Line) -> Result<(), WorldFault> {
+#[tactic(auto, unfolding(crate::specs::Drafts::step_line))]
+fn step_line(alloc: Global, draft: &mut Draft, n: u64, line: &Line) -> Result<(), WorldFault>
+    requires shape { IsChainDraft (draft_value draft.old) }
+    requires formed { IsFormed (line_value line.now) }
+    ensures { Steps n (step_line n (draft_value draft.old) (line_value line.now)) (draft_value draft.new) result }
+{
     match line {
         Line::Header => { step_plain(alloc, draft, n, &world_text::Line::Header { second: true }) }
         Line::Plain(plain) => step_plain(alloc, draft, n, plain),
@@ -151,7 +190,11 @@ fn step_line(alloc: Global, draft: &mut Draft, n: u64, line: &Line) -> Result<()
 }
 
 /// Takes the text of line `n`, or says why it can't be there.
-fn step_text(alloc: Global, draft: &mut Draft, n: u64, text: &[u8]) -> Result<(), WorldFault> {
+#[tactic(auto, using(crate::proofs::Formed::line_formed), unfolding(crate::specs::Drafts::step))]
+fn step_text(alloc: Global, draft: &mut Draft, n: u64, text: &[u8]) -> Result<(), WorldFault>
+    requires { IsChainDraft (draft_value draft.old) }
+    ensures { Steps n (step n (draft_value draft.old) (line_of text.now)) (draft_value draft.new) result }
+{
     let last = draft.world.last();
     match line(alloc, text)? {
         Some(said) if may_come(draft.stage, last, &said) => step_line(alloc, draft, n, &said),
@@ -160,12 +203,16 @@ fn step_text(alloc: Global, draft: &mut Draft, n: u64, text: &[u8]) -> Result<()
 }
 
 /// Takes the text of line `n`, or passes over it, or says why it can't be there.
+#[tactic(auto, unfolding(crate::specs::Reading::line_step))]
 pub(crate) fn take_line(
     alloc: Global,
     draft: &mut Draft,
     n: u64,
     text: &[u8],
-) -> Result<(), WorldFault> {
+) -> Result<(), WorldFault>
+    requires { IsChainDraft (draft_value draft.old) }
+    ensures { Steps n (line_step n (draft_value draft.old) text.now) (draft_value draft.new) result }
+{
     if is_skipped(text) {
         return Ok(());
     }

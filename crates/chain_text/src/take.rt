@@ -11,7 +11,6 @@ use crate::chain::Journal;
 use crate::chance::take_chance;
 use crate::line::{ActLine, Area, Line};
 use feast_base::NoMemory;
-use plane_acts::Chance;
 use std::alloc::Global;
 use text_lines::{first_field, one_field, one_number, take_number};
 use world_text::{line_of, name_state};
@@ -47,7 +46,7 @@ fn put_form<'a>(args: Option<&'a [u8]>) -> Option<ActLine<'a>>
 }
 
 /// A chance and an area.
-fn chance_form(args: Option<&[u8]>) -> Option<(Chance, Area)>
+fn chance_form(args: Option<&[u8]>) -> Option<(u32, Area)>
     ensures { option_map (λ r. (r.0, area_value r.1)) result ≡ chance_form (fields_left args.entry) }
 {
     let (chance, rest) = take_chance(args)?;
@@ -141,7 +140,7 @@ fn journal_form<'a>(args: Option<&'a [u8]>) -> Option<Line<'a>>
 
 /// A line that a chain has too. None for a header, and for a line of a script or of an order.
 fn plain_line<'a>(line: world_text::Line<'a>) -> Option<Line<'a>>
-    ensures { option_map line_value result ≡ plain_line (world_line_value line) }
+    ensures { option_map line_value result ≡ plain_line (world_line_value line.entry) }
 {
     match line {
         world_text::Line::Header { .. }
@@ -170,23 +169,32 @@ fn legs_form<'a>(
     word: &[u8],
     args: Option<&'a [u8]>,
 ) -> Result<Option<Line<'a>>, NoMemory>
-    requires { fields text.now ≡ word.now ∷ fields_left args.entry }
+    requires { fields text.now ≡ word.now ∷ fields_left args }
     ensures { IfOk result (λ o. option_map line_value o ≡ legs_form word.now (fields_left args.entry)) }
 {
     if word == b"chain".as_slice() {
         return Ok(version_form(args));
     }
     if word == b"legs".as_slice() {
-        return Ok(one_number(args).map(Line::Legs));
+        return match one_number(args) {
+            Some(n) => Ok(Some(Line::Legs(n))),
+            None => Ok(None),
+        };
     }
     if word == b"first".as_slice() {
-        return Ok(one_number(args).map(Line::First));
+        return match one_number(args) {
+            Some(n) => Ok(Some(Line::First(n))),
+            None => Ok(None),
+        };
     }
     if word == b"journal".as_slice() {
         return Ok(journal_form(args));
     }
     if word == b"print".as_slice() {
-        return Ok(one_number(args).map(Line::Print));
+        return match one_number(args) {
+            Some(n) => Ok(Some(Line::Print(n))),
+            None => Ok(None),
+        };
     }
     plain_form(alloc, text)
 }

@@ -118,7 +118,7 @@ atom_formed args l e =
     (λ x m. through IsFormed (take_number x.1) _
     (λ y n. mapped IsFormed (name_state y.1) (λ p. atom x.0 y.0 p.0 p.1) (λ p is. named_state y.1 p is) n) m) l e
 
-line_formed_by : (fs : List (List ℕ)) (l : Line) → form_of fs ≡ Some l → IsFormed l
+pub line_formed_by : (fs : List (List ℕ)) (l : Line) → form_of fs ≡ Some l → IsFormed l
 unfolding form_of form
 line_formed_by [] l e = cc
 line_formed_by (word ∷ args) l e = on (bytes_eq word (codes "try")) (bytes_eq word (codes "atom")) (bytes_eq word (codes "order")) e

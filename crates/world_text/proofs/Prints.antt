@@ -26,7 +26,7 @@ taken_none [] m t = refl
 taken_none (a ∷ rest) m t = let u = t.0 in cc
 
 -- a type number is one of those of the names
-type_bound : (names : List (List ℕ)) (k : ℕ) (name : List ℕ) (j : ℕ) → type_from k names name ≡ Some j → (k ≤ j) × (j + 1 ≤ k + length names)
+pub type_bound : (names : List (List ℕ)) (k : ℕ) (name : List ℕ) (j : ℕ) → type_from k names name ≡ Some j → (k ≤ j) × (j + 1 ≤ k + length names)
 unfolding type_from
 type_bound [] k name j e = cc
 type_bound (n ∷ ns) k name j e = on (bytes_eq n name) e (λ h. type_bound ns (k + 1) name j h)
