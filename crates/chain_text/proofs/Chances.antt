@@ -2,10 +2,10 @@
 use Rattle.std.proofs.Common.{ℕ, suc, ◌≡◌, ◌+◌, ◌-◌, ◌*◌, ◌^◌, ◌<◌, ◌≤◌, Bool, true, false, ◌&&◌, List, [], ◌∷◌, codes, bytes_eq, drop, fold, length, nat_le, refl, arith, Option, Some, None, option_map, subst, take, if◌then◌else◌}
 use Rattle.std.specs.List.{list_all}
 use Rattle.std.proofs.lemmas.Nat.{pow-add}
-use Rattle.std.proofs.Math.Nat.{mul-lt-mul_of_pos_right, pow-pos}
+use Rattle.std.proofs.Math.Nat.{mul-lt-mul_of_pos_right}
 use Rattle.list_laws.proofs.Tests.{both}
 use Rattle.text_lines.specs.Fields.{is_digit, worth}
-use Rattle.text_lines.proofs.Digits.{digit_in, power_more}
+use Rattle.text_lines.proofs.Digits.{digit_in, power_fits, power_more}
 use Rattle.chain_text.specs.Forms.{are_places, billionths_of, chance_of, fraction_of}
 
 -- what digits are worth behind others
@@ -20,12 +20,12 @@ digits_below (d ∷ ds) v k all small =
 
 -- a number of so many digits
 pub worth_below : (ds : List ℕ) → list_all is_digit ds ≡ true → worth ds < 10 ^ length ds
-worth_below ds all = digits_below ds 0 0 all (omega arith)
+worth_below ds all = let count : 0 + length ds ≡ length ds = omega arith in subst (λ j. worth ds < 10 ^ j) count (digits_below ds 0 0 all (omega arith))
 
 -- a number of k digits, with zeros behind it
 pub scaled : (w k : ℕ) → k ≤ 9 → w < 10 ^ k → w * 10 ^ (9 - k) < 1000000000
 scaled w k le small =
-    let some : 0 < 10 ^ (9 - k) = pow-pos (9 - k) (omega arith) in
+    let some : 0 < 10 ^ (9 - k) = power_fits 10 0 0 (9 - k) (omega arith) (omega arith) (omega arith) in
     let more = mul-lt-mul_of_pos_right small some in
     let nine : k + (9 - k) ≡ 9 = omega arith in
     let whole : 10 ^ k * 10 ^ (9 - k) ≡ 1000000000 = rw (← pow-add 10 k (9 - k), nine) refl in

@@ -189,11 +189,11 @@ area_kept m a h = let p = area_is m a h in record { columns = (omega (arith, p.0
 -- an act in its ranges
 act_kept : (w : DraftValue) (a : ActLine) → act_in_range w.plane a ≡ true → too_many w a ≡ false → IsRawAct w.plane (raw_act a)
 unfolding world_too_many
-act_kept w (clear a) h f = (area_kept w.plane a h, tt {0})
+act_kept w (clear a) h f = (area_kept w.plane a h, tt {0}, tt {0})
 act_kept w (put a name s) h f = let p = both (area_in_range w.plane a) (nat_lt s (2 ^ 71)) h in (area_kept w.plane a p.0, lt_is s (2 ^ 71) p.1)
-act_kept w (erase p a) h f = (area_kept w.plane a h, tt {0})
-act_kept w (flip p a) h f = (area_kept w.plane a h, tt {0})
-act_kept w (attempts c) h f = (tt {0}, few_at c (tiles_on w.plane.off) f)
+act_kept w (erase p a) h f = (area_kept w.plane a h, tt {0}, tt {0})
+act_kept w (flip p a) h f = (area_kept w.plane a h, tt {0}, tt {0})
+act_kept w (attempts c) h f = (tt {0}, few_at c (tiles_on w.plane.off) f, tt {0})
 
 every_few : (w : DraftValue) (a : ActLine) → IsRepeated a → too_many w a ≡ false
 every_few w (clear a) r = refl
@@ -243,7 +243,7 @@ once_kept n c a d k m h f =
 own_kept : (n : ℕ) (d e : ChainDraft) (l : Line) → (in_range d l ≡ true → asks_too_many d l ≡ false → IsChainDraft (put_line n d l)) → step_own n d l ≡ Ok e → IsChainDraft e
 own_kept n d e l so h = on (in_range d l) (asks_too_many d l) refl refl h
   where
-    on : (a b : Bool) → in_range d l ≡ a → asks_too_many d l ≡ b → (if not a then Err 72 else (if b then Err 75 else Ok (put_line n d l))) ≡ Ok e → IsChainDraft e
+    on : (a b : Bool) → in_range d l ≡ a → asks_too_many d l ≡ b → if◌then◌else◌ {A = Result ChainDraft ℕ} (not a) (Err 72) (if b then Err 75 else Ok (put_line n d l)) ≡ Ok e → IsChainDraft e
     on false b r f g = cc
     on true true r f g = cc
     on true false r f g = let same : put_line n d l ≡ e = cc in subst IsChainDraft same (so r f)

@@ -4,4 +4,5 @@ pub mod Formed
 pub mod Kept
 pub mod Naming
 pub mod Small
+pub mod Valid
 pub mod Walk

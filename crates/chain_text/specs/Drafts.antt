@@ -7,7 +7,7 @@ use Rattle.feast_base.specs.declared.limits.TheConstants.{MOST_ATTEMPTS}
 use Rattle.plane_acts.specs.Acts.{IsActOn, IsAreaOf}
 use Rattle.plane_acts.specs.declared.act.Act.{Act}
 use Rattle.plane_acts.specs.declared.chance.TheConstants.{BILLION}
-use Rattle.plane_acts.specs.declared.act.Act.TheVariants.{Clear, Erase, Flip, Attempts}
+use Rattle.plane_acts.specs.declared.act.Act.TheVariants.{Clear, Put, Erase, Flip, Attempts}
 use Rattle.std.specs.List.Sorted.{IsNonDecreasingBy}
 use Rattle.draw_stream.specs.Plans.{tiles_on}
 use Rattle.tile_map.specs.Plane.{MapValue}
@@ -207,9 +207,14 @@ abbrev pub IsFew : MapValue → Act → Type 0
 IsFew m (Attempts k) = k * tiles_on m.off ≤ MOST_ATTEMPTS
 IsFew m a = Unit {0}
 
+-- an act that needs no name
+abbrev pub IsUnnamed : Act → Type 0
+IsUnnamed (Put r a) = ⊥
+IsUnnamed a = Unit {0}
+
 -- an act of a chain with this plane
 abbrev pub IsRawAct : MapValue → RawAct → Type 0
-IsRawAct m (Known a) = IsActOn (m.tx * m.w) (m.ty * m.h) a × IsFew m a
+IsRawAct m (Known a) = IsActOn (m.tx * m.w) (m.ty * m.h) a × IsFew m a × IsUnnamed a
 IsRawAct m (Named r name s) = IsAreaIn m r × (s < 2 ^ STATE_BITS)
 
 -- an area of a plane of the largest size
