@@ -53,6 +53,7 @@ FAR = 2
 # public calls that only begin a long way down, and how many calls below an edit of them may be
 FURTHER = {
     "border_cache": {"Cache::refresh": 3},
+    "chain_text": {"read": 4},
     "code_file": {"write": 7},
     "code_gen": {"build": 3},
     "event_journal": {"Journal::walk": 5},
@@ -79,6 +80,7 @@ SPARED = {
         "tile_map": "Map::plane",
         "ulam_tree": "typed_build::group",
         "window_sites": "Window::empty",
+        "world_text": "PartialWorld::new PartialWorld::into_raw",
     },
     "it gives an entry of a list that it has, or their number": {
         "atom_layout": "Layout::width",
@@ -87,6 +89,7 @@ SPARED = {
         "stack_code": "Code::len",
         "tile_map": "Map::edges Map::ends Map::shared Needs::len Needs::edge",
         "window_sites": "offset Window::get",
+        "world_text": "type_of",
     },
     "it hands on to calls that are shown, or to a library's": {
         "border_cache": "Cache::window",
@@ -121,7 +124,7 @@ SPARED = {
                     "Map::owner Area::place_within",
         "ulam_lex": "is_keyword",
         "world_runs": "fresh_tiles",
-        "world_text": "RawWorld::tiles",
+        "world_text": "PartialWorld::width PartialWorld::height RawWorld::tiles",
     },
 }
 

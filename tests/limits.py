@@ -29,9 +29,15 @@ from rust_code import TOP, WORDS, line_of, shown, sources, without  # noqa: E402
 
 NUMBERS = (71, 72, 512, 576, 65_536, 200_000, 1_000_000, 4_294_967_295)
 # Those that are several limits.
-SHARED = {72: {"MOST_REACH", "MOST_SLOTS"}, 512: {"MOST_COLUMNS", "MOST_OPERANDS"}}
+SHARED = {
+    72: {"MOST_REACH", "MOST_SLOTS"},
+    512: {"MOST_COLUMNS", "MOST_OPERANDS"},
+    1_000_000: {"MOST_ATTEMPTS", "MOST_LEGS"},
+    4_294_967_295: {"LAST_LEG", "LAST_STAMP"},
+}
 # Where such a number is no limit: how often it stands in a file, and what it is there.
 EXCEPTIONS = {
+    ("chain_text/specs/Drafts.antt", 72): (1, "the code of a refusal"),
     ("feast_base/src/refusal_line.rt", 71): (1, "the code of a refusal"),
     ("feast_base/src/refusal_line.rt", 72): (1, "the code of a refusal"),
     ("feast_base/specs/Refusals.antt", 71): (1, "the code of a refusal"),

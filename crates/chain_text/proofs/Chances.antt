@@ -4,6 +4,7 @@ use Rattle.std.specs.List.{list_all}
 use Rattle.std.proofs.lemmas.Nat.{pow-add}
 use Rattle.std.proofs.Math.Nat.{mul-lt-mul_of_pos_right}
 use Rattle.list_laws.proofs.Tests.{both}
+use Rattle.tile_map.proofs.Spans.{test_le}
 use Rattle.text_lines.specs.Fields.{is_digit, worth}
 use Rattle.text_lines.proofs.Digits.{digit_in, power_fits, power_more}
 use Rattle.chain_text.specs.Forms.{are_places, billionths_of, chance_of, fraction_of}
@@ -36,10 +37,7 @@ pub places_are : (ds : List ℕ) → are_places ds ≡ true → (list_all is_dig
 places_are ds h =
     let p = both (list_all is_digit ds) (nat_le 1 (length ds) && nat_le (length ds) 9) h in
     let q = both (nat_le 1 (length ds)) (nat_le (length ds) 9) p.1 in
-    (p.0, le_is 1 (length ds) q.0, le_is (length ds) 9 q.1)
-  where
-    le_is : (a b : ℕ) → nat_le a b ≡ true → a ≤ b
-    le_is a b e = grind arith
+    (p.0, test_le 1 (length ds) q.0, test_le (length ds) 9 q.1)
 
 pub billionths_below : (ds : List ℕ) → are_places ds ≡ true → billionths_of ds < 1000000000
 billionths_below ds h = let p = places_are ds h in scaled (worth ds) (length ds) p.2 (worth_below ds p.0)

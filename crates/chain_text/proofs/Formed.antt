@@ -2,11 +2,11 @@
 use Rattle.std.proofs.Common.{ℕ, ◌≡◌, ◌≤◌, ◌∙◌, List, [], ◌∷◌, Bool, true, false, Option, Some, None, option_map, codes, bytes_eq, if◌then◌else◌, ap, refl, arith, subst}
 use Rattle.text_lines.specs.Fields.{fields}
 use Rattle.text_lines.specs.Forms.{with, take_number, one_field, one_number}
-use Rattle.world_text.specs.Line.{Line as WorldLine, header as world_header, tiles, size, off, seed, attempts as world_attempts, try, atom, order_seed, order, IsFormed as IsWorldFormed}
+use Rattle.world_text.specs.Line.{Line, header as world_header, tiles, size, off, seed, attempts as world_attempts, try, atom, order_seed, order, IsFormed as IsWorldFormed}
 use Rattle.world_text.specs.Forms.{form, name_state, form_of as world_form_of}
 use Rattle.world_text.proofs.Formed.{line_formed_by}
 use Rattle.chain_text.specs.Forms.{act_by_word, act_form, chain_form, chance_form, chance_of, every_form, every_line, form_of, journal_form, journal_of, legs_form, line_of, once_form, one_area, plain_line, put_form, take_area, take_chance, version_form, version_of}
-use Rattle.chain_text.specs.Line.{Area, ActLine, Line, IsFormed, IsFormedAct, IsRepeated, header, plain, legs, first, journal, print, every, act, clear, put, erase, flip, attempts}
+use Rattle.chain_text.specs.Line.{Area, ActLine, ChainLine, IsFormed, IsFormedAct, IsRepeated, header, plain, legs, first, journal, print, every, act, clear, put, erase, flip, attempts}
 use Rattle.chain_text.specs.declared.chain.Journal.TheVariants.{Whole, Short, Counts}
 use Rattle.chain_text.proofs.Chances.{chance_below}
 
@@ -52,24 +52,24 @@ unfolding act_form
 act_formed [] a e = cc
 act_formed (word ∷ args) a e = word_formed word args a e
 
-every_line_formed : (k : ℕ) (a : ActLine) (l : Line) → IsFormedAct a → every_line k a ≡ Some l → IsFormed l
+every_line_formed : (k : ℕ) (a : ActLine) (l : ChainLine) → IsFormedAct a → every_line k a ≡ Some l → IsFormed l
 every_line_formed k (attempts n) l f e = cc
 every_line_formed k (clear x) l f e = let same : every k (clear x) ≡ l = cc in subst IsFormed same (f, tt {0})
 every_line_formed k (put x name s) l f e = let same : every k (put x name s) ≡ l = cc in subst IsFormed same (f, tt {0})
 every_line_formed k (erase p x) l f e = let same : every k (erase p x) ≡ l = cc in subst IsFormed same (f, tt {0})
 every_line_formed k (flip p x) l f e = let same : every k (flip p x) ≡ l = cc in subst IsFormed same (f, tt {0})
 
-every_formed : (args : List (List ℕ)) (l : Line) → every_form args ≡ Some l → IsFormed l
+every_formed : (args : List (List ℕ)) (l : ChainLine) → every_form args ≡ Some l → IsFormed l
 every_formed args l e =
     through IsFormed (take_number args) _
     (λ k m is f. through IsFormed (act_form k.1) (every_line k.0) (λ a o j g. every_line_formed k.0 a o (act_formed k.1 a j) g) m f) l e
 
-once_formed : (args : List (List ℕ)) (l : Line) → once_form args ≡ Some l → IsFormed l
+once_formed : (args : List (List ℕ)) (l : ChainLine) → once_form args ≡ Some l → IsFormed l
 once_formed args l e =
     through IsFormed (take_number args) _
     (λ k m is f. mapped IsFormed (act_form k.1) (act k.0) (λ a j. act_formed k.1 a j) m f) l e
 
-plain_formed : (w : WorldLine) (l : Line) → IsWorldFormed w → plain_line w ≡ Some l → IsFormed l
+plain_formed : (w : Line) (l : ChainLine) → IsWorldFormed w → plain_line w ≡ Some l → IsFormed l
 plain_formed (world_header v) l f e = cc
 plain_formed (tiles a b) l f e = let same : plain (tiles a b) ≡ l = cc in subst IsFormed same f
 plain_formed (size a b) l f e = let same : plain (size a b) ≡ l = cc in subst IsFormed same f
@@ -81,14 +81,14 @@ plain_formed (atom x y name s) l f e = let same : plain (atom x y name s) ≡ l 
 plain_formed (order_seed n) l f e = cc
 plain_formed (order ts) l f e = cc
 
-version_formed : (f : List ℕ) (l : Line) → version_of f ≡ Some l → IsFormed l
+version_formed : (f : List ℕ) (l : ChainLine) → version_of f ≡ Some l → IsFormed l
 version_formed f l e = on (bytes_eq f (codes "1")) e
   where
     on : (b : Bool) → (if b then Some header else None) ≡ Some l → IsFormed l
     on true e = let same : header ≡ l = cc in subst IsFormed same (tt {0})
     on false e = cc
 
-journal_formed : (f : List ℕ) (l : Line) → journal_of f ≡ Some l → IsFormed l
+journal_formed : (f : List ℕ) (l : ChainLine) → journal_of f ≡ Some l → IsFormed l
 journal_formed f l e = on (bytes_eq f (codes "whole")) (bytes_eq f (codes "short")) (bytes_eq f (codes "none")) e
   where
     on : (a b c : Bool) → (if a then Some (journal Whole) else (if b then Some (journal Short) else (if c then Some (journal (Counts 1)) else None))) ≡ Some l → IsFormed l
@@ -97,11 +97,11 @@ journal_formed f l e = on (bytes_eq f (codes "whole")) (bytes_eq f (codes "short
     on false false true e = let same : journal (Counts 1) ≡ l = cc in subst IsFormed same (tt {0})
     on false false false e = cc
 
-world_formed : (word : List ℕ) (args : List (List ℕ)) (w : WorldLine) → form word args ≡ Some w → IsWorldFormed w
+world_formed : (word : List ℕ) (args : List (List ℕ)) (w : Line) → form word args ≡ Some w → IsWorldFormed w
 unfolding world_form_of
 world_formed word args w e = line_formed_by (word ∷ args) w e
 
-legs_formed : (word : List ℕ) (args : List (List ℕ)) (l : Line) → legs_form word args ≡ Some l → IsFormed l
+legs_formed : (word : List ℕ) (args : List (List ℕ)) (l : ChainLine) → legs_form word args ≡ Some l → IsFormed l
 unfolding legs_form
 legs_formed word args l e = on (bytes_eq word (codes "chain")) (bytes_eq word (codes "legs")) (bytes_eq word (codes "first")) (bytes_eq word (codes "journal")) (bytes_eq word (codes "print")) e
   where
@@ -119,7 +119,7 @@ legs_formed word args l e = on (bytes_eq word (codes "chain")) (bytes_eq word (c
     on false false false false true e = mapped IsFormed (one_number args) print (λ x is. tt {0}) l e
     on false false false false false e = through IsFormed (form word args) plain_line (λ w m is g. plain_formed w m (world_formed word args w is) g) l e
 
-fields_formed : (fs : List (List ℕ)) (l : Line) → form_of fs ≡ Some l → IsFormed l
+fields_formed : (fs : List (List ℕ)) (l : ChainLine) → form_of fs ≡ Some l → IsFormed l
 unfolding form_of chain_form
 fields_formed [] l e = cc
 fields_formed (word ∷ args) l e = on (bytes_eq word (codes "every")) (bytes_eq word (codes "act")) e
@@ -129,5 +129,5 @@ fields_formed (word ∷ args) l e = on (bytes_eq word (codes "every")) (bytes_eq
     on false true e = once_formed args l e
     on false false e = legs_formed word args l e
 
-pub line_formed : (text : List ℕ) (l : Line) → line_of text ≡ Some l → IsFormed l
+pub line_formed : (text : List ℕ) (l : ChainLine) → line_of text ≡ Some l → IsFormed l
 line_formed text l h = fields_formed (fields text) l h

@@ -7,16 +7,17 @@ use Rattle.list_laws.proofs.Tests.{both}
 use Rattle.text_lines.specs.Lines.{is_skipped}
 use Rattle.draw_stream.specs.Plans.{tiles_on}
 use Rattle.tile_map.specs.Plane.{MapValue, IsMap}
-use Rattle.world_text.proofs.Kept.{step_kept as world_step_kept, start_is as world_start_is}
+use Rattle.tile_map.proofs.Spans.{test_le}
+use Rattle.world_text.proofs.Kept.{between_is, step_kept as world_step_kept, start_is as world_start_is}
 use Rattle.world_text.proofs.Drafts.{few_at}
 use Rattle.world_text.specs.Drafts.{DraftValue, IsDraft, between, misplaced_code, step as world_step, too_many as world_too_many, missing as world_missing, put as world_put, in_range as world_in_range, may_follow, kind_of}
-use Rattle.world_text.specs.Line.{Line as WorldLine, header as world_header, attempts as world_attempts, tiles, size, off, seed, try, atom, order_seed, order, IsFormed as IsWorldFormed}
+use Rattle.world_text.specs.Line.{Line, header as world_header, attempts as world_attempts, tiles, size, off, seed, try, atom, order_seed, order, IsFormed as IsWorldFormed}
 use Rattle.world_text.specs.declared.kind.Kind.{Kind}
 use Rattle.world_text.specs.declared.kind.Kind.TheVariants.{Start, Attempts as AttemptsLine, Atom as AtomLine}
 use Rattle.plane_acts.specs.Acts.{IsAreaOf, IsActOn}
 use Rattle.cell_grid.specs.Shut.{rectangle}
 use Rattle.chain_text.specs.Drafts.{ChainDraft, IsChainDraft, IsNumberedAct, IsRawAct, IsAreaIn, after_act, after_atom, after_counted, after_every, after_first, after_journal, after_legs, act_in_range, area_in_range, asks_too_many, in_range, is_attempts, is_plane, journal_stage, may_come, missing, nothing_said, numbered, only_world, plain_may_come, plain_stage, put_line, raw_act, rectangle_of, step, step_line, step_own, too_many, with_world}
-use Rattle.chain_text.specs.Line.{Area, ActLine, Line, IsFormed, IsFormedAct, IsRepeated, header, plain, legs, first, journal, print, every, act, clear, put, erase, flip, attempts}
+use Rattle.chain_text.specs.Line.{Area, ActLine, ChainLine, IsFormed, IsFormedAct, IsRepeated, header, plain, legs, first, journal, print, every, act, clear, put, erase, flip, attempts}
 use Rattle.chain_text.specs.Forms.{line_of}
 use Rattle.chain_text.specs.Reading.{line_step}
 use Rattle.chain_text.specs.declared.chain.Journal.{Journal}
@@ -87,7 +88,7 @@ atom_kept d w k p kw plane whole = record {
 }
 
 -- what comes of a world's step
-world_kept : (n : ℕ) (d e : ChainDraft) (s : Stage) (l : WorldLine) → IsChainDraft d → IsWorldFormed l → ((w : DraftValue) → world_step n d.world (Some l) ≡ Ok w → IsDraft w → IsChainDraft (record d { stage = s; world = w })) →
+world_kept : (n : ℕ) (d e : ChainDraft) (s : Stage) (l : Line) → IsChainDraft d → IsWorldFormed l → ((w : DraftValue) → world_step n d.world (Some l) ≡ Ok w → IsDraft w → IsChainDraft (record d { stage = s; world = w })) →
     with_world d s (world_step n d.world (Some l)) ≡ Ok e → IsChainDraft e
 world_kept n d e s l k f so h = on (world_step n d.world (Some l)) refl h
   where
@@ -97,7 +98,7 @@ world_kept n d e s l k f so h = on (world_step n d.world (Some l)) refl h
         let same : record d { stage = s; world = w } ≡ e = cc in
         subst IsChainDraft same (so w is (world_step_kept n d.world w (Some l) (λ m j. let one : l ≡ m = cc in subst IsWorldFormed one f) k.world is))
 
-plain_kept : (n : ℕ) (d e : ChainDraft) (l : WorldLine) → IsChainDraft d → IsWorldFormed l → plain_may_come d.stage l ≡ true → with_world d (plain_stage l) (world_step n d.world (Some l)) ≡ Ok e → IsChainDraft e
+plain_kept : (n : ℕ) (d e : ChainDraft) (l : Line) → IsChainDraft d → IsWorldFormed l → plain_may_come d.stage l ≡ true → with_world d (plain_stage l) (world_step n d.world (Some l)) ≡ Ok e → IsChainDraft e
 plain_kept n d e (atom x y name s) k f m h =
     world_kept n d e Atom (atom x y name s) k f (λ w is kw. let p = atom_added n x y s name d.world w is in atom_kept d w k (late after_atom d.stage refl m) kw p.0 p.1) h
 plain_kept n d e (world_header v) k f m h = world_kept n d e Plane (world_header v) k f (λ w is kw. early_kept d w k m kw) h
@@ -110,14 +111,8 @@ plain_kept n d e (try t x y s) k f m h = world_kept n d e Plane (try t x y s) k 
 plain_kept n d e (order_seed s) k f m h = world_kept n d e Plane (order_seed s) k f (λ w is kw. early_kept d w k m kw) h
 plain_kept n d e (order ts) k f m h = world_kept n d e Plane (order ts) k f (λ w is kw. early_kept d w k m kw) h
 
-between_is : (low high n : ℕ) → between low high n ≡ true → (low ≤ n) × (n ≤ high)
-between_is low high n h = grind arith
-
 lt_is : (a b : ℕ) → nat_lt a b ≡ true → a < b
 lt_is a b h = grind arith
-
-le_is : (a b : ℕ) → nat_le a b ≡ true → a ≤ b
-le_is a b h = grind arith
 
 attempts_whole : (k : Kind) → is_attempts k ≡ true → world_missing k ≡ None
 unfolding world_missing
@@ -149,7 +144,7 @@ first_kept n f d k m h =
       whole = λ g. k.whole (late after_legs d.stage refl m);
       early = λ g. absurd (cc g);
       some = k.some;
-      first = (le_is 1 f p.0, le_is (f + d.legs) 4294967296 p.1);
+      first = (test_le 1 f p.0, test_le (f + d.legs) 4294967296 p.1);
       leg = k.leg;
       every = k.every;
       once = k.once;
@@ -240,7 +235,7 @@ once_kept n c a d k m h f =
     }
 
 -- a line of the chain's own that is in its ranges
-own_kept : (n : ℕ) (d e : ChainDraft) (l : Line) → (in_range d l ≡ true → asks_too_many d l ≡ false → IsChainDraft (put_line n d l)) → step_own n d l ≡ Ok e → IsChainDraft e
+own_kept : (n : ℕ) (d e : ChainDraft) (l : ChainLine) → (in_range d l ≡ true → asks_too_many d l ≡ false → IsChainDraft (put_line n d l)) → step_own n d l ≡ Ok e → IsChainDraft e
 own_kept n d e l so h = on (in_range d l) (asks_too_many d l) refl refl h
   where
     on : (a b : Bool) → in_range d l ≡ a → asks_too_many d l ≡ b → if◌then◌else◌ {A = Result ChainDraft ℕ} (not a) (Err 72) (if b then Err 75 else Ok (put_line n d l)) ≡ Ok e → IsChainDraft e
@@ -248,7 +243,7 @@ own_kept n d e l so h = on (in_range d l) (asks_too_many d l) refl refl h
     on true true r f g = cc
     on true false r f g = let same : put_line n d l ≡ e = cc in subst IsChainDraft same (so r f)
 
-line_kept : (n : ℕ) (d e : ChainDraft) (l : Line) → IsChainDraft d → IsFormed l → may_come d.stage d.world.last l ≡ true → step_line n d l ≡ Ok e → IsChainDraft e
+line_kept : (n : ℕ) (d e : ChainDraft) (l : ChainLine) → IsChainDraft d → IsFormed l → may_come d.stage d.world.last l ≡ true → step_line n d l ≡ Ok e → IsChainDraft e
 unfolding step_line
 line_kept n d e header k f m h = plain_kept n d e (world_header true) k (tt {0}) m h
 line_kept n d e (plain l) k f m h = plain_kept n d e l k f m h
@@ -260,7 +255,7 @@ line_kept n d e (every c a) k f m h = own_kept n d e (every c a) (λ r g. every_
 line_kept n d e (act c a) k f m h = own_kept n d e (act c a) (λ r g. once_kept n c a d k m r g) h
 
 -- a step keeps it
-pub step_kept : (n : ℕ) (d e : ChainDraft) (o : Option Line) → ((l : Line) → o ≡ Some l → IsFormed l) → IsChainDraft d → step n d o ≡ Ok e → IsChainDraft e
+pub step_kept : (n : ℕ) (d e : ChainDraft) (o : Option ChainLine) → ((l : ChainLine) → o ≡ Some l → IsFormed l) → IsChainDraft d → step n d o ≡ Ok e → IsChainDraft e
 unfolding step
 step_kept n d e None formed k s = cc
 step_kept n d e (Some l) formed k s = by (may_come d.stage d.world.last l) refl s

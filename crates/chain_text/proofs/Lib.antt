@@ -1,5 +1,6 @@
 pub mod Begins
 pub mod Chances
+pub mod Counts
 pub mod Formed
 pub mod Kept
 pub mod Naming

@@ -3,6 +3,7 @@ use Rattle.std.proofs.Common.{ℕ, ◌≡◌, ◌+◌, ◌*◌, ◌≤◌, ◌^�
 use Rattle.list_laws.proofs.Tests.{both}
 use Rattle.draw_stream.specs.Plans.{tiles_on}
 use Rattle.tile_map.specs.Plane.{MapValue, IsMap}
+use Rattle.tile_map.proofs.Spans.{test_le}
 use Rattle.world_text.proofs.Drafts.{count_fits, few_at}
 use Rattle.world_text.specs.Drafts.{DraftValue, IsDraft, between, too_many as world_too_many}
 use Rattle.world_text.specs.Line.{attempts as world_attempts}
@@ -10,16 +11,13 @@ use Rattle.plane_acts.specs.Acts.{IsAreaOf}
 use Rattle.chain_text.specs.Drafts.{ChainDraft, IsChainDraft, IsSmall, IsSmallAct, IsRawAct, act_in_range, area_in_range, in_range, asks_too_many, raw_act, rectangle_of, too_many}
 use Rattle.chain_text.specs.Line.{Area, ActLine, IsFormedAct, IsRepeated, every, act, clear, put, erase, flip, attempts}
 
-le_is : (a b : ℕ) → nat_le a b ≡ true → a ≤ b
-le_is a b h = grind arith
-
 -- the sides of an area in its range
 pub area_is : (m : MapValue) (a : Area) → area_in_range m a ≡ true → (1 ≤ a.w) × (1 ≤ a.h) × (a.x + a.w ≤ m.tx * m.w) × (a.y + a.h ≤ m.ty * m.h)
 area_is m a h =
     let p = both (nat_le 1 a.w && nat_le 1 a.h) (nat_le (a.x + a.w) (m.tx * m.w) && nat_le (a.y + a.h) (m.ty * m.h)) h in
     let q = both (nat_le 1 a.w) (nat_le 1 a.h) p.0 in
     let r = both (nat_le (a.x + a.w) (m.tx * m.w)) (nat_le (a.y + a.h) (m.ty * m.h)) p.1 in
-    (le_is 1 a.w q.0, le_is 1 a.h q.1, le_is (a.x + a.w) (m.tx * m.w) r.0, le_is (a.y + a.h) (m.ty * m.h) r.1)
+    (test_le 1 a.w q.0, test_le 1 a.h q.1, test_le (a.x + a.w) (m.tx * m.w) r.0, test_le (a.y + a.h) (m.ty * m.h) r.1)
 
 -- a plane is at most 512 sites wide and high
 sides : (m : MapValue) → IsMap m → (m.tx * m.w ≤ 512) × (m.ty * m.h ≤ 512)

@@ -7,7 +7,7 @@ use Rattle.world_text.specs.Reading.{IsFault, fault_of}
 use Rattle.std.specs.Result.{IsErrAnd}
 use Rattle.world_text.specs.declared.fault.WorldFault.{WorldFault}
 
-pub walk_start : (bytes : List ℕ) → read_lines 1 nothing_said (lines bytes) ≡ read_text bytes
+pub walk_start : (bytes : List ℕ) → read_text bytes ≡ read_lines 1 nothing_said (lines bytes)
 unfolding read_text
 walk_start bytes = refl
 

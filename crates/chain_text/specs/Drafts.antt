@@ -12,11 +12,11 @@ use Rattle.std.specs.List.Sorted.{IsNonDecreasingBy}
 use Rattle.draw_stream.specs.Plans.{tiles_on}
 use Rattle.tile_map.specs.Plane.{MapValue}
 use Rattle.world_text.specs.Drafts.{DraftValue, IsDraft, between, misplaced_code, nothing_said as no_world_said, step as world_step, too_many as world_too_many, missing as world_missing}
-use Rattle.world_text.specs.Line.{atom, header as world_header, attempts as world_attempts, Line as WorldLine}
+use Rattle.world_text.specs.Line.{atom, header as world_header, attempts as world_attempts, Line}
 use Rattle.world_text.specs.declared.kind.Kind.{Kind}
 use Rattle.world_text.specs.declared.kind.Kind.TheVariants.{Start, Attempts as AttemptsLine}
 use Rattle.window_sites.specs.declared.window.TheConstants.{MOST_COLUMNS}
-use Rattle.chain_text.specs.Line.{Area, ActLine, clear, put, erase, flip, attempts, Line, header, plain, legs, first, journal, print, every, act}
+use Rattle.chain_text.specs.Line.{Area, ActLine, clear, put, erase, flip, attempts, ChainLine, header, plain, legs, first, journal, print, every, act}
 use Rattle.chain_text.specs.declared.chain.Journal.{Journal}
 use Rattle.chain_text.specs.declared.chain.Journal.TheVariants.{Whole, Short, Counts}
 use Rattle.chain_text.specs.declared.raw_act.NumberedAct.{NumberedAct}
@@ -94,12 +94,12 @@ is_attempts AttemptsLine = true
 is_attempts k = false
 
 -- whether a line that a world has too may come here: an atom at the end, all others at the beginning
-abbrev pub plain_may_come : Stage → WorldLine → Bool
+abbrev pub plain_may_come : Stage → Line → Bool
 plain_may_come s (atom x y name state) = after_atom s
 plain_may_come s l = is_plane s
 
 -- whether a line may come here; the order of the lines about the plane is that of a world
-abbrev pub may_come : Stage → Kind → Line → Bool
+abbrev pub may_come : Stage → Kind → ChainLine → Bool
 may_come s last header = is_plane s
 may_come s last (plain l) = plain_may_come s l
 may_come s last (legs n) = is_plane s && is_attempts last
@@ -121,7 +121,7 @@ act_in_range m (flip p a) = area_in_range m a
 act_in_range m (attempts k) = true
 
 -- whether the numbers of a line of the chain's own are in their ranges
-unfoldable pub in_range : ChainDraft → Line → Bool
+unfoldable pub in_range : ChainDraft → ChainLine → Bool
 in_range d (legs n) = between 1 MOST_LEGS n
 in_range d (first f) = nat_le 1 f && nat_le (f + d.legs) (LAST_LEG + 1)
 in_range d (print p) = between 1 MOST_LEGS p
@@ -135,7 +135,7 @@ too_many w (attempts k) = world_too_many w (world_attempts k)
 too_many w a = false
 
 -- whether a line of the chain's own does
-abbrev pub asks_too_many : ChainDraft → Line → Bool
+abbrev pub asks_too_many : ChainDraft → ChainLine → Bool
 asks_too_many d (act k a) = too_many d.world a
 asks_too_many d l = false
 
@@ -159,7 +159,7 @@ journal_stage (Counts p) = Counted
 journal_stage j = Recorded
 
 -- what the lines say with one more of the chain's own, of number n
-unfoldable pub put_line : ℕ → ChainDraft → Line → ChainDraft
+unfoldable pub put_line : ℕ → ChainDraft → ChainLine → ChainDraft
 put_line n d (legs k) = record d { stage = Legs; legs = k }
 put_line n d (first f) = record d { stage = First; first = f }
 put_line n d (journal j) = record d { stage = journal_stage j; journal = j }
@@ -169,7 +169,7 @@ put_line n d (act k a) = record d { stage = Once; leg = k; once = d.once ++ numb
 put_line n d l = d
 
 -- what the lines say with one more of the chain's own, or its fault
-abbrev pub step_own : ℕ → ChainDraft → Line → Result ChainDraft ℕ
+abbrev pub step_own : ℕ → ChainDraft → ChainLine → Result ChainDraft ℕ
 step_own n d l = if not (in_range d l) then Err 72 else (if asks_too_many d l then Err 75 else Ok (put_line n d l))
 
 -- what the lines say with another that a world has too, or its fault
@@ -177,18 +177,18 @@ abbrev pub with_world : ChainDraft → Stage → Result DraftValue ℕ → Resul
 with_world d s (Ok w) = Ok (record d { stage = s; world = w })
 with_world d s (Err code) = Err code
 
-abbrev pub plain_stage : WorldLine → Stage
+abbrev pub plain_stage : Line → Stage
 plain_stage (atom x y name s) = Atom
 plain_stage l = Plane
 
 -- a line that may come here, and what the lines say with it; or its fault. `chain 1` stands for the second version of a world
-unfoldable pub step_line : ℕ → ChainDraft → Line → Result ChainDraft ℕ
+unfoldable pub step_line : ℕ → ChainDraft → ChainLine → Result ChainDraft ℕ
 step_line n d header = with_world d Plane (world_step n d.world (Some (world_header true)))
 step_line n d (plain l) = with_world d (plain_stage l) (world_step n d.world (Some l))
 step_line n d l = step_own n d l
 
 -- a line, and what the lines say with it; or its fault
-unfoldable pub step : ℕ → ChainDraft → Option Line → Result ChainDraft ℕ
+unfoldable pub step : ℕ → ChainDraft → Option ChainLine → Result ChainDraft ℕ
 step n d None = Err (misplaced_code d.world.last)
 step n d (Some l) = if not (may_come d.stage d.world.last l) then Err (misplaced_code d.world.last) else step_line n d l
 

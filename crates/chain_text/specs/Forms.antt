@@ -4,9 +4,9 @@ use Rattle.std.specs.List.{list_all}
 use Rattle.text_lines.specs.Fields.{fields, is_digit, worth}
 use Rattle.text_lines.specs.Forms.{with, take_number, one_field, one_number}
 use Rattle.world_text.specs.Forms.{name_state, form}
-use Rattle.world_text.specs.Line.{header as world_header, tiles, size, off, seed, attempts as world_attempts, try, atom, order_seed, order, Line as WorldLine}
+use Rattle.world_text.specs.Line.{header as world_header, tiles, size, off, seed, attempts as world_attempts, try, atom, order_seed, order, Line}
 use Rattle.plane_acts.specs.declared.chance.TheConstants.{BILLION}
-use Rattle.chain_text.specs.Line.{Area, ActLine, clear, put, erase, flip, attempts, Line, header, plain, legs, first, journal, print, every, act}
+use Rattle.chain_text.specs.Line.{Area, ActLine, clear, put, erase, flip, attempts, ChainLine, header, plain, legs, first, journal, print, every, act}
 use Rattle.chain_text.specs.declared.chain.Journal.TheVariants.{Whole, Short, Counts}
 
 -- an answer, if no field is left
@@ -73,36 +73,36 @@ act_form [] = None
 act_form (word ∷ args) = act_by_word word args
 
 -- an `every` line: any act but attempts
-abbrev pub every_line : ℕ → ActLine → Option Line
+abbrev pub every_line : ℕ → ActLine → Option ChainLine
 every_line k (attempts n) = None
 every_line k a = Some (every k a)
 
-abbrev pub every_form : List (List ℕ) → Option Line
+abbrev pub every_form : List (List ℕ) → Option ChainLine
 every_form args = with (take_number args) (λ k. with (act_form k.1) (every_line k.0))
 
-abbrev pub once_form : List (List ℕ) → Option Line
+abbrev pub once_form : List (List ℕ) → Option ChainLine
 once_form args = with (take_number args) (λ k. option_map (act k.0) (act_form k.1))
 
 -- the version of a chain
-abbrev pub version_of : List ℕ → Option Line
+abbrev pub version_of : List ℕ → Option ChainLine
 version_of f = if bytes_eq f (codes "1") then Some header else None
 
-abbrev pub version_form : List (List ℕ) → Option Line
+abbrev pub version_form : List (List ℕ) → Option ChainLine
 version_form args = with (one_field args) version_of
 
 -- which reports the legs have
-abbrev pub journal_of : List ℕ → Option Line
+abbrev pub journal_of : List ℕ → Option ChainLine
 journal_of f =
     if bytes_eq f (codes "whole") then Some (journal Whole)
     else (if bytes_eq f (codes "short") then Some (journal Short)
     else (if bytes_eq f (codes "none") then Some (journal (Counts 1))
     else None))
 
-abbrev pub journal_form : List (List ℕ) → Option Line
+abbrev pub journal_form : List (List ℕ) → Option ChainLine
 journal_form args = with (one_field args) journal_of
 
 -- a line that a world has too: not its version, and none of a script or of an order
-abbrev pub plain_line : WorldLine → Option Line
+abbrev pub plain_line : Line → Option ChainLine
 plain_line (world_header second) = None
 plain_line (try t x y s) = None
 plain_line (order_seed n) = None
@@ -110,7 +110,7 @@ plain_line (order ts) = None
 plain_line l = Some (plain l)
 
 -- what a word and the fields after it say, if the line says no act
-unfoldable pub legs_form : List ℕ → List (List ℕ) → Option Line
+unfoldable pub legs_form : List ℕ → List (List ℕ) → Option ChainLine
 legs_form word args =
     if bytes_eq word (codes "chain") then version_form args
     else (if bytes_eq word (codes "legs") then option_map legs (one_number args)
@@ -120,17 +120,17 @@ legs_form word args =
     else with (form word args) plain_line))))
 
 -- what a word and the fields after it say
-unfoldable pub chain_form : List ℕ → List (List ℕ) → Option Line
+unfoldable pub chain_form : List ℕ → List (List ℕ) → Option ChainLine
 chain_form word args =
     if bytes_eq word (codes "every") then every_form args
     else (if bytes_eq word (codes "act") then once_form args
     else legs_form word args)
 
 -- what the fields of a line say, if they have one of the forms
-unfoldable pub form_of : List (List ℕ) → Option Line
+unfoldable pub form_of : List (List ℕ) → Option ChainLine
 form_of [] = None
 form_of (word ∷ args) = chain_form word args
 
 -- what the text of a line says
-abbrev pub line_of : List ℕ → Option Line
+abbrev pub line_of : List ℕ → Option ChainLine
 line_of text = form_of (fields text)

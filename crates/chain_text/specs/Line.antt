@@ -1,7 +1,7 @@
 -- What a line of a chain says.
 use Rattle.std.specs.Prelude.{ℕ, ◌≤◌, List}
 use Rattle.plane_acts.specs.declared.chance.TheConstants.{BILLION}
-use Rattle.world_text.specs.Line.{Line as WorldLine, IsFormed as IsWorldFormed}
+use Rattle.world_text.specs.Line.{Line, IsFormed as IsWorldFormed}
 use Rattle.chain_text.specs.declared.chain.Journal.{Journal}
 
 -- an area: its first column and row, and how many columns and rows it has
@@ -20,15 +20,15 @@ pub data ActLine : Type 0 where
   attempts : ℕ → ActLine
 
 -- a line: `chain 1`; one that a world has too; or one of the chain's own
-pub data Line : Type 0 where
-  header : Line
-  plain : WorldLine → Line
-  legs : ℕ → Line
-  first : ℕ → Line
-  journal : Journal → Line
-  print : ℕ → Line
-  every : ℕ → ActLine → Line
-  act : ℕ → ActLine → Line
+pub data ChainLine : Type 0 where
+  header : ChainLine
+  plain : Line → ChainLine
+  legs : ℕ → ChainLine
+  first : ℕ → ChainLine
+  journal : Journal → ChainLine
+  print : ℕ → ChainLine
+  every : ℕ → ActLine → ChainLine
+  act : ℕ → ActLine → ChainLine
 
 -- what the form of a chance gives
 abbrev pub IsFormedAct : ActLine → Type 0
@@ -42,7 +42,7 @@ IsRepeated (attempts k) = ⊥
 IsRepeated a = Unit {0}
 
 -- what the forms of digits, names, chances and acts give
-abbrev pub IsFormed : Line → Type 0
+abbrev pub IsFormed : ChainLine → Type 0
 IsFormed (plain l) = IsWorldFormed l
 IsFormed (every k a) = IsFormedAct a × IsRepeated a
 IsFormed (act k a) = IsFormedAct a

@@ -5,7 +5,7 @@ use Rattle.world_text.specs.Values.{line_value as world_line_value}
 use Rattle.world_text.specs.declared.fault.WorldFault.{WorldFault}
 use Rattle.chain_text.specs.Chain.{ChainValue}
 use Rattle.chain_text.specs.Drafts.{ChainDraft}
-use Rattle.chain_text.specs.Line.{Area, ActLine, clear, put, erase, flip, attempts, Line, header, plain, legs, first, journal, print, every, act}
+use Rattle.chain_text.specs.Line.{Area, ActLine, clear, put, erase, flip, attempts, ChainLine, header, plain, legs, first, journal, print, every, act}
 use Rattle.chain_text.specs.Named.{chain_with_names}
 use Rattle.chain_text.specs.declared.chain.Chain.{Chain}
 use Rattle.chain_text.specs.declared.draft.Draft.{Draft}
@@ -27,7 +27,7 @@ act_value (Flip p a) = flip p (area_value a)
 act_value (Attempts k) = attempts k
 
 -- what a line says
-abbrev pub line_value : CodeLine → Line
+abbrev pub line_value : CodeLine → ChainLine
 line_value Header = header
 line_value (Plain l) = plain (world_line_value l)
 line_value (Legs n) = legs n

@@ -1,5 +1,8 @@
 //! The numbers of a chain's legs.
-ghost use Rattle.std.specs.Prelude.{◌≡◌, fold};
+ghost use Rattle.std.specs.Prelude.{ℕ, ◌≡◌, ◌≤◌, ◌*◌, List, fold};
+ghost use Rattle.chain_text.specs.Chain.{IsChain};
+ghost use Rattle.draw_stream.specs.Plans.{tiles_on};
+ghost use Rattle.feast_base.specs.declared.limits.TheConstants.{MOST_ATTEMPTS};
 ghost use Rattle.chain_text.specs.Legs.{act_seed, count_after, count_by, leg_attempts, leg_seed, order_seed};
 ghost use Rattle.chain_text.specs.Values.{chain_value};
 
@@ -54,9 +57,11 @@ impl Chain {
     }
 
     /// How many attempts each tile that is on draws in a leg: those of the last act of that leg
-    /// that says so, or else the chain's.
+    /// that says so, or else the chain's. At most 1,000,000 over all tiles.
+    #[tactic(auto, using(crate::proofs::Counts::leg_few))]
     pub fn leg_attempts(&self, leg: u32) -> u64
-        ensures { result ≡ leg_attempts (chain_value self.now) leg }
+        ensures value { result ≡ leg_attempts (chain_value self.now) leg }
+        ensures few { (names : List (List ℕ)) → IsChain names (chain_value self.now) → result * tiles_on (chain_value self.now).plane.off ≤ MOST_ATTEMPTS }
     {
         counts_after(self.attempts, leg, self.schedule.once())
     }

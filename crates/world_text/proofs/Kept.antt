@@ -20,7 +20,7 @@ use Rattle.world_text.specs.declared.kind.Kind.TheVariants.{Start, Header, Tiles
 use Rattle.world_text.specs.Drafts.{DraftValue, IsDraft, IsTry, IsRawAtom, in_range, too_many, put, between, nothing_said, only_plane, with_off, attempt_of, raw_atom, step, may_follow, misplaced_code, kind_of, is_early}
 use Rattle.world_text.proofs.Formed.{line_formed}
 
-between_is : (low high n : ℕ) → between low high n ≡ true → (low ≤ n) × (n ≤ high)
+pub between_is : (low high n : ℕ) → between low high n ≡ true → (low ≤ n) × (n ≤ high)
 between_is low high n h = grind arith
 
 pub no_tries : (n t : ℕ) → get_or {A = List Attempt} (replicate n []) t [] ≡ []

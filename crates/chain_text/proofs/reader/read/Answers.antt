@@ -11,7 +11,7 @@ use Rattle.chain_text.proofs.reader.read.Goals as goal
 
 pub loop-text-init : goal.loop-text-init
 loop-text-init c = record {
-  rest = ap (λ d. read_lines 1 d (lines c.args.bytes.now)) c.in_ok-draft.ensures.value ∙ walk_start c.args.bytes.now;
+  rest = ap (λ d. read_lines 1 d (lines c.args.bytes.now)) c.in_ok-draft.ensures.value ∙ sym (walk_start c.args.bytes.now);
   shape = subst IsChainDraft (sym c.in_ok-draft.ensures.value) start_is;
   room = omega arith;
 }
