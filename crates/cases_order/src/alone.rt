@@ -12,6 +12,7 @@ use std::alloc::Global;
 use std::process::Abort;
 use std::sync::atomic::{AtomicU64, Ordering};
 use std::test::Fail;
+use std::thread::Threads;
 use window_sites::Window;
 
 /// Exchanges the centre and its eastern neighbour, unless the centre is empty, and counts its events
@@ -96,8 +97,12 @@ fn has_moved(outcome: &Outcome) -> bool {
 }
 
 /// Whether the atom has moved, and the journal is the one of all attempts.
-fn is_as_told(alloc: Global, outcome: &Outcome) -> Result<bool, NoMemory> {
-    Ok(has_moved(outcome) && is_printed_as(alloc, &outcome.journal, JOURNAL)?)
+fn is_as_told<R: Threads + Sync>(
+    rt: &R,
+    alloc: Global,
+    outcome: &Outcome,
+) -> Result<bool, NoMemory> {
+    Ok(has_moved(outcome) && is_printed_as(rt, alloc, &outcome.journal, JOURNAL)?)
 }
 
 /// A worker of the one tile makes each attempt an event, in order, and passes the gate between them.
@@ -112,7 +117,7 @@ fn a_tile_that_is_alone_passes_its_gate_between_its_events(rt: HostRuntime) -> R
     };
     let seen = Seen { events: &events };
     let outcome = run(&rt, alloc, ALONE, (3, 4), &TRIES, seen, &gate)?;
-    let is_as_told = is_as_told(alloc, &outcome);
+    let is_as_told = is_as_told(&rt, alloc, &outcome);
     drop(outcome);
     assert!(rt; is_as_told?);
     assert!(rt; gate.strange.load(Ordering::SeqCst) == 0);

@@ -7,11 +7,12 @@ use crate::runs::run;
 use bit_field::Atom;
 use cell_grid::{Behave, Grid};
 use event_journal::Journal;
-use feast_base::NoMemory;
-use report_text::print;
+use feast_base::{MemSink, NoMemory};
+use report_text::write_report;
 use serial_order::Outcome;
 use std::alloc::Global;
 use std::test::Fail;
+use std::thread::Threads;
 
 /// Two tiles side by side.
 const PAIR: Shape = Shape {
@@ -168,23 +169,38 @@ fn lone(grid: &Grid) -> Option<(usize, u128)> {
     found
 }
 
-/// Whether a journal has this text.
-pub fn is_printed_as(alloc: Global, journal: &Journal, expected: &str) -> Result<bool, NoMemory> {
-    let mut text = Vec::new(alloc);
-    print(alloc, journal, &mut text)?;
-    Ok(text.as_slice() == expected.as_bytes())
+/// What a report of an empty grid says before its journal.
+const EMPTY: &[u8] = b"feast 1\natoms 0\n";
+
+/// Whether a journal has this text, behind an empty grid.
+pub fn is_printed_as<R: Threads + Sync>(
+    rt: &R,
+    alloc: Global,
+    journal: &Journal,
+    expected: &str,
+) -> Result<bool, NoMemory> {
+    let grid = Grid::new(alloc, 8, 8)?;
+    let mut sink = MemSink::new(alloc, Vec::new(alloc), 4096)?;
+    let put = write_report(rt, alloc, &grid, journal, &[], &mut sink);
+    Ok(put.is_ok() && sink.written().strip_prefix(EMPTY) == Some(expected.as_bytes()))
 }
 
 /// Whether an outcome has the one atom and the journal of a row.
-fn is_outcome(alloc: Global, outcome: &Outcome, row: &Row) -> Result<bool, NoMemory> {
+fn is_outcome<R: Threads + Sync>(
+    rt: &R,
+    alloc: Global,
+    outcome: &Outcome,
+    row: &Row,
+) -> Result<bool, NoMemory> {
     if lone(&outcome.grid) != Some((row.place, row.state)) {
         return Ok(false);
     }
-    is_printed_as(alloc, &outcome.journal, row.journal)
+    is_printed_as(rt, alloc, &outcome.journal, row.journal)
 }
 
 /// Whether the run of a row on a plane of this shape ends as the row says. A row has at most 100 attempts.
-fn ends_so<B: Behave + Copy + Drop>(
+fn ends_so<R: Threads + Sync, B: Behave + Copy + Drop>(
+    rt: &R,
     alloc: Global,
     shape: Shape,
     row: &Row,
@@ -197,14 +213,14 @@ fn ends_so<B: Behave + Copy + Drop>(
     }
     match run(alloc, shape, row.site, row.tries, row.order, behave)? {
         None => Ok(false),
-        Some(outcome) => is_outcome(alloc, &outcome, row),
+        Some(outcome) => is_outcome(rt, alloc, &outcome, row),
     }
 }
 
 #[test]
 fn two_tiles_come_to_their_border(rt: HostRuntime) -> Result<(), Fail> {
     for row in &OF_TWO {
-        assert!(rt; ends_so(rt.alloc(), PAIR, row, Walker)?, "{}", row.shows);
+        assert!(rt; ends_so(&rt, rt.alloc(), PAIR, row, Walker)?, "{}", row.shows);
     }
     Ok(())
 }
@@ -212,7 +228,7 @@ fn two_tiles_come_to_their_border(rt: HostRuntime) -> Result<(), Fail> {
 #[test]
 fn four_tiles_come_to_their_corner(rt: HostRuntime) -> Result<(), Fail> {
     for row in &OF_FOUR {
-        assert!(rt; ends_so(rt.alloc(), CORNER, row, Turner)?, "{}", row.shows);
+        assert!(rt; ends_so(&rt, rt.alloc(), CORNER, row, Turner)?, "{}", row.shows);
     }
     Ok(())
 }

@@ -1,4 +1,4 @@
-//! Lines and fields, worlds that are printed again, and the memory that texts of grids and reports take.
+//! Lines and fields, worlds that are printed again, and grids that are put.
 //! The tests are above the crates that read and print, so that none of these is proved again because
 //! of a test.
 #![tactic(auto)]

@@ -1,23 +1,31 @@
-//! Texts of grids and reports, and the memory that they take.
+//! Grids that are put.
 ghost use Rattle.report_text.specs.Report.{AreNamed};
 ghost use Rattle.std.specs.Prelude.{◌≤◌, IfOk, length};
 ghost use Rattle.world_text.specs.Printed.{IsPrintable};
 ghost use Rattle.world_text.specs.Values.{world_value};
 
 use crate::worlds::{names, world};
-use cell_grid::{Grid, Record};
-use event_journal::Abandoned;
-use feast_base::{Name, NoMemory};
-use report_text::{grid_text, printed_report};
+use cell_grid::Grid;
+use feast_base::{MemSink, Name, NoMemory};
+use report_text::write_grid;
 use std::alloc::Global;
 use std::test::Fail;
 use world_text::World;
 
-/// Worlds with atoms.
-const WORLDS: [&str; 3] = [
-    "feast 1\ntiles 2 1\nsize 16 16\ntry 0 15 4 0000000000000000\ntry 1 16 4 0000000000000000\natom 17 4 Walker\n",
-    "feast 2\ntiles 2 1\nsize 16 16\noff 1\ntry 0 15 4 0000000000000000\natom 15 4 Walker\n",
-    "feast 1\ntiles 1 1\nsize 8 8\natom 4 3 Walker 00000000000000000a\natom 3 3 Walker\n",
+/// Worlds with atoms, and how their grids are shown.
+const SHOWN: [(&str, &str); 3] = [
+    (
+        "feast 1\ntiles 2 1\nsize 16 16\ntry 0 15 4 0000000000000000\ntry 1 16 4 0000000000000000\natom 17 4 Walker\n",
+        "feast 1\natoms 1\n17 4 Walker 000000000000000000\n",
+    ),
+    (
+        "feast 2\ntiles 2 1\nsize 16 16\noff 1\ntry 0 15 4 0000000000000000\natom 15 4 Walker\n",
+        "feast 1\natoms 1\n15 4 Walker 000000000000000000\n",
+    ),
+    (
+        "feast 1\ntiles 1 1\nsize 8 8\natom 4 3 Walker 00000000000000000a\natom 3 3 Stone\n",
+        "feast 1\natoms 2\n3 3 Stone 000000000000000000\n4 3 Walker 00000000000000000a\n",
+    ),
 ];
 
 /// The grid of a world, with its atoms.
@@ -35,78 +43,32 @@ fn grid(alloc: Global, world: &World, names: &[Name]) -> Result<Grid, NoMemory>
     Ok(grid)
 }
 
-/// Events whose numbers are as short as they can be, and as long.
-const EVENTS: [Record; 2] = [
-    Record {
-        stamp: 1,
-        tile: 0,
-        attempt: 0,
-        x: 4,
-        y: 3,
-        seed: 0,
-    },
-    Record {
-        stamp: u32::MAX,
-        tile: u32::MAX,
-        attempt: u64::MAX,
-        x: u32::MAX,
-        y: u32::MAX,
-        seed: u64::MAX,
-    },
-];
-
-/// Abandoned attempts whose numbers are as short as they can be, and as long.
-const ABANDONED: [Abandoned; 2] = [
-    Abandoned {
-        tile: 0,
-        attempt: 0,
-        x: 4,
-        y: 3,
-        edge: 0,
-        holder: 1,
-        holder_attempt: 9,
-    },
-    Abandoned {
-        tile: u32::MAX,
-        attempt: u64::MAX,
-        x: u32::MAX,
-        y: u32::MAX,
-        edge: u32::MAX,
-        holder: u32::MAX,
-        holder_attempt: u64::MAX,
-    },
-];
-
-/// Whether the text of a grid, and a report of these entries over it, take as much memory as they are
-/// long.
-fn are_exact(alloc: Global, grid: &Grid, names: &[Name]) -> Result<bool, NoMemory>
+/// Whether a grid is put as these bytes.
+fn is_put_as(alloc: Global, grid: &Grid, names: &[Name], wanted: &str) -> Result<bool, NoMemory>
     requires { AreNamed names.now grid.now.atoms }
 {
-    let shown = grid_text(alloc, grid, names)?;
-    if shown.capacity() != shown.len() {
-        return Ok(false);
-    }
-    let report = printed_report(alloc, grid, names, &EVENTS, &ABANDONED)?;
-    Ok(report.capacity() == report.len())
+    let mut sink = MemSink::new(alloc, Vec::new(alloc), 1000)?;
+    let put = write_grid(grid, names, &mut sink);
+    Ok(put.is_ok() && sink.written() == wanted.as_bytes())
 }
 
 /// The same of the grid of a world at its start. The text has to be a world.
-fn has_exact_texts(alloc: Global, text: &[u8], names: &[Name]) -> Result<bool, NoMemory>
+fn is_shown_as(alloc: Global, text: &str, names: &[Name], wanted: &str) -> Result<bool, NoMemory>
     requires { length names.now ≤ 65535 }
 {
-    let Some(world) = world(alloc, text, names) else {
+    let Some(world) = world(alloc, text.as_bytes(), names) else {
         return Ok(false);
     };
     let grid = grid(alloc, &world, names)?;
-    are_exact(alloc, &grid, names)
+    is_put_as(alloc, &grid, names, wanted)
 }
 
 #[test]
-fn texts_take_as_much_memory_as_they_are_long(rt: HostRuntime) -> Result<(), Fail> {
+fn a_grid_is_put_as_it_is_shown(rt: HostRuntime) -> Result<(), Fail> {
     let names = names(rt.alloc())?;
-    for text in WORLDS {
-        let is_exact = has_exact_texts(rt.alloc(), text.as_bytes(), names.as_slice())?;
-        assert!(rt; is_exact, "{text}");
+    for (text, wanted) in SHOWN {
+        let is_shown = is_shown_as(rt.alloc(), text, names.as_slice(), wanted)?;
+        assert!(rt; is_shown, "{text}");
     }
     Ok(())
 }

@@ -23,10 +23,25 @@ impl Drop for FinishedRun {
     }
 }
 
+/// A grid that events left, and the world that they were made of with its elements.
+pub struct ShownGrid {
+    pub grid: Grid,
+    pub ready: Ready,
+}
+
+// Written by hand, not derived: so a caller drops it by one call.
+impl Drop for ShownGrid {
+    fn drop(self) {
+        let ShownGrid { grid, ready } = self;
+    }
+}
+
 /// What a call writes.
 pub enum Output {
     /// A text, put in one piece.
     Text(Vec<u8>),
+    /// The atoms of a grid, put in pieces.
+    Grid(ShownGrid),
     /// The report of a run, put in pieces.
     Report(FinishedRun),
 }
@@ -36,6 +51,7 @@ impl Drop for Output {
     fn drop(self) {
         match self {
             Output::Text(text) => {}
+            Output::Grid(shown) => {}
             Output::Report(finished) => {}
         }
     }

@@ -13,22 +13,10 @@ ghost use Rattle.call_form.specs.declared.form.TheConstants.{MOST_FILES};
 use crate::grids::grid_after;
 use crate::halt::Halt;
 use crate::journals::load_journal;
-use crate::output::Output;
+use crate::output::{Output, ShownGrid};
 use crate::worlds::{Ready, make_ready};
-use cell_grid::Record;
-use feast_base::{NoMemory, Shelf};
-use report_text::grid_text;
+use feast_base::Shelf;
 use std::alloc::Global;
-
-/// The text of the atoms that the events of a journal leave of a world.
-fn replay_text(alloc: Global, ready: &Ready, records: &[Record]) -> Result<Vec<u8>, NoMemory>
-    requires ready { IsReady ready.now }
-    requires live { All (IsLiveEvent (world_value ready.now.world).plane) records.now }
-    ensures { IfOk result (λ v. v.items ≡ atoms_after (ready_value ready.now) records.now) }
-{
-    let grid = grid_after(alloc, ready, records)?;
-    grid_text(alloc, &grid, ready.elements.names())
-}
 
 /// The stages of a replay from its journal on.
 fn replay_rest<'a, F: Shelf>(
@@ -44,11 +32,11 @@ fn replay_rest<'a, F: Shelf>(
     ensures writable { IfOk result IsWritable }
 {
     let journal = load_journal(alloc, shelf, word, &ready.world)?;
-    let text = replay_text(alloc, &ready, journal.records())?;
-    Ok(Output::Text(text))
+    let grid = grid_after(alloc, &ready, journal.records())?;
+    Ok(Output::Grid(ShownGrid { grid, ready }))
 }
 
-/// The stages of a replay, up to its text.
+/// The stages of a replay, up to its grid.
 pub fn replay_stages<'a, F: Shelf>(
     alloc: Global,
     shelf: &mut F,

@@ -12,38 +12,18 @@ ghost use Rattle.world_runs.specs.Worlds.{IsLiveEvent};
 ghost use Rattle.world_text.specs.Values.{world_value};
 ghost use Rattle.call_form.specs.declared.form.TheConstants.{MOST_FILES};
 
+use crate::grids::grid_rewound;
 use crate::halt::Halt;
 use crate::journals::{journal_refusal, load_journal};
 use crate::loading::whole_file;
-use crate::output::Output;
+use crate::output::{Output, ShownGrid};
 use crate::worlds::{Ready, make_ready};
-use cell_grid::Record;
-use event_film::rewind;
-use feast_base::{NoMemory, Shelf};
-use report_text::{ReadJournal, grid_text};
+use feast_base::Shelf;
+use report_text::ReadJournal;
 use std::alloc::Global;
-use world_runs::start;
 
 /// The code of a report that has too few events.
 const TOO_FEW: u8 = 84;
-
-/// The text of the atoms that the first `left` events of a journal leave of a world.
-fn rewind_text(
-    alloc: Global,
-    ready: &Ready,
-    records: &[Record],
-    left: usize,
-) -> Result<Vec<u8>, NoMemory>
-    requires ready { IsReady ready.now }
-    requires live { All (IsLiveEvent (world_value ready.now.world).plane) records.now }
-    requires enough { left ≤ length records.now }
-    ensures { IfOk result (λ v. v.items ≡ atoms_after (ready_value ready.now) (take left records.now)) }
-{
-    let first = start(alloc, &ready.world)?;
-    let mut actor = ready.elements.actor(alloc)?;
-    let grid = rewind(alloc, first, records, left, &mut actor)?;
-    grid_text(alloc, &grid, ready.elements.names())
-}
 
 /// The halt at a journal with too few events.
 fn too_few<'a>(word: &'a str, journal: &ReadJournal) -> Halt<'a>
@@ -60,22 +40,22 @@ fn few<'a>(word: &'a str, left: u32, ready: &Ready, journal: &ReadJournal) -> Ha
     too_few(word, journal)
 }
 
-/// The text of a rewind to no more events than the journal has.
+/// The grid of a rewind to no more events than the journal has.
 fn rewind_kept<'a>(
     alloc: Global,
     word: &'a str,
     left: u32,
-    ready: &Ready,
+    ready: Ready,
     journal: &ReadJournal,
 ) -> Result<Output, Halt<'a>>
-    requires ready { IsReady ready.now }
-    requires live { All (IsLiveEvent (world_value ready.now.world).plane) journal.now.records }
+    requires ready { IsReady ready }
+    requires live { All (IsLiveEvent (world_value ready.world).plane) journal.now.records }
     requires enough { left ≤ length journal.now.records }
-    ensures tells { Tells output_text (rewinds word.now left (ready_value ready.now) journal.now) result }
+    ensures tells { Tells output_text (rewinds word.now left (ready_value ready) journal.now) result }
     ensures writable { IfOk result IsWritable }
 {
-    let text = rewind_text(alloc, ready, journal.records(), left as usize)?;
-    Ok(Output::Text(text))
+    let grid = grid_rewound(alloc, &ready, journal.records(), left as usize)?;
+    Ok(Output::Grid(ShownGrid { grid, ready }))
 }
 
 /// The stages of a rewind once its journal is read.
@@ -83,16 +63,16 @@ fn rewind_loaded<'a>(
     alloc: Global,
     word: &'a str,
     left: u32,
-    ready: &Ready,
+    ready: Ready,
     journal: &ReadJournal,
 ) -> Result<Output, Halt<'a>>
-    requires ready { IsReady ready.now }
-    requires live { All (IsLiveEvent (world_value ready.now.world).plane) journal.now.records }
-    ensures tells { Tells output_text (rewinds word.now left (ready_value ready.now) journal.now) result }
+    requires ready { IsReady ready }
+    requires live { All (IsLiveEvent (world_value ready.world).plane) journal.now.records }
+    ensures tells { Tells output_text (rewinds word.now left (ready_value ready) journal.now) result }
     ensures writable { IfOk result IsWritable }
 {
     if journal.records().len() < left as usize {
-        Err(few(word, left, ready, journal))
+        Err(few(word, left, &ready, journal))
     } else {
         rewind_kept(alloc, word, left, ready, journal)
     }
@@ -113,10 +93,10 @@ fn rewind_rest<'a, F: Shelf>(
     ensures writable { IfOk result IsWritable }
 {
     let journal = load_journal(alloc, shelf, word, &ready.world)?;
-    rewind_loaded(alloc, word, left, &ready, &journal)
+    rewind_loaded(alloc, word, left, ready, &journal)
 }
 
-/// The stages of a rewind, up to its text.
+/// The stages of a rewind, up to its grid.
 pub fn rewind_stages<'a, F: Shelf>(
     alloc: Global,
     shelf: &mut F,

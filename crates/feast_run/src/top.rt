@@ -7,13 +7,15 @@ ghost use Rattle.feast_run.specs.Naming.{Names};
 ghost use Rattle.feast_run.specs.Outputs.{IsWritable, output_text};
 ghost use Rattle.feast_run.specs.Promises.{Complete, Exactly, Headline, Noted, UsageExactly};
 ghost use Rattle.feast_run.specs.Replies.{PutWith};
+ghost use Rattle.feast_run.specs.Values.{elements_value};
+ghost use Rattle.report_text.specs.Report.{AreNamed, grid_text};
 ghost use Rattle.report_text.specs.Writing.{Writes};
 
 use crate::Status;
-use crate::output::Output;
+use crate::output::{Output, ShownGrid};
 use crate::reply::{Reply, reply_to_words};
 use feast_base::{Gate, NoMemory, Shelf, Sink, SinkFailed};
-use report_text::{WriteFault, write_report};
+use report_text::{WriteFault, write_grid, write_report};
 use std::alloc::Global;
 use std::thread::Threads;
 
@@ -31,7 +33,19 @@ fn put_text<K: Sink>(sink: &mut K, text: &[u8]) -> Result<(), WriteFault>
     }
 }
 
-/// Writes an output: a text in one piece, a report in pieces.
+/// Puts the atoms of a grid in pieces.
+fn put_grid<K: Sink>(sink: &mut K, shown: &ShownGrid) -> Result<(), WriteFault>
+    requires room { (K.state sink.old).faults < 2 ^ 64 - 1 }
+    requires named { AreNamed (elements_value shown.now.ready.elements).names shown.now.grid.atoms }
+    ensures { Writes (K.state sink.old) (K.state sink.new) (grid_text (elements_value shown.now.ready.elements).names shown.now.grid) result }
+{
+    match write_grid(&shown.grid, shown.ready.elements.names(), sink) {
+        Ok(()) => Ok(()),
+        Err(SinkFailed) => Err(WriteFault::Sink),
+    }
+}
+
+/// Writes an output: a text in one piece, a grid or a report in pieces.
 fn write<R: Threads + Sync, K: Sink>(
     rt: &R,
     alloc: Global,
@@ -44,6 +58,7 @@ fn write<R: Threads + Sync, K: Sink>(
 {
     match output {
         Output::Text(text) => put_text(sink, text.as_slice()),
+        Output::Grid(shown) => put_grid(sink, shown),
         Output::Report(finished) => {
             write_report(
                 rt,
@@ -118,8 +133,9 @@ fn call<R: Threads + Sync, F: Shelf, K: Sink, G: Gate>(
 ///   but the first K are undone, the last of them first, and the atoms are then written. K is up to
 ///   1,000,000.
 ///
-/// Any other text is put in one piece, or not at all if it is empty. Any refusal is reported in one
-/// line, put in place of the text. If it is about a file, the line names a word of such a file:
+/// The atoms that `replay` and `rewind` write are put in pieces of 4,096 bytes too, any other text in
+/// one piece, or not at all if it is empty. Any refusal is reported in one line, put in place of the
+/// text. If it is about a file, the line names a word of such a file:
 ///
 /// - `Usage` if the words have no form.
 /// - `Unreadable` if a file can't be loaded, or is longer than its limit (268,435,456 bytes for

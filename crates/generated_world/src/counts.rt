@@ -1,13 +1,14 @@
 //! The summary of the run of a generated world.
-ghost use Rattle.std.specs.Prelude.{◌≡◌, IfOk};
+ghost use Rattle.std.specs.Prelude.{◌≡◌, IfOk, map};
 ghost use Rattle.generated_world.specs.Summary.{count_kind, summary_of_logs};
+ghost use Rattle.report_text.specs.JournalText.{count_fields};
+ghost use Rattle.text_lines.specs.Values.{field_text};
 
 use cell_grid::Grid;
 use event_journal::Journal;
 use feast_base::NoMemory;
-use report_text::count_fields;
 use std::alloc::Global;
-use text_lines::push_line;
+use text_lines::{Field, push_line};
 
 /// How many atoms of a grid are of a type.
 fn count_kind(grid: &Grid, kind: u16) -> u64
@@ -17,6 +18,13 @@ fn count_kind(grid: &Grid, kind: u16) -> u64
         .iter()
         .filter(|atom| atom.kind() == kind)
         .count() as u64
+}
+
+/// The fields of the line of a count, after a word.
+fn count_fields(word: &[u8], count: u64) -> [Field<'_>; 2]
+    ensures { map field_text result ≡ count_fields word.now count }
+{
+    [Field::Word(word), Field::Number(count)]
 }
 
 /// The summary of what the run of the world of a number left: the number, how many events and

@@ -2,42 +2,41 @@
 ghost use Rattle.std.specs.Prelude.{◌≡◌, ◌<◌, ◌≤◌, ◌^◌, ◌↔◌, IfOk, IsTrue, length};
 ghost use Rattle.cell_grid.specs.Records.{replay};
 ghost use Rattle.event_journal.specs.Serial.{course};
-ghost use Rattle.report_text.specs.Report.{AreNamed, report};
+ghost use Rattle.report_text.specs.Report.{AreNamed, grid_text, report};
 ghost use Rattle.plane_grid.specs.PlaneGrids.{IsPlaneGrid};
 ghost use Rattle.journal_check.specs.Entries.{IsPlanOf};
 ghost use Rattle.report_judge.specs.Judging.{Judges, named_course};
 ghost use Rattle.report_text.specs.EntryLines.{AreOnLines};
 
+use crate::comparing::Comparison;
 use crate::judgement::Judgement;
 use crate::read_report::ReadReport;
-use cell_grid::{Behave, Grid, Record};
-use event_journal::Abandoned;
+use cell_grid::{Behave, Grid};
 use feast_base::{Name, NoMemory};
 use journal_check::{Verdict, audit};
-use report_text::printed_report;
+use report_text::write_grid;
 use std::alloc::Global;
 
-/// Whether two texts are the same.
-fn are_same(first: &[u8], second: &[u8]) -> bool
-    ensures { IsTrue result ↔ (first.now ≡ second.now) }
+/// Whether a part of a report is the text that shows a grid. What is printed is compared at once, and not
+/// kept.
+fn is_grid(part: &[u8], names: &[Name], grid: &Grid) -> bool
+    requires { AreNamed names.now grid.now.atoms }
+    ensures { IsTrue result ↔ (part.now ≡ grid_text names.now grid.now) }
 {
-    first == second
+    let mut comparison = Comparison::new(part);
+    // A put that fails shows in the comparison.
+    let _ = write_grid(grid, names, &mut comparison);
+    comparison.is_whole()
 }
 
-/// Whether bytes are the report of a grid, events and abandoned attempts.
-fn is_report(
-    alloc: Global,
-    bytes: &[u8],
-    names: &[Name],
-    grid: &Grid,
-    records: &[Record],
-    abandoned: &[Abandoned],
-) -> Result<bool, NoMemory>
+/// Whether the bytes of a report are those of the report of its own events and abandoned attempts that
+/// shows a grid. Only the part that shows the grid is printed again: the other lines can't be written
+/// otherwise than they were read.
+fn is_own(read: &ReadReport, names: &[Name], grid: &Grid) -> bool
     requires { AreNamed names.now grid.now.atoms }
-    ensures { IfOk result (λ b. IsTrue b ↔ (bytes.now ≡ report names.now grid.now records.now abandoned.now)) }
+    ensures { IsTrue result ↔ (read.now.bytes ≡ report names.now grid.now read.now.entries.records read.now.entries.abandoned) }
 {
-    let text = printed_report(alloc, grid, names, records, abandoned)?;
-    Ok(are_same(bytes, text.as_slice()))
+    is_grid(read.grid_part(), names, grid)
 }
 
 /// Judges a report: whether each attempt of its plan is accounted for, each event has its stamp and
@@ -45,7 +44,7 @@ fn is_report(
 /// abandoned attempts over the grid that the events make of the start. The answer is the first of
 /// these that does not hold, with its line in the report. The plan is one of the map, the start is
 /// a grid of its plane, and the types of the atoms that the events leave have names. `NoMemory` if
-/// there is none for the audit or for printing the report again.
+/// there is none for the audit.
 pub fn judge<B: Behave>(
     alloc: Global,
     report: &ReadReport,
@@ -66,9 +65,7 @@ pub fn judge<B: Behave>(
         Verdict::NotStamped(k) => Ok(Judgement::NoStamped(journal.event_line(k))),
         Verdict::NotExcused(k) => Ok(Judgement::NoExcused(journal.abandoned_line(k))),
         Verdict::Yes(grid) => {
-            let records = journal.records();
-            let abandoned = journal.abandoned();
-            if is_report(alloc, report.bytes(), names, &grid, records, abandoned)? {
+            if is_own(report, names, &grid) {
                 Ok(Judgement::Yes)
             } else {
                 Ok(Judgement::NoAtoms)

@@ -1,6 +1,7 @@
 //! Judging a report in one line.
 #![tactic(auto)]
 
+mod comparing;
 mod judgement;
 mod judging;
 mod read_report;

@@ -3,6 +3,7 @@ ghost use Rattle.std.specs.Prelude.{◌≡◌};
 ghost use Rattle.report_judge.specs.Judging.{read_value};
 ghost use Rattle.report_text.specs.Again.{SaysThese};
 ghost use Rattle.report_text.specs.EntryLines.{AreOnLines};
+ghost use Rattle.report_text.specs.GridPart.{IsBeforeJournal};
 
 use draw_stream::AttemptPlan;
 use report_text::ReadJournal;
@@ -78,5 +79,13 @@ impl<'a> ReadReport<'a> {
     {
         self.map.laws();
         self.journal
+    }
+
+    /// The part of its bytes that shows its grid. Behind it comes the text of the journal.
+    pub fn grid_part(&self) -> &[u8]
+        ensures { IsBeforeJournal self.now.bytes self.now.entries result.now }
+    {
+        self.map.laws();
+        self.journal.grid_part(self.bytes)
     }
 }

@@ -1,10 +1,9 @@
 pub mod Ahead
-pub mod AtomLengths
 pub mod Bounds
 pub mod Counting
 pub mod Exact
 pub mod FormRead
-pub mod LineLengths
+pub mod GridParts
 pub mod Lists
 pub mod OnLines
 pub mod Pairs

@@ -120,6 +120,11 @@ pub puts_cut : {T : Type 0} (a b : SinkState) (r text : List ℕ) (res : Result 
 puts_cut a b r text (Ok x) failed cut = absurd (cc failed)
 puts_cut a b r text (Err e) failed cut = cut
 
+-- the sink failed, and has a first part of the text
+pub puts_failed : {T : Type 0} (a b : SinkState) (text : List ℕ) (res : Result T SinkFailed) → IsErr res → IsCut a b text → PutsAll a b text res
+puts_failed a b text (Ok x) failed cut = absurd (cc failed)
+puts_failed a b text (Err e) failed cut = cut
+
 -- nothing came, and all is left
 pub first_none : (s : SinkState) (page text : List ℕ) → (full : List ℕ) × (text ≡ full ++ text) × IsTurned s s page page full
 first_none s page text = ([], refl, turned_none s page)

@@ -4,8 +4,8 @@ pub mod Cuts
 pub mod Entries
 pub mod EntryLines
 pub mod Forms
+pub mod GridPart
 pub mod JournalText
-pub mod Lengths
 pub mod OneReport
 pub mod Reading
 pub mod Report

@@ -44,6 +44,10 @@ atom_lines names atoms = count_fields (codes "atoms") (length atoms) ∷ map (at
 abbrev pub atoms_text : List (List ℕ) → GridValue → List ℕ
 atoms_text names g = text_of (atom_lines names (shown_atoms g))
 
+-- the text that shows a grid: the header and the atoms
+abbrev pub grid_text : List (List ℕ) → GridValue → List ℕ
+grid_text names g = codes "feast 1\n" ++ atoms_text names g
+
 -- the lines of a report: its header, the atoms, the events, and the attempts that were given up
 abbrev pub report_lines : List (List ℕ) → List Shown → List Record → List Abandoned → List (List (List ℕ))
 report_lines names atoms records abandoned =

@@ -8,9 +8,11 @@ ghost use Rattle.report_text.specs.Reading.{read_lines};
 ghost use Rattle.report_text.specs.Cursors.{AllServe, ReadsJournal, ReadsSaid, lasts_of, said_value};
 ghost use Rattle.report_text.specs.Entries.{abandoned_line, event_line};
 ghost use Rattle.report_text.specs.EntryLines.{AreOnLines};
+ghost use Rattle.report_text.specs.GridPart.{IsGridPart};
 
 use crate::cursors::LogCursor;
 use crate::journal_fault::JournalFault;
+use crate::left::after_lines;
 use crate::reading::{Reading, Wants, is_over, take_fields};
 use cell_grid::Record;
 use draw_stream::AttemptPlan;
@@ -80,6 +82,14 @@ impl ReadJournal {
         ensures { result ≡ abandoned_line self.now k }
     {
         u64::from(self.sites) + 5 + self.records.len() as u64 + k
+    }
+
+    /// The part of the bytes that it was read of that shows the grid: all before the count of events.
+    pub fn grid_part<'a>(&self, bytes: &'a [u8]) -> &'a [u8]
+        ensures { IsGridPart bytes.now self.now result.now }
+    {
+        let journal = after_lines(bytes, u64::from(self.sites) + 2);
+        &bytes[..bytes.len() - journal.len()]
     }
 }
 

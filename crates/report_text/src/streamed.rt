@@ -1,10 +1,10 @@
 //! A report that goes to a sink line by line.
-ghost use Rattle.std.specs.Prelude.{◌≡◌, ◌≤◌, ◌-◌, ◌^◌, ◌<◌, ◌⊎◌, ◌++◌, codes, length, map};
+ghost use Rattle.std.specs.Prelude.{◌≡◌, ◌≤◌, ◌-◌, ◌^◌, ◌<◌, ◌⊎◌, length, map};
 ghost use Rattle.bit_field.specs.Atom.{empty_atom};
 ghost use Rattle.text_lines.specs.Lines.{ended_line, text_of};
 ghost use Rattle.event_journal.specs.Logs.{abandoned_in, records_in};
 ghost use Rattle.report_text.specs.JournalText.{abandoned_fields, count_fields, logs_text, record_fields};
-ghost use Rattle.report_text.specs.Report.{AreNamed, atom_fields, atoms_text, of_logs, report_of, shown_from, shown_one};
+ghost use Rattle.report_text.specs.Report.{AreNamed, atom_fields, grid_text, of_logs, report_of, shown_from, shown_one};
 ghost use Rattle.report_text.specs.Writing.{PutsAll, Streams, heading};
 
 use crate::abreast::{Events, put_events};
@@ -109,7 +109,7 @@ fn put_logs<K: Sink>(sink: &mut K, page: &mut Page, logs: &[TileLog]) -> Result<
 }
 
 /// Puts the text that shows a grid.
-fn put_grid<K: Sink>(
+pub(crate) fn put_grid<K: Sink>(
     sink: &mut K,
     page: &mut Page,
     grid: &Grid,
@@ -117,7 +117,7 @@ fn put_grid<K: Sink>(
 ) -> Result<(), SinkFailed>
     requires room { (K.state sink.old).faults < 2 ^ 64 - 1 }
     requires named { AreNamed names.now grid.now.atoms }
-    ensures { Streams (heading (K.state sink.old) page.old) (heading (K.state sink.new) page.new) (codes "feast 1\n" ++ atoms_text names.now grid.now) result }
+    ensures { Streams (heading (K.state sink.old) page.old) (heading (K.state sink.new) page.new) (grid_text names.now grid.now) result }
 {
     put_bytes(sink, page, b"feast 1\n")?;
     put_count(sink, page, b"atoms", count(grid))?;

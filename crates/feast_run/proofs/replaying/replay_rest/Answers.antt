@@ -1,11 +1,12 @@
 use Rattle.feast_run.proofs.Telling.{tells_exit}
 use Rattle.feast_run.specs.Outputs.{output_text}
 use Rattle.report_text.specs.Entries.{Entries}
+use Rattle.report_text.specs.Report.{grid_text}
 use Rattle.std.proofs.Common.{◌∙◌, List, All, ap, inr, subst, sym}
 use Rattle.cell_grid.specs.declared.record.Record.{Record}
 use Rattle.feast_run.proofs.Runs.{journal_events, ready_valid}
 use Rattle.feast_run.specs.Answer.{atoms_after}
-use Rattle.feast_run.specs.Values.{ready_value}
+use Rattle.feast_run.specs.Values.{elements_value, ready_value}
 use Rattle.world_runs.specs.Worlds.{IsLiveEvent}
 use Rattle.world_text.specs.Values.{world_value}
 use Rattle.feast_run.proofs.replaying.replay_rest.Goals as goal
@@ -13,8 +14,8 @@ use Rattle.feast_run.proofs.replaying.replay_rest.Goals as goal
 pub load_journal-requires : goal.load_journal-requires
 load_journal-requires g c = ready_valid c.args.ready c.requires
 
-pub replay_text-requires-clause-live : goal.replay_text-requires-clause-live
-replay_text-requires-clause-live g c =
+pub grid_after-requires-clause-live : goal.grid_after-requires-clause-live
+grid_after-requires-clause-live g c =
     let w = world_value c.args.ready.world in
     let valid = ready_valid c.args.ready c.requires in
     subst (λ (rs : List Record). All (IsLiveEvent w.plane) rs) (sym c.records.ensures) (journal_events _ _ w c.in_ok-journal.journal valid c.in_ok-journal.ensures.tells)
@@ -24,7 +25,7 @@ returns-clause-tells g c =
     inr (record {
       value = c.in_ok-journal.journal;
       passed = c.in_ok-journal.ensures.tells;
-      rest = c.in_ok-text.ensures ∙ ap (atoms_after (ready_value c.args.ready)) c.records.ensures;
+      rest = ap (grid_text (elements_value c.args.ready.elements).names) c.in_ok-grid.ensures.grid ∙ ap (atoms_after (ready_value c.args.ready)) c.records.ensures;
     })
 
 pub returns-in_err-journal-clause-tells : goal.returns-in_err-journal-clause-tells
