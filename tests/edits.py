@@ -99,6 +99,7 @@ SPARED = {
         "element_set": "ElementSet::actor",
         "feast_base": "MemSink::new text::push text::push_number",
         "feast_run": "feast_in_memory",
+        "report_judge": "ReadReport::grid_part",
         "serial_order": "PlainBoard::word ClosedEdges::word",
         "stepped_world": "run_settled",
         "text_lines": "take_number one_number one_seed two_numbers",

@@ -1,0 +1,9 @@
+use Rattle.std.proofs.Common.{inl, refl, subst, sym, [], ◌*◌}
+use Rattle.std.proofs.lemmas.List.Elements.{All-replicate}
+use Rattle.bit_field.specs.Atom.{empty_atom}
+use Rattle.cell_grid.specs.Grid.{GridValue}
+use Rattle.report_text.specs.Report.{AreNamed}
+use Rattle.cases_order.proofs.rows.is_printed_as.Goals as goal
+
+pub write_report-requires-clause-named : goal.write_report-requires-clause-named
+write_report-requires-clause-named g c = subst (λ (v : GridValue). AreNamed [] v.atoms) (sym c.in_ok-grid.ensures) (All-replicate _ (8 * 8) empty_atom (inl refl))
