@@ -17,9 +17,10 @@ use Rattle.tile_map.specs.Plane.{MapValue, is_on, tiles_of}
 use Rattle.tile_core.specs.Underway.{CanAttempt, IsFreshTile}
 use Rattle.tile_core.specs.Values.{TileWith, atoms_of}
 use Rattle.serial_order.specs.Fresh.{AreFresh}
-use Rattle.world_runs.specs.Worlds.{IsAttempt, IsWorld}
+use Rattle.event_journal.specs.Serial.{Course}
+use Rattle.world_runs.specs.Worlds.{IsAttempt, CanRun, IsWorld}
 use Rattle.world_text.specs.Named.{WorldValue}
-use Rattle.world_runs.specs.Fresh.{AllCanAttempt, AreMade, world_course}
+use Rattle.world_runs.specs.Fresh.{AllCanAttempt, AreMade}
 
 -- each of some tiles has only been made
 abbrev pub EachFresh : {B : Type 0} → MapValue → GridValue → PlanValue → List (TileWith B) → Type 0
@@ -64,43 +65,47 @@ none_left (y ∷ ys) e = absurd (omega (arith, e))
 pub acts_all : {B : Type 0} (tiles : List (TileWith B)) (rest behaves : List B) → rest ≡ [] → map (λ (y : TileWith B). y.behave) tiles ++ rest ≡ behaves → map (λ (y : TileWith B). y.behave) tiles ≡ behaves
 acts_all {B} tiles rest behaves none all = sym (append-nil (map (λ (y : TileWith B). y.behave) tiles)) ∙ (ap (λ zs. map (λ (y : TileWith B). y.behave) tiles ++ zs) (sym none) ∙ all)
 
--- the attempts of a tile of a world are ones that it can make
-can_attempt : (w : WorldValue) → IsWorld w → IsPlan w.plan → (t : ℕ) → t < tiles_of w.plane → (list : List Attempt) → attempts w.plan t ≡ list → CanAttempt w.plane t list
-can_attempt w h p t inside list is = record {
+-- the plan of a world can be run on its plane
+pub can_run : (w : WorldValue) → IsWorld w → CanRun w.plane w.plan
+can_run w h = record { map = h.map; lists = h.lists; attempts = h.attempts }
+
+-- the attempts of a tile are ones that it can make
+can_attempt : (m : MapValue) (plan : PlanValue) → CanRun m plan → IsPlan plan → (t : ℕ) → t < tiles_of m → (list : List Attempt) → attempts plan t ≡ list → CanAttempt m t list
+can_attempt m plan h p t inside list is = record {
   inside = inside;
-  few = subst (λ xs. length xs ≤ 1000000) is (attempts_few w.plan t p (omega (arith, inside, h.lists)));
-  centres = λ n a at. (subst (IsAttempt w.plane t) (get_or_from_slice_get list n a a at) (All-get_or (IsAttempt w.plane t) list n a (slice_get_within list n a at) each)).centre;
+  few = subst (λ xs. length xs ≤ 1000000) is (attempts_few plan t p (omega (arith, inside, h.lists)));
+  centres = λ n a at. (subst (IsAttempt m t) (get_or_from_slice_get list n a a at) (All-get_or (IsAttempt m t) list n a (slice_get_within list n a at) each)).centre;
   on = on list each;
 }
   where
-    each : All (IsAttempt w.plane t) list
-    each = subst (All (IsAttempt w.plane t)) is (h.attempts t)
+    each : All (IsAttempt m t) list
+    each = subst (All (IsAttempt m t)) is (h.attempts t)
 
-    on : (xs : List Attempt) → All (IsAttempt w.plane t) xs → (xs ≡ []) ⊎ (is_on w.plane t ≡ true)
+    on : (xs : List Attempt) → All (IsAttempt m t) xs → (xs ≡ []) ⊎ (is_on m t ≡ true)
     on [] k = inl refl
-    on (x ∷ xs) k = inr (All-get_or (IsAttempt w.plane t) (x ∷ xs) 0 x (omega arith) k).on
+    on (x ∷ xs) k = inr (All-get_or (IsAttempt m t) (x ∷ xs) 0 x (omega arith) k).on
 
-pub all_can : (w : WorldValue) → IsWorld w → IsPlan w.plan → AllCanAttempt w.plane w.plan
-all_can w h p t inside = can_attempt w h p t inside (attempts w.plan t) refl
+pub all_can : (m : MapValue) (plan : PlanValue) → CanRun m plan → IsPlan plan → AllCanAttempt m plan
+all_can m plan h p t inside = can_attempt m plan h p t inside (attempts plan t) refl
 
--- tiles that were made, all with one meaning, are fresh ones for the run of a world
-pub all_fresh : {B : Type 0} (after : B → WindowValue → ℕ → WindowValue) (w : WorldValue) (meaning : WindowValue → ℕ → WindowValue) (behaves : List B) (tiles : List (TileWith B)) (start : GridValue) → IsWorld w → IsPlan w.plan → IsGrid start → IsGridOf w.plane start → start ≡ (world_course w meaning).start
-    → AreMade w.plane start w.plan behaves tiles → length behaves ≡ tiles_of w.plane → All (λ b. after b ≡ meaning) behaves → AreFresh after (world_course w meaning) tiles
-all_fresh {B} after w meaning behaves tiles start h p grid fits is f count one = record {
-  grid = subst IsGrid is grid;
-  fits = subst (IsGridOf w.plane) is fits;
+-- tiles that were made from the start of a course, all with its meaning, are fresh ones for it
+pub all_fresh : {B : Type 0} (after : B → WindowValue → ℕ → WindowValue) (c : Course) (behaves : List B) (tiles : List (TileWith B)) → CanRun c.map c.plan → IsPlan c.plan → IsGrid c.start → IsGridOf c.map c.start
+    → AreMade c.map c.start c.plan behaves tiles → length behaves ≡ tiles_of c.map → All (λ b. after b ≡ c.meaning) behaves → AreFresh after c tiles
+all_fresh {B} after c behaves tiles h p grid fits f count one = record {
+  grid = grid;
+  fits = fits;
   plan_is = p;
   lists = h.lists;
   count = many ∙ count;
-  fresh = λ t x at. subst (λ (g : GridValue). IsFreshTile w.plane t (atoms_of g) (attempts w.plan t) x.core) is (f.fresh t x at);
+  fresh = f.fresh;
   meanings = means;
 }
   where
     many : length tiles ≡ length behaves
     many = sym (length-map tiles (λ (x : TileWith B). x.behave)) ∙ ap length f.acts
 
-    means : (t : ℕ) (x : TileWith B) → slice_get tiles t ≡ Some x → after x.behave ≡ meaning
+    means : (t : ℕ) (x : TileWith B) → slice_get tiles t ≡ Some x → after x.behave ≡ c.meaning
     means t x at =
         let inside = slice_get_within tiles t x at in
         let same : get_or behaves t x.behave ≡ x.behave = ap (λ (bs : List B). get_or bs t x.behave) (sym f.acts) ∙ (get_or-map (λ (y : TileWith B). y.behave) tiles t x x.behave inside ∙ ap (λ (y : TileWith B). y.behave) (get_or_from_slice_get tiles t x x at)) in
-        subst (λ b. after b ≡ meaning) same (All-get_or (λ b. after b ≡ meaning) behaves t x.behave (omega (arith, inside, many)) one)
+        subst (λ b. after b ≡ c.meaning) same (All-get_or (λ b. after b ≡ c.meaning) behaves t x.behave (omega (arith, inside, many)) one)

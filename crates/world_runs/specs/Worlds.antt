@@ -2,7 +2,7 @@
 use Rattle.std.specs.Prelude.{ℕ, ◌≡◌, ◌*◌, ◌<◌, true, List, All, Ok, length}
 use Rattle.cell_grid.specs.declared.record.Record.{Record}
 use Rattle.draw_stream.specs.declared.attempt.Attempt.{Attempt}
-use Rattle.draw_stream.specs.Plans.{attempts}
+use Rattle.draw_stream.specs.Plans.{PlanValue, attempts}
 use Rattle.report_text.specs.Reading.{Said, read_report}
 use Rattle.tile_map.specs.Plane.{MapValue, IsMap, site, tiles_of, is_on, is_live}
 use Rattle.world_text.specs.Named.{WorldValue}
@@ -21,6 +21,12 @@ IsPlaced m p = is_live m (site p.x p.y) ≡ true
 -- an event at a live site
 abbrev pub IsLiveEvent : MapValue → Record → Type 0
 IsLiveEvent m r = is_live m (site r.x r.y) ≡ true
+
+-- a plan can be run on a plane: each of its tiles has attempts that it can make, and those that are off have none
+pub record CanRun (m : MapValue) (plan : PlanValue) : Type 0 where
+  pub map : IsMap m
+  pub lists : length plan.lists ≡ tiles_of m
+  pub attempts : (t : ℕ) → All (IsAttempt m t) (attempts plan t)
 
 -- the tiles have attempts, those that are off have none, and the atoms are on live sites
 pub record IsWorld (w : WorldValue) : Type 0 where

@@ -16,10 +16,10 @@ mod turns;
 
 pub use law::{each_attempt_is_an_event, laws, listed_order};
 pub use one_tile::journal;
-pub use order::order_of;
+pub use order::{drawn_turns, order_of};
 pub use replaying::replay_world;
 pub use starting::start;
-pub use stepping::stepped;
-pub use threading::threaded;
+pub use stepping::{stepped, stepped_from};
+pub use threading::{threaded, threaded_from};
 pub use tiles::fresh_tiles;
 pub use turns::Turns;

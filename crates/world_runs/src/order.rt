@@ -1,8 +1,8 @@
 //! The order of a stepped run.
-ghost use Rattle.std.specs.Prelude.{◌≡◌, ◌<◌, ◌≤◌, All, length};
+ghost use Rattle.std.specs.Prelude.{◌≡◌, ◌*◌, ◌<◌, ◌≤◌, All, length};
 ghost use Rattle.tile_map.specs.Plane.{tiles_of};
 ghost use Rattle.world_text.specs.Values.{world_value, order_value};
-ghost use Rattle.world_runs.specs.Orders.{IsOrder, attempts_in, order_in};
+ghost use Rattle.world_runs.specs.Orders.{IsOrder, attempts_in, drawn_order, order_in};
 ghost use Rattle.feast_base.specs.declared.limits.TheConstants.{MOST_ATTEMPTS, MOST_TILES};
 
 use crate::turns::Turns;
@@ -22,6 +22,18 @@ fn attempts_of(plan: &AttemptPlan, tiles: u32) -> u32
     sum
 }
 
+/// The tiles that a seed draws for the stepped run of a plan: 16 for each attempt of all its tiles.
+/// It takes no memory.
+pub fn drawn_turns<'a>(seed: u64, plan: &AttemptPlan, tiles: u32) -> Turns<'a>
+    requires some { 1 ≤ tiles }
+    requires most { tiles ≤ MOST_TILES }
+    requires lists { tiles ≡ length plan.now.lists }
+    ensures value { result ≡ drawn_order seed tiles (16 * attempts_in plan.now) }
+    ensures tiles { All (λ t. t < tiles) result }
+{
+    Turns::drawn(seed, tiles, 8 * attempts_of(plan, tiles))
+}
+
 /// The order of a world's stepped run, a tile for each step: the tiles that are written out, or 16
 /// for each attempt of all tiles, drawn from a seed. It takes no memory.
 pub fn order_of(world: &World) -> Turns<'_>
@@ -34,6 +46,6 @@ pub fn order_of(world: &World) -> Turns<'_>
     let tiles = world.map.tiles();
     match &world.order {
         Order::List(turns) => Turns::listed(turns.as_slice()),
-        Order::Seed(seed) => Turns::drawn(*seed, tiles, 8 * attempts_of(&world.plan, tiles)),
+        Order::Seed(seed) => drawn_turns(*seed, &world.plan, tiles),
     }
 }

@@ -1,44 +1,20 @@
-use Rattle.std.proofs.Common.{sym, ap, subst, ◌∙◌, arith}
+use Rattle.std.proofs.Common.{subst}
 use Rattle.std.proofs.lemmas.Result.{IfOk-weaker}
-use Rattle.cell_grid.specs.Grid.{IsGrid}
-use Rattle.tile_map.specs.Plane.{tiles_of}
+use Rattle.cell_grid.specs.Grid.{GridValue}
+use Rattle.event_journal.specs.Serial.{course}
+use Rattle.serial_order.specs.Outcomes.{StandsInOneOrder}
 use Rattle.world_text.specs.Values.{world_value}
-use Rattle.world_runs.specs.Fresh.{world_course}
-use Rattle.plane_grid.proofs.Blanks.{some_tiles}
-use Rattle.world_runs.proofs.Beginning.{all_can, all_fresh}
+use Rattle.world_runs.proofs.Beginning.{can_run}
 use Rattle.world_runs.proofs.threading.threaded.Goals as goal
 
-pub fresh_tiles-requires-clause-can : goal.fresh_tiles-requires-clause-can
-fresh_tiles-requires-clause-can g c =
-    let w = world_value c.args.world.now in
-    all_can w c.requires.world c.plan_fits.ensures
+pub threaded_from-requires-clause-plan : goal.threaded_from-requires-clause-plan
+threaded_from-requires-clause-plan g c = λ lives bounds. can_run (world_value c.args.world.now) c.requires.world
 
-pub run_shared-requires-after_bounds : goal.run_shared-requires-after_bounds
-run_shared-requires-after_bounds g c = λ lives bounds. (world_course (world_value c.args.world.now) c.requires.meaning.0, all_fresh g.B.Behave.after (world_value c.args.world.now) c.requires.meaning.0 c.args.behaves.items c.in_ok-tiles.tiles.items c.in_ok-grid.grid c.requires.world c.plan_fits.ensures (subst IsGrid c.grid.view_is c.grid.invariant.0) c.in_ok-grid.ensures.fits c.in_ok-grid.ensures.grid c.in_ok-tiles.ensures c.requires.one c.requires.meaning.1)
-
-pub settle-requires-clause-made : goal.settle-requires-clause-made
-settle-requires-clause-made g c = (c.in_ok-tiles-2.ensures (world_course (world_value c.args.world.now) c.requires.meaning.0) (all_fresh g.B.Behave.after (world_value c.args.world.now) c.requires.meaning.0 c.args.behaves.items c.in_ok-tiles.tiles.items c.in_ok-grid.grid c.requires.world c.plan_fits.ensures (subst IsGrid c.grid.view_is c.grid.invariant.0) c.in_ok-grid.ensures.fits c.in_ok-grid.ensures.grid c.in_ok-tiles.ensures c.requires.one c.requires.meaning.1)).made
-
-pub settle-requires-clause-words : goal.settle-requires-clause-words
-settle-requires-clause-words g c = (c.in_ok-tiles-2.ensures (world_course (world_value c.args.world.now) c.requires.meaning.0) (all_fresh g.B.Behave.after (world_value c.args.world.now) c.requires.meaning.0 c.args.behaves.items c.in_ok-tiles.tiles.items c.in_ok-grid.grid c.requires.world c.plan_fits.ensures (subst IsGrid c.grid.view_is c.grid.invariant.0) c.in_ok-grid.ensures.fits c.in_ok-grid.ensures.grid c.in_ok-tiles.ensures c.requires.one c.requires.meaning.1)).words
-
-pub settle-requires-clause-over : goal.settle-requires-clause-over
-settle-requires-clause-over g c = (world_course (world_value c.args.world.now) c.requires.meaning.0, (c.in_ok-tiles-2.ensures (world_course (world_value c.args.world.now) c.requires.meaning.0) (all_fresh g.B.Behave.after (world_value c.args.world.now) c.requires.meaning.0 c.args.behaves.items c.in_ok-tiles.tiles.items c.in_ok-grid.grid c.requires.world c.plan_fits.ensures (subst IsGrid c.grid.view_is c.grid.invariant.0) c.in_ok-grid.ensures.fits c.in_ok-grid.ensures.grid c.in_ok-tiles.ensures c.requires.one c.requires.meaning.1)).over)
+pub threaded_from-requires-clause-start : goal.threaded_from-requires-clause-start
+threaded_from-requires-clause-start g c = λ lives bounds. c.in_ok-grid.ensures.fits
 
 pub returns : goal.returns
 returns g c =
     let w = world_value c.args.world.now in
-    IfOk-weaker c.settle.result _ _ (λ o settled meaning one.
-    let over = (c.in_ok-tiles-2.ensures (world_course w meaning) (all_fresh g.B.Behave.after (world_value c.args.world.now) meaning c.args.behaves.items c.in_ok-tiles.tiles.items c.in_ok-grid.grid c.requires.world c.plan_fits.ensures (subst IsGrid c.grid.view_is c.grid.invariant.0) c.in_ok-grid.ensures.fits c.in_ok-grid.ensures.grid c.in_ok-tiles.ensures c.requires.one one)).over in
-    (settled (world_course w meaning) over).in_order) c.settle.ensures.settled
-
-pub plan_fits-requires : goal.plan_fits-requires
-plan_fits-requires g c =
-    let some = some_tiles (world_value c.args.world.now).plane c.requires.world.map in
-    omega (arith, some, c.requires.world.lists)
-
-pub fresh_tiles-requires-clause-start : goal.fresh_tiles-requires-clause-start
-fresh_tiles-requires-clause-start g c = c.in_ok-grid.ensures.fits
-
-pub fresh_tiles-requires-clause-lists : goal.fresh_tiles-requires-clause-lists
-fresh_tiles-requires-clause-lists g c = c.requires.world.lists
+    IfOk-weaker c.threaded_from.result _ _ (λ o ran meaning one.
+    subst (λ (start : GridValue). StandsInOneOrder (course w.plane w.plan meaning start) o) c.in_ok-grid.ensures.grid (ran meaning one)) c.threaded_from.ensures
