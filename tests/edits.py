@@ -43,6 +43,7 @@ FEWER = {
     "source_laws": 0,
     "accepted_laws": 0,
     "pack_laws": 0,
+    "chain_run": 0,
     "feast": 0,
     "bench_parts": 0,
 }

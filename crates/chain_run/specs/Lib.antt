@@ -1,0 +1,4 @@
+pub mod Chains
+pub mod Course
+pub mod Laws
+pub mod Legs
