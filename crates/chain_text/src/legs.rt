@@ -58,7 +58,6 @@ impl Chain {
 
     /// How many attempts each tile that is on draws in a leg: those of the last act of that leg
     /// that says so, or else the chain's. At most 1,000,000 over all tiles.
-    #[tactic(auto, using(crate::proofs::Counts::leg_few))]
     pub fn leg_attempts(&self, leg: u32) -> u64
         ensures value { result ≡ leg_attempts (chain_value self.now) leg }
         ensures few { (names : List (List ℕ)) → IsChain names (chain_value self.now) → result * tiles_on (chain_value self.now).plane.off ≤ MOST_ATTEMPTS }
