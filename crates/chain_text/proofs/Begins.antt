@@ -1,5 +1,5 @@
 -- The first line that is not skipped.
-use Rattle.std.proofs.Common.{ℕ, ◌≡◌, Bool, true, false, List, [], ◌∷◌, codes, bytes_eq, refl}
+use Rattle.std.proofs.Common.{ℕ, ◌≡◌, true, false, List, [], ◌∷◌, codes, bytes_eq, refl}
 use Rattle.text_lines.specs.Lines.{is_skipped}
 use Rattle.chain_text.specs.Reading.{begins_chain}
 

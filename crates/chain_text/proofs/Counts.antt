@@ -1,5 +1,5 @@
 -- No leg asks for too many attempts.
-use Rattle.std.proofs.Common.{ℕ, ◌≡◌, ◌*◌, ◌≤◌, ◌==◌, Bool, true, false, List, [], ◌∷◌, All, fold, length, if◌then◌else◌}
+use Rattle.std.proofs.Common.{ℕ, ◌*◌, ◌≤◌, ◌==◌, Bool, true, false, List, [], ◌∷◌, All, fold, length, if◌then◌else◌}
 use Rattle.std.proofs.lemmas.List.Elements.{All-head, All-tail}
 use Rattle.draw_stream.specs.Plans.{tiles_on}
 use Rattle.tile_map.specs.Plane.{MapValue}

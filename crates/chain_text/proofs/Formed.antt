@@ -1,12 +1,12 @@
 -- What the forms of a chain's lines give.
-use Rattle.std.proofs.Common.{ℕ, ◌≡◌, ◌≤◌, ◌∙◌, List, [], ◌∷◌, Bool, true, false, Option, Some, None, option_map, codes, bytes_eq, if◌then◌else◌, ap, refl, arith, subst}
+use Rattle.std.proofs.Common.{ℕ, ◌≡◌, ◌≤◌, List, [], ◌∷◌, Bool, true, false, Option, Some, None, option_map, codes, bytes_eq, if◌then◌else◌, refl, subst}
 use Rattle.text_lines.specs.Fields.{fields}
 use Rattle.text_lines.specs.Forms.{with, take_number, one_field, one_number}
 use Rattle.world_text.specs.Line.{Line, header as world_header, tiles, size, off, seed, attempts as world_attempts, try, atom, order_seed, order, IsFormed as IsWorldFormed}
 use Rattle.world_text.specs.Forms.{form, name_state, form_of as world_form_of}
 use Rattle.world_text.proofs.Formed.{line_formed_by}
 use Rattle.chain_text.specs.Forms.{act_by_word, act_form, chain_form, chance_form, chance_of, every_form, every_line, form_of, journal_form, journal_of, legs_form, line_of, once_form, one_area, plain_line, put_form, take_area, take_chance, version_form, version_of}
-use Rattle.chain_text.specs.Line.{Area, ActLine, ChainLine, IsFormed, IsFormedAct, IsRepeated, header, plain, legs, first, journal, print, every, act, clear, put, erase, flip, attempts}
+use Rattle.chain_text.specs.Line.{Area, ActLine, ChainLine, IsFormed, IsFormedAct, header, plain, legs, first, journal, print, every, act, clear, put, erase, flip, attempts}
 use Rattle.chain_text.specs.declared.chain.Journal.TheVariants.{Whole, Short, Counts}
 use Rattle.chain_text.proofs.Chances.{chance_below}
 

@@ -1,23 +1,20 @@
 -- A line that may come keeps what holds of drafts.
-use Rattle.std.proofs.Common.{ℕ, Bool, true, false, not, ◌&&◌, ◌≡◌, ◌+◌, ◌-◌, ◌*◌, ◌^◌, ◌<◌, ◌≤◌, arith, nat_le, nat_lt, List, [], ◌∷◌, ◌++◌, All, length, get_or, ap, sym, ◌∙◌, refl, if◌then◌else◌, subst, Option, Some, None, Result, Ok, Err}
-use Rattle.std.specs.List.Sorted.{IsNonDecreasingBy}
+use Rattle.std.proofs.Common.{ℕ, Bool, true, false, not, ◌≡◌, ◌+◌, ◌-◌, ◌^◌, ◌<◌, ◌≤◌, arith, nat_le, nat_lt, List, [], ◌∷◌, All, length, ap, sym, refl, if◌then◌else◌, subst, Option, Some, None, Result, Ok, Err}
 use Rattle.std.proofs.lemmas.List.Sorted.{IsNonDecreasingBy-push, IsNonDecreasingBy-short}
 use Rattle.std.proofs.lemmas.List.Elements.{All-append, All-cons, All-nil}
 use Rattle.list_laws.proofs.Tests.{both}
 use Rattle.text_lines.specs.Lines.{is_skipped}
 use Rattle.draw_stream.specs.Plans.{tiles_on}
-use Rattle.tile_map.specs.Plane.{MapValue, IsMap}
+use Rattle.tile_map.specs.Plane.{MapValue}
 use Rattle.tile_map.proofs.Spans.{test_le}
 use Rattle.world_text.proofs.Kept.{between_is, step_kept as world_step_kept, start_is as world_start_is}
 use Rattle.world_text.proofs.Drafts.{few_at}
 use Rattle.world_text.specs.Drafts.{DraftValue, IsDraft, between, misplaced_code, step as world_step, too_many as world_too_many, missing as world_missing, put as world_put, in_range as world_in_range, may_follow, kind_of}
 use Rattle.world_text.specs.Line.{Line, header as world_header, attempts as world_attempts, tiles, size, off, seed, try, atom, order_seed, order, IsFormed as IsWorldFormed}
 use Rattle.world_text.specs.declared.kind.Kind.{Kind}
-use Rattle.world_text.specs.declared.kind.Kind.TheVariants.{Start, Attempts as AttemptsLine, Atom as AtomLine}
-use Rattle.plane_acts.specs.Acts.{IsAreaOf, IsActOn}
-use Rattle.cell_grid.specs.Shut.{rectangle}
-use Rattle.chain_text.specs.Drafts.{ChainDraft, IsChainDraft, IsNumberedAct, IsRawAct, IsAreaIn, after_act, after_atom, after_counted, after_every, after_first, after_journal, after_legs, act_in_range, area_in_range, asks_too_many, in_range, is_attempts, is_plane, journal_stage, may_come, missing, nothing_said, numbered, only_world, plain_may_come, plain_stage, put_line, raw_act, rectangle_of, step, step_line, step_own, too_many, with_world}
-use Rattle.chain_text.specs.Line.{Area, ActLine, ChainLine, IsFormed, IsFormedAct, IsRepeated, header, plain, legs, first, journal, print, every, act, clear, put, erase, flip, attempts}
+use Rattle.world_text.specs.declared.kind.Kind.TheVariants.{Attempts as AttemptsLine}
+use Rattle.chain_text.specs.Drafts.{ChainDraft, IsChainDraft, IsNumberedAct, IsRawAct, IsAreaIn, after_act, after_atom, after_counted, after_every, after_first, after_legs, act_in_range, area_in_range, asks_too_many, in_range, is_attempts, is_plane, may_come, nothing_said, numbered, only_world, plain_may_come, plain_stage, put_line, raw_act, rectangle_of, step, step_line, step_own, too_many, with_world}
+use Rattle.chain_text.specs.Line.{Area, ActLine, ChainLine, IsFormed, IsRepeated, header, plain, legs, first, journal, print, every, act, clear, put, erase, flip, attempts}
 use Rattle.chain_text.specs.Forms.{line_of}
 use Rattle.chain_text.specs.Reading.{line_step}
 use Rattle.chain_text.specs.declared.chain.Journal.{Journal}

@@ -1,5 +1,5 @@
 -- Naming acts one after another.
-use Rattle.std.proofs.Common.{ℕ, ◌≡◌, Bool, true, false, List, [], ◌∷◌, Option, Some, None, refl, if◌then◌else◌}
+use Rattle.std.proofs.Common.{ℕ, ◌≡◌, Bool, true, false, List, [], ◌∷◌, Some, None, refl, if◌then◌else◌}
 use Rattle.plane_acts.specs.declared.act.Act.{Act}
 use Rattle.chain_text.specs.Named.{act_of, acts_fault, is_named, named_act}
 use Rattle.chain_text.specs.declared.raw_act.NumberedAct.{NumberedAct}

@@ -1,14 +1,12 @@
 -- The numbers of acts that are in their ranges are small.
-use Rattle.std.proofs.Common.{ℕ, ◌≡◌, ◌+◌, ◌*◌, ◌≤◌, ◌^◌, Bool, true, false, ◌&&◌, nat_le, nat_lt, arith}
+use Rattle.std.proofs.Common.{ℕ, ◌≡◌, ◌+◌, ◌*◌, ◌≤◌, ◌^◌, true, false, ◌&&◌, nat_le, nat_lt, arith}
 use Rattle.list_laws.proofs.Tests.{both}
 use Rattle.draw_stream.specs.Plans.{tiles_on}
 use Rattle.tile_map.specs.Plane.{MapValue, IsMap}
 use Rattle.tile_map.proofs.Spans.{test_le}
 use Rattle.world_text.proofs.Drafts.{count_fits, few_at}
-use Rattle.world_text.specs.Drafts.{DraftValue, IsDraft, between, too_many as world_too_many}
-use Rattle.world_text.specs.Line.{attempts as world_attempts}
-use Rattle.plane_acts.specs.Acts.{IsAreaOf}
-use Rattle.chain_text.specs.Drafts.{ChainDraft, IsChainDraft, IsSmall, IsSmallAct, IsRawAct, act_in_range, area_in_range, in_range, asks_too_many, raw_act, rectangle_of, too_many}
+use Rattle.world_text.specs.Drafts.{between, too_many as world_too_many}
+use Rattle.chain_text.specs.Drafts.{ChainDraft, IsChainDraft, IsSmall, IsSmallAct, act_in_range, area_in_range, in_range, asks_too_many}
 use Rattle.chain_text.specs.Line.{Area, ActLine, IsFormedAct, IsRepeated, every, act, clear, put, erase, flip, attempts}
 
 -- the sides of an area in its range

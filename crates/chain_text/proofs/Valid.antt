@@ -1,31 +1,30 @@
 -- What is known of a chain that a draft gives.
-use Rattle.std.proofs.Common.{ℕ, ◌≡◌, ◌+◌, ◌*◌, ◌^◌, ◌<◌, ◌≤◌, ◌∙◌, Bool, true, false, List, [], ◌∷◌, All, Option, Some, None, Result, Ok, Err, IfSome, ap, sym, refl, arith, get_or, is_some, length, map, subst, if◌then◌else◌}
+use Rattle.std.proofs.Common.{ℕ, ◌≡◌, ◌*◌, ◌^◌, ◌<◌, ◌≤◌, ◌∙◌, Bool, true, false, List, [], ◌∷◌, All, Option, Some, None, Result, Ok, Err, IfSome, ap, sym, refl, arith, get_or, is_some, length, map, subst, if◌then◌else◌}
 use Rattle.std.specs.List.Sorted.{IsNonDecreasingBy}
 use Rattle.std.specs.Result.{IsErrAnd}
 use Rattle.std.proofs.lemmas.List.{get_or-map, length-map}
 use Rattle.std.proofs.lemmas.List.Elements.{All-cons, All-head, All-map, All-nil, All-tail}
 use Rattle.list_laws.specs.Options.{or_zero}
-use Rattle.draw_stream.specs.Plans.{PlanValue, tiles_on}
+use Rattle.draw_stream.specs.Plans.{tiles_on}
 use Rattle.draw_stream.specs.declared.attempt.Attempt.{Attempt}
 use Rattle.tile_map.specs.Plane.{MapValue}
 use Rattle.plane_acts.specs.Acts.{IsActOn}
-use Rattle.plane_acts.specs.Schedules.{AreActsOn, IsSchedule, ScheduleValue}
+use Rattle.plane_acts.specs.Schedules.{ScheduleValue}
 use Rattle.plane_acts.specs.declared.act.Act.{Act}
 use Rattle.plane_acts.specs.declared.act.Act.TheVariants.{Clear, Put, Erase, Flip, Attempts}
 use Rattle.plane_acts.specs.declared.schedule.Every.{Every}
 use Rattle.plane_acts.specs.declared.schedule.Once.{Once}
 use Rattle.world_text.proofs.Prints.{named_prints, type_bound}
 use Rattle.world_text.specs.Atoms.{RawAtom}
-use Rattle.world_text.specs.Drafts.{DraftValue, IsDraft, IsRawAtom}
+use Rattle.world_text.specs.Drafts.{DraftValue, IsRawAtom}
 use Rattle.world_text.specs.Named.{IsNameFault, WorldValue, name_fault as atoms_fault, placed_atom, plan_by, type_of, unless as world_unless, world_of, world_with_names}
-use Rattle.world_text.specs.Printed.{IsPrintable}
 use Rattle.world_text.specs.Reading.{IsFault, fault_of}
 use Rattle.world_text.specs.declared.fault.WorldFault.{WorldFault}
 use Rattle.world_text.specs.declared.kind.Kind.{Kind}
 use Rattle.world_text.specs.declared.kind.Kind.TheVariants.{Start}
 use Rattle.world_text.specs.declared.world.Placed.{Placed}
-use Rattle.chain_text.specs.Chain.{ChainValue, IsChain, IsChainAct, IsKnownAtom, IsPlacedIn, PutsKnown}
-use Rattle.chain_text.specs.Drafts.{ChainDraft, IsChainDraft, IsFew, IsNumberedAct, IsRawAct, IsUnnamed, is_plane, missing}
+use Rattle.chain_text.specs.Chain.{ChainValue, IsChain, IsChainAct, IsPlacedIn, PutsKnown}
+use Rattle.chain_text.specs.Drafts.{ChainDraft, IsChainDraft, IsNumberedAct, IsRawAct, IsUnnamed, is_plane, missing}
 use Rattle.chain_text.specs.Named.{FitsAtom, IfNamed, act_of, acts_fault, chain_of, chain_with_names, every_of, is_named, name_fault, once_of, or_later, origin_of, unless}
 use Rattle.chain_text.specs.Values.{Names}
 use Rattle.chain_text.specs.declared.chain.Chain.{Chain}

@@ -18,7 +18,7 @@ use Rattle.world_text.specs.declared.kind.Kind.TheVariants.{Start, Attempts as A
 use Rattle.window_sites.specs.declared.window.TheConstants.{MOST_COLUMNS}
 use Rattle.chain_text.specs.Line.{Area, ActLine, clear, put, erase, flip, attempts, ChainLine, header, plain, legs, first, journal, print, every, act}
 use Rattle.chain_text.specs.declared.chain.Journal.{Journal}
-use Rattle.chain_text.specs.declared.chain.Journal.TheVariants.{Whole, Short, Counts}
+use Rattle.chain_text.specs.declared.chain.Journal.TheVariants.{Whole, Counts}
 use Rattle.chain_text.specs.declared.raw_act.NumberedAct.{NumberedAct}
 use Rattle.chain_text.specs.declared.raw_act.RawAct.{RawAct}
 use Rattle.chain_text.specs.declared.raw_act.RawAct.TheVariants.{Known, Named}

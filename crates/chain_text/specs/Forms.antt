@@ -4,7 +4,7 @@ use Rattle.std.specs.List.{list_all}
 use Rattle.text_lines.specs.Fields.{fields, is_digit, worth}
 use Rattle.text_lines.specs.Forms.{with, take_number, one_field, one_number}
 use Rattle.world_text.specs.Forms.{name_state, form}
-use Rattle.world_text.specs.Line.{header as world_header, tiles, size, off, seed, attempts as world_attempts, try, atom, order_seed, order, Line}
+use Rattle.world_text.specs.Line.{header as world_header, try, order_seed, order, Line}
 use Rattle.plane_acts.specs.declared.chance.TheConstants.{BILLION}
 use Rattle.chain_text.specs.Line.{Area, ActLine, clear, put, erase, flip, attempts, ChainLine, header, plain, legs, first, journal, print, every, act}
 use Rattle.chain_text.specs.declared.chain.Journal.TheVariants.{Whole, Short, Counts}

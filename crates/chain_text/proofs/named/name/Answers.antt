@@ -1,6 +1,5 @@
-use Rattle.std.proofs.Common.{ℕ, ◌≡◌, ◌≤◌, ◌*◌, ◌∙◌, List, [], All, ap, sym, subst, map, None, Ok}
+use Rattle.std.proofs.Common.{◌≡◌, ◌≤◌, ◌*◌, ◌∙◌, List, [], All, ap, sym, subst, map, None, Ok}
 use Rattle.std.specs.List.Sorted.{IsNonDecreasingBy}
-use Rattle.plane_acts.specs.Schedules.{ScheduleValue}
 use Rattle.plane_acts.specs.declared.schedule.Every.{Every}
 use Rattle.plane_acts.specs.declared.schedule.Once.{Once}
 use Rattle.world_text.specs.Drafts.{DraftValue, missing as world_missing}

@@ -1,6 +1,6 @@
 use Rattle.std.proofs.Common.{ℕ, ◌≡◌, List, [], Option, Some, None, refl, subst}
 use denote.Ref.{Bor}
-use Rattle.text_lines.specs.Fields.{fields, fields_left}
+use Rattle.text_lines.specs.Fields.{fields_left}
 use Rattle.text_lines.specs.Forms.{with}
 use Rattle.text_lines.proofs.Cuts.{some_field}
 use Rattle.chain_text.specs.Forms.{alone, one_area, take_area}
