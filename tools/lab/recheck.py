@@ -1,6 +1,6 @@
 """Judges a report by a second reader, which shares no code with the program (docs/recheck.md).
 
-It reads the element files and the world anew, by the pages of docs/ alone, makes each event of the report by the
+It reads the element files and the world anew, by the pages of docs/, makes each event of the report by the
 meaning of its element's source, and writes what `feast audit` writes: `yes`, or the first thing that is wrong. With
 --step it writes the stepped report of the world itself. Refusals are those of the program, with the same statuses.
 It runs under PyPy (pypy3), where that is there.
