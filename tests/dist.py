@@ -158,11 +158,12 @@ class Gate(Repository):
             self.file(f"tests/{name}.py", f"import sys\nprint('{name}', *sys.argv[1:])\nsys.exit('fail' in sys.argv)\n")
         untried, built = "proofs: not tried here (./test all)\n", self.top / BUILT.program
         left_out = built.with_name("left_out.json")
-        for words, status, out in (
+        calls: list[tuple[list[str], int, str]] = [
             ([], 0, f"driver\n{untried}"), (["quick"], 0, f"driver\n{untried}"),
             (["quick", "lab", "-k", "film"], 0, f"driver lab -k film\n{untried}"), (["quick", "fail"], 1, f"driver fail\n{untried}"),
             (["every"], 2, ""), (["all"], 1, f"driver --program {built} --left-out {left_out}\n"),
-        ):
+        ]
+        for words, status, out in calls:
             done = self.call("test", *words)
             self.assertEqual((done.returncode, done.stdout), (status, out), done.stderr)
         self.call("tools/dist")

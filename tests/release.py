@@ -337,7 +337,7 @@ class Real(Repository):
         self.assertEqual(told[1:], self.used("./feast", "--version").splitlines()[1:])
         self.assertEqual(told[2], "kit kit")
         tools = sorted(path.name for path in (self.made / "tools").iterdir())
-        self.assertEqual(tools, ["feast_lab", "help.txt", "lab", "proved", "pyproject.toml", "work"])
+        self.assertEqual(tools, ["feast_lab", "help.txt", "lab", "proved", "pyproject.toml", "recheck", "work"])
         self.used("./lab", "film", walk[0], "report", "-o", "walk.html", walk[1])
         self.assertIn("<html", (self.room / "work" / "walk.html").read_text())
 

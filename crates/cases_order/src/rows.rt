@@ -220,7 +220,11 @@ fn ends_so<R: Threads + Sync, B: Behave + Copy + Drop>(
 #[test]
 fn two_tiles_come_to_their_border(rt: HostRuntime) -> Result<(), Fail> {
     for row in &OF_TWO {
-        assert!(rt; ends_so(&rt, rt.alloc(), PAIR, row, Walker)?, "{}", row.shows);
+        assert!(rt;
+            ends_so(&rt, rt.alloc(), PAIR, row, Walker)?,
+            "{}",
+            row.shows
+        );
     }
     Ok(())
 }
@@ -228,7 +232,11 @@ fn two_tiles_come_to_their_border(rt: HostRuntime) -> Result<(), Fail> {
 #[test]
 fn four_tiles_come_to_their_corner(rt: HostRuntime) -> Result<(), Fail> {
     for row in &OF_FOUR {
-        assert!(rt; ends_so(&rt, rt.alloc(), CORNER, row, Turner)?, "{}", row.shows);
+        assert!(rt;
+            ends_so(&rt, rt.alloc(), CORNER, row, Turner)?,
+            "{}",
+            row.shows
+        );
     }
     Ok(())
 }

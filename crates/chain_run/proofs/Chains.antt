@@ -11,23 +11,23 @@ use Rattle.chain_run.specs.Course.{items_from, played}
 use Rattle.chain_run.specs.Legs.{AreLegs, Leg, grid_after}
 
 pub chain_course : (c : ChainValue) (meaning : WindowValue → ℕ → WindowValue) (legs : List Leg) → AreLegsOf c meaning legs → grid_after (first_grid c) legs ≡ played (making c meaning) (first_grid c) (items_from c.first legs)
-chain_course c meaning legs h = one_course (making c meaning) c.first (first_grid c) legs h.legs
+chain_course c meaning legs h = one_course (making c meaning) c.first (first_grid c) legs h.follow
 
 module _ (c : ChainValue) (meaning : WindowValue → ℕ → WindowValue) (front back : List Leg) (atoms : List Placed) (few : length front ≤ c.legs) (goes_on : start_grid c.plane atoms ≡ grid_after (first_grid c) front) where
   chain_cut : AreLegsOf c meaning (front ++ back) → AreLegsOfBoth c meaning front back atoms
   chain_cut h =
-      let parts = cut (making c meaning) c.first (first_grid c) front back h.legs in (
-        record { count = refl; legs = parts.0 },
+      let parts = cut (making c meaning) c.first (first_grid c) front back h.follow in (
+        record { count = refl; follow = parts.0 },
         record {
           count = omega (arith, few, h.count, length-append front back);
-          legs = subst (λ (g : GridValue). AreLegs (making c meaning) (c.first + length front) g back) (sym goes_on) parts.1;
+          follow = subst (λ (g : GridValue). AreLegs (making c meaning) (c.first + length front) g back) (sym goes_on) parts.1;
         },
       )
 
   chain_join : AreLegsOfBoth c meaning front back atoms → AreLegsOf c meaning (front ++ back)
   chain_join h = record {
     count = omega (arith, few, h.1.count, length-append front back);
-    legs = join (making c meaning) c.first (first_grid c) front back (h.0.legs, subst (λ (g : GridValue). AreLegs (making c meaning) (c.first + length front) g back) goes_on h.1.legs);
+    follow = join (making c meaning) c.first (first_grid c) front back (h.0.follow, subst (λ (g : GridValue). AreLegs (making c meaning) (c.first + length front) g back) goes_on h.1.follow);
   }
 
   pub chain_cut_and_join : IsChainCut c meaning front back atoms

@@ -27,7 +27,7 @@ first_grid c = start_grid c.plane c.atoms
 -- the legs of a chain, as many as it says, from the number that it says on
 pub record AreLegsOf (c : ChainValue) (meaning : WindowValue → ℕ → WindowValue) (legs : List Leg) : Type 0 where
   pub count : length legs ≡ c.legs
-  pub legs : AreLegs (making c meaning) c.first (first_grid c) legs
+  pub follow : AreLegs (making c meaning) c.first (first_grid c) legs
 
 -- the grid that the legs of a chain leave is the one to which their course leads from the chain's atoms
 abbrev pub ChainsHaveOneCourse : Type 0

@@ -5,5 +5,5 @@ use Rattle.cell_grid.specs.Grid.{GridValue}
 use Rattle.report_text.specs.Report.{AreNamed}
 use Rattle.cases_order.proofs.rows.is_printed_as.Goals as goal
 
-pub write_report-requires-clause-named : goal.write_report-requires-clause-named
-write_report-requires-clause-named g c = subst (λ (v : GridValue). AreNamed [] v.atoms) (sym c.in_ok-grid.ensures) (All-replicate _ (8 * 8) empty_atom (inl refl))
+pub write_report-put-requires-clause-named : goal.write_report-put-requires-clause-named
+write_report-put-requires-clause-named g c = λ lives bounds. subst (λ (v : GridValue). AreNamed [] v.atoms) (sym c.in_ok-grid.ensures) (All-replicate _ (8 * 8) empty_atom (inl refl))
