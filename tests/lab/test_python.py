@@ -249,7 +249,7 @@ class Calls(LabCase):
         """Where no program is found, as after an installation, the error is one line that says what to do."""
         site = self.room / "site"
         shutil.copytree(TOP / "tools" / "feast_lab", site / "feast_lab")
-        for part in ("lab", "first_call"):
+        for part in ("lab", "proved"):
             shutil.copytree(TOP / "tools" / part, site / "feast_lab" / "parts_of_the_lab" / part)
         script = ("import feast_lab\n"
                   "for program in (None, 'nowhere', '.'):\n"
