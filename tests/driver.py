@@ -14,6 +14,7 @@ The parts, in the order in which they are begun:
   errors      the examples of docs/errors.md
   audits      audits of the reports of the cases
   recheck     the second reader of tools/recheck, against tables, cases and the program
+  drawn       a thousand drawn cases, asked of the program and of the second reader
   edits       each crate has its edits that the check must refuse, each can be applied, and they show its public calls
   sources     what scripts find in the sources: answers of NoMemory, libraries, statements, clauses, limits
   release     tools/release, and the released folder used without the kit
@@ -82,6 +83,7 @@ PARTS = {
     "errors": Part("errors.py", aside=True),
     "audits": Part("audits.py", aside=True),
     "recheck": Part("second_reader.py", pieces=4),
+    "drawn": Part("drawn.py", pieces=4),
     "edits": Part("edits.py", wants_program=False),
     "sources": Part("sources.py", wants_program=False, aside=True),
     "release": Part("release.py", aside=True),

@@ -25,12 +25,13 @@ TOP = Path(__file__).resolve().parent.parent
 TYPED: dict[str, list[str]] = {
     "tools/pictures": ["tools"],
     "tests/lab": ["tools", "tests"],
-    "tests": ["tools", "tests/tables", "tests/hostile"],
+    "tests": ["tools", "tests/tables", "tests/hostile", "tests/drawn"],
     "tests/tables": ["tools", "tests"],
     "tests/hostile": ["tools", "tests"],
+    "tests/drawn": ["tools", "tests"],
     "tests/models": ["tests"],
     "tests/fakes": [],
-    "bench": ["tools", "tests", "tests/tables", "tests/hostile"],
+    "bench": ["tools", "tests", "tests/tables", "tests/hostile", "tests/drawn"],
     "editors": [],
 }
 # What mypy keeps from one folder for the next: what it knows of the standard library.

@@ -1,0 +1,91 @@
+"""Broken texts: a token of an element file, or a field of a world or of a report, changed, dropped or doubled."""
+from __future__ import annotations
+
+import re
+
+from chance import Chance
+
+TOKEN = re.compile(r"\s+|[A-Za-z_][A-Za-z0-9_]*|[0-9]\w*|<<=|>>=|[=!<>]=|&&|\|\||<<|>>|\+\+|--|[-+*/%&|^]=|//.*|.", re.S)
+# What takes the place of a token.
+OTHERS = (
+    "{ } ( ) [ ] ; : , . = == != < <= > >= + - * / % & | ^ ~ ! && || << >> ++ -- += -= *= /= %= &= |= ^= <<= >>= "
+    "element quark ulam use typedef constant if else while for return break continue is as self true false instanceof "
+    "virtual Int Unsigned Bits Bool Unary Atom Void EventWindow Random Empty Int(1) Int(65) Unsigned(0) Bits(64) Bool(1) "
+    "Unary(64) swap isLive isEmpty create oneIn behave x X 0 1 2 3u 41 64 65 72 2147483648 4294967295 4294967296 0x 0b 1x "
+    "/* // @ # \" \\ \x80 \x00"
+).split(" ")
+NUMBERS = "0 1 2 3 7 8 9 16 63 64 65 255 256 1000000 1000001 4294967295 4294967296 18446744073709551615 18446744073709551616 " \
+    "99999999999999999999 100000000000000000000 01 -1 +1 1.0 a x ffffffffffffffff 0000000000000000 000000000000000000 " \
+    "7fffffffffffffffff 800000000000000000 FFFFFFFFFFFFFFFF"
+WORDS = "feast tiles size off seed attempts try atom order atoms journal abandoned A E1".split() + NUMBERS.split()
+
+
+def broken_element(chance: Chance, text: str) -> str:
+    """An element file with another token, without one, with one twice, or with two changed for one another."""
+    tokens = TOKEN.findall(text)
+    places = [place for place, token in enumerate(tokens) if not token.isspace()]
+    for _ in range(chance.one_of([1, 1, 1, 2])):
+        place, drawn = chance.one_of(places), chance.below(10)
+        if drawn < 4:
+            tokens[place] = chance.one_of([chance.one_of(OTHERS), tokens[chance.one_of(places)]])
+        elif drawn < 6:
+            tokens[place] = ""
+        elif drawn < 8:
+            tokens[place] += " " + tokens[place]
+        elif drawn < 9:
+            other = chance.one_of(places)
+            tokens[place], tokens[other] = tokens[other], tokens[place]
+        else:
+            tokens[place] += " " + chance.one_of(OTHERS)
+    return "".join(tokens)
+
+
+def like(chance: Chance, word: str) -> str:
+    """Another word in place of a field: one near it, or any."""
+    if word.isdigit() and chance.happens(0.6):
+        return str(max(int(word) + chance.one_of([-2, -1, 1, 1, 2]), 0))
+    if word and chance.happens(0.3):
+        place = chance.below(len(word))
+        return word[:place] + chance.one_of(list("0123456789abcfAZz_ ")) + word[place + 1 :]
+    return chance.one_of(WORDS)
+
+
+def broken_fields(chance: Chance, line: str) -> str:
+    """A line with another field, without one, or with one twice."""
+    fields = line.split(" ")
+    place, drawn = chance.below(len(fields)), chance.below(10)
+    if drawn < 7:
+        fields[place] = like(chance, fields[place])
+    elif drawn < 8:
+        del fields[place]
+    elif drawn < 9:
+        fields.insert(place, fields[place])
+    else:
+        return chance.one_of([line + " ", " " + line, line + "\r", line + "\t", line.replace(" ", "  ", 1), "", "#" + line])
+    return " ".join(fields)
+
+
+def broken_lines(chance: Chance, text: str) -> str:
+    """A world or a report with another line, without one, with one twice, with two changed for one another, or cut short.
+    """
+    lines = text.split("\n")
+    kinds = sorted({line.split(" ")[0] for line in lines})
+    kind = chance.one_of(kinds)
+    places = [place for place, line in enumerate(lines) if line.split(" ")[0] == kind or chance.happens(0.05)]
+    place, drawn = chance.one_of(places), chance.below(20)
+    if drawn < 12:
+        lines[place] = broken_fields(chance, lines[place])
+    elif drawn < 14:
+        del lines[place]
+    elif drawn < 15:
+        lines.insert(place, lines[place])
+    elif drawn < 17:
+        other = chance.below(len(lines))
+        lines[place], lines[other] = lines[other], lines[place]
+    elif drawn < 18:
+        del lines[place:]
+    elif drawn < 19:
+        return "\n".join(lines)[: -chance.between(1, 3)]
+    else:
+        lines.insert(place, chance.one_of(["", "# drawn", "order 0", "off 0", "seed 1", "attempts 1", "feast 1", "\r"]))
+    return "\n".join(lines)
