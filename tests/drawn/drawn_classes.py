@@ -2,7 +2,7 @@
 from __future__ import annotations
 
 import itertools
-from typing import Iterator, Optional
+from typing import Optional
 
 from bodies import Bodies
 from chance import Chance
@@ -193,9 +193,8 @@ class Classes:
 def element_files(chance: Chance) -> tuple[list[str], list[str]]:
     """The texts of some element files, and the names of their elements."""
     classes = Classes(chance)
-    texts: Iterator[str] = iter(classes.draw())
+    texts = classes.draw()
     names = [it.name for it in classes.elements]
-    front = chance.one_of(["", "", "ulam 5;\n", "// drawn\n", "use EventWindow;\n"])
-    if chance.happens(0.8):
-        return [front + "".join(texts)], names
-    return [front + next(texts), "".join(texts)], names
+    texts[0] = chance.one_of(["", "", "ulam 5;\n", "// drawn\n", "use EventWindow;\n"]) + texts[0]
+    cut = chance.below(len(texts)) if chance.happens(0.3) else 0
+    return ["".join(part) for part in (texts[:cut], texts[cut:]) if part], names

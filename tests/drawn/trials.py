@@ -3,6 +3,7 @@ from __future__ import annotations
 
 import contextlib
 import os
+import re
 from pathlib import Path
 from typing import Iterator, Optional, Union
 
@@ -92,7 +93,8 @@ class Case:
         elif drawn == 1:
             self.asked("audit", "w", "r", *self.files)
         else:
-            count = next(int(line[8:]) for line in report.split(b"\n") if line.startswith(b"journal "))
+            said = re.search(rb"^journal ([0-9]{1,6})$", report, re.M)
+            count = int(said[1]) if said else 1
             first = self.chance.one_of([0, 1, count, count + 1, self.chance.between(0, count + 1)])
             self.asked("rewind", "w", "r", str(first), *self.files)
 

@@ -107,7 +107,7 @@ class Expressions:
             text = f"({t} if ({t} := {made.text}) >= {least} else {least})"
         else:
             text = f"({t} if {least} <= ({t} := {made.text}) <= {most} else {least} if {t} < {least} else {most})"
-        return Made(text, max(made.least, least), min(made.greatest, most))
+        return Made(text, min(max(made.least, least), most), max(min(made.greatest, most), least))
 
     def prefix(self, it: trees.Prefix) -> Made:
         """`-e`, `!e` and `~e`"""
