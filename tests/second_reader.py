@@ -48,6 +48,7 @@ MEANINGS = [
     ("Unary(5) u; Unsigned(3) n; Bits(6) b;", "u += 2; if (u == 5) u = 1; n = n + u; b = (b << 1) ^ ~(Bits(6)) n; b >>= n;"),
     ("Unsigned(3) a[4]; Unsigned(3) i; Int(50) w;", "a[i] += 2; i = i + 1; w = w * 3 - (Int) i; if (i > 3) i = (Unsigned) (w % 4);"),
     ("Unary(8) u;", "u = u - 4294967167u + 33037u; u -= 3;"),
+    ("Unsigned(9) n;", "ew[random.create(1)] = self; n = random.create(500); if (ew[random.create(1)] is A) n = random.create(500);"),
     ("Int(40) w;", "w = w * -3 + 70000; Int k = (Int) w; w = w - k % 7;"),
     ("Unsigned(6) n;", "n = down(n + 3); } Unsigned down(Unsigned k) { if (k > 1) return down(k - 1) + 1; return k;"),
     ("Unsigned(9) n;", "for (Unsigned i = 0; i < n * 100; i++) { if (i % 2 == 1) continue; if (i > 1200) break; } if (n != 10) n += 3;"),

@@ -200,9 +200,9 @@ class Expressions:
         return f"part({bits.local}, {i}, {length})" if bits.local else f"item(p, {self.kind}, {i}, {length})"
 
     def site(self, i: Made) -> str:
-        """The place of a site."""
-        if i.least == i.greatest and 0 <= i.least < len(self.offsets):
-            offset = self.offsets[i.least]
+        """The place of a site. What is sure to be one number may still draw or call, so only a number itself is left out."""
+        if i.text.isdigit() and int(i.text) < len(self.offsets):
+            offset = self.offsets[int(i.text)]
             return f"p + {offset}" if offset > 0 else f"p - {-offset}" if offset else "p"
         return f"p + {'offsets' if 0 <= i.least and i.greatest < len(self.offsets) else 'sites'}[{i.text}]"
 
