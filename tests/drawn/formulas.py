@@ -98,7 +98,7 @@ class Formulas:
         """A number as it is written."""
         value = self.chance.near_end(self.chance.one_of([2, 3, 4, 6, 8, 16, 31]))
         if family == "Bool":
-            return Formula(f"(Bool) {value}", OPERAND)
+            return Formula(f"(Bool) {'- ' if value % 2 else ''}{value}")
         if family == "Int":
             return Formula(self.digits(value), plain=True)
         if may_be_plain and self.chance.happens(0.6):
