@@ -85,7 +85,7 @@ class Classes:
             part = self.chance.one_of(parts)
             shape.parts.append((self.name("p"), part))
             return f"{part.name} {shape.parts[-1][0]};", part.bits
-        name = self.chance.one_of(["Int", "Unsigned", "Bits", "Bool", "Unary", "Int", "Unsigned"])
+        name = self.chance.one_of(["Int", "Unsigned", "Bits", "Bool", "Unary", "Int", "Unsigned", "Bits"])
         least = 2 if name == "Int" else 1
         if room < least:
             name, least = "Bool", 1

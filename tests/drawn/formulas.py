@@ -180,12 +180,12 @@ class Formulas:
 
     def masked(self, _: str, scope: Scope, depth: int) -> Formula:
         """An expression of Bits."""
-        sign = self.chance.one_of("& | ^ & | ^ << >> << ~".split())
+        sign = self.chance.one_of("& | ^ << >> << ~".split())
         if sign == "~":
             return Formula(f"~{self.of_family('Bits', scope, depth).at_least(OPERAND)}")
         if sign in ("<<", ">>"):
             left = self.of_family("Bits", scope, depth)
-            amount = self.chance.one_of([0, 1, 2, 7, 8, 31, 32, 63, 64, 65])
+            amount = self.chance.one_of([0, 1, 1, 2, 2, 3, 7, 8, 31, 32, 63, 64, 65])
             right = Formula(str(amount)) if self.chance.happens(0.6) else self.of_family("Unsigned", scope, depth, True)
             return self.joined(sign, left, right)
         left, right = self.two("Bits", scope, depth)
@@ -199,7 +199,7 @@ class Formulas:
             sign = self.chance.one_of("< <= > >= == !=".split())
             return self.joined(sign, *self.two(self.chance.one_of(["Int", "Unsigned"]), scope, depth))
         if drawn < 5:
-            return self.joined(self.chance.one_of(["==", "!="]), *self.two(self.chance.one_of(["Bits", "Bool"]), scope, depth))
+            return self.joined(self.chance.one_of(["==", "!="]), *self.two(self.chance.one_of(["Bits", "Bits", "Bool"]), scope, depth))
         if drawn < 7:
             left, right = (self.of_family("Bool", scope, depth) for _ in "12")
             return self.joined(self.chance.one_of(["&&", "||"]), left, right)
