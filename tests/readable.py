@@ -44,6 +44,7 @@ EXCEPTIONS = {
     ("ulam_meaning", "laws"): "a list of laws",
     ("ulam_names", "branch"): "the parts of an `if`",
     ("ulam_names", "declare"): "the parts of a declaration",
+    ("world_runs", "threaded_from"): "all that a threaded run starts from",
     ("world_text", "put_atom"): "the parts of a line",
 }
 

@@ -7,7 +7,8 @@ from typing import Optional
 from bodies import Bodies
 from chance import Chance
 from formulas import Scope
-from shapes import QUARK_BITS, STATE_BITS, Constant, Function, Member, Number, Shape
+from recheck.limits import STATE_BITS
+from shapes import QUARK_BITS, Constant, Function, Member, Number, Shape
 
 BUILT_IN = "Int Unsigned Bits Bool Unary".split()
 

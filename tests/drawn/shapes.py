@@ -4,7 +4,7 @@ from __future__ import annotations
 from dataclasses import dataclass, field
 from typing import Optional
 
-STATE_BITS, QUARK_BITS = 71, 32
+QUARK_BITS = 32
 
 
 @dataclass(frozen=True)
