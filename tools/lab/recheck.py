@@ -29,4 +29,4 @@ def run(arguments: argparse.Namespace) -> int:
         raise LabError("recheck: it needs a world, a report and element files; with --step a world and element files")
     words = ["--call", "step" if arguments.step else "audit", *arguments.files]
     sys.stdout.flush()
-    return subprocess.run([shutil.which("pypy3") or sys.executable, str(FOLDER), *words], check=False).returncode
+    return subprocess.run([shutil.which("pypy3") or sys.executable, "-B", str(FOLDER), *words], check=False).returncode
