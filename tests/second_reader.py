@@ -159,7 +159,7 @@ def case_fault(program: Path, case: Path) -> Optional[str]:
             (copy / os.fsdecode(words[1])).write_bytes(shortened(copy / os.fsdecode(words[1])))
         files = {file.name: file.read_bytes() for file in copy.iterdir() if file.is_file()}
         if not is_short(list(files.values())):
-            raise unittest.SkipTest("it takes long")
+            raise unittest.SkipTest("the second reader takes long for it")
         done = call(program, words, copy)
         wanted = done.returncode, done.stdout
         with inside(copy):

@@ -7,6 +7,7 @@ SCHEDULER = "which tool spreads a sweep over machines is the user's choice, and 
 # The reasons as the tests say them, each with why it is no hindrance.
 MAY = {
     "it writes no report": "a case that is refused, or does something else than a run, has no report to audit",
+    "the second reader takes long for it": "a case with long files or many attempts, to whose answer the program is held by another part",
     "parallel is not on this machine": SCHEDULER,
     "snakemake is not on this machine": SCHEDULER,
     "slurmctld is not on this machine": SCHEDULER,
