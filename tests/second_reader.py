@@ -65,23 +65,12 @@ FIELDS = {
 }
 
 
-@contextlib.contextmanager
-def inside(folder: Path) -> Iterator[None]:
-    """In another folder for a while."""
-    before = os.getcwd()
-    os.chdir(folder)
-    try:
-        yield
-    finally:
-        os.chdir(before)
-
-
 def answered(words: Sequence[bytes], files: Mapping[str, File]) -> tuple[int, bytes]:
     """What the second reader answers in a new folder that has these files alone."""
     with tempfile.TemporaryDirectory() as folder:
         for name, content in files.items():
             (Path(folder) / name).write_bytes(bytes_of(content))
-        with inside(Path(folder)):
+        with contextlib.chdir(folder):
             return answer(words)
 
 
@@ -119,7 +108,7 @@ def meaning_fault(program: Path, members: str, body: str) -> Optional[str]:
     """What differs in the reports of a world in which an element acts often."""
     text = f"element A {{ EventWindow ew; Random random; {members} Void behave() {{ {body} }} }}"
     atoms = "".join(f"atom {x} {y} A {(x * 77 + y) << 58:018x}\n" for x in range(8) for y in range(8))
-    with tempfile.TemporaryDirectory() as folder, inside(Path(folder)):
+    with tempfile.TemporaryDirectory() as folder, contextlib.chdir(folder):
         Path("a").write_text(text)
         Path("w").write_text(f"feast 1\ntiles 1 1\nsize 8 8\nseed 3\nattempts {ATTEMPTS}\n{atoms}")
         found, done = answer([b"step", b"w", b"a"]), call(program, ["step", "w", "a"])
@@ -162,7 +151,7 @@ def case_fault(program: Path, case: Path) -> Optional[str]:
             raise unittest.SkipTest("the second reader takes long for it")
         done = call(program, words, copy)
         wanted = done.returncode, done.stdout
-        with inside(copy):
+        with contextlib.chdir(copy):
             if not is_known(words, files) and done.returncode == 0:
                 (copy / "the report").write_bytes(done.stdout)
                 words, wanted = [b"audit", words[1], b"the report", *words[2:]], (0, b"yes\n")
@@ -200,7 +189,7 @@ class Planted:
 def planted_fault(program: Path, part: str, field: int) -> Optional[str]:
     """What differs in the judgements of a report with another last byte in a field of one line. It is no report then,
     unless the attempt that an abandoned one names may be another too."""
-    with tempfile.TemporaryDirectory() as folder, inside(Path(folder)):
+    with tempfile.TemporaryDirectory() as folder, contextlib.chdir(folder):
         planted = Planted(program)
         words = ((line, planted.lines[line].split()[field]) for line in planted.some_of(part))
         faults = (planted.fault(line, field, other_end(word, 1 if line % 2 else 9), part == "abandoned") for line, word in words)
@@ -209,7 +198,7 @@ def planted_fault(program: Path, part: str, field: int) -> Optional[str]:
 
 def named_fault(program: Path) -> Optional[str]:
     """What differs in the judgements of a report in which an abandoned attempt names another attempt of the holder."""
-    with tempfile.TemporaryDirectory() as folder, inside(Path(folder)):
+    with tempfile.TemporaryDirectory() as folder, contextlib.chdir(folder):
         planted = Planted(program)
         named = ((line, int(planted.lines[line].split()[6])) for line in planted.some_of("abandoned"))
         faults = (planted.fault(line, 6, str(max(it + by, 0)), True) for line, it in named for by in (-9, -6, -4, -3, -2, 2, 4, 9))

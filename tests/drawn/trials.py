@@ -5,7 +5,7 @@ import contextlib
 import os
 import re
 from pathlib import Path
-from typing import Iterator, Optional, Union
+from typing import Optional, Union
 
 from breaks import broken_element, broken_lines
 from chance import Chance
@@ -16,17 +16,6 @@ from recheck.main import answer
 
 # How many cases `./test` tries, and how many `./test long`.
 QUICK, LONG = 1000, 100_000
-
-
-@contextlib.contextmanager
-def inside(folder: Path) -> Iterator[None]:
-    """In another folder for a while."""
-    before = os.getcwd()
-    os.chdir(folder)
-    try:
-        yield
-    finally:
-        os.chdir(before)
 
 
 class Differs(Exception):
@@ -149,7 +138,7 @@ def difference(wanted: Answer, found: Answer) -> str:
 def case_fault(program: Path, seed: int, folder: Path) -> Optional[str]:
     """How the two answers of a case differ, if they do. The folder has what they were asked about afterwards."""
     folder.mkdir(parents=True, exist_ok=True)
-    with inside(folder):
+    with contextlib.chdir(folder):
         try:
             Case(program, seed).trial()
         except Differs as differs:
