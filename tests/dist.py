@@ -191,7 +191,7 @@ class Taken(Repository):
 
     def taken(self) -> str:
         """The place of the program that ./feast runs and the lab calls, by what it writes; empty if there is none."""
-        finder = "import sys; sys.path.insert(0, 'top/tools'); from lab.program import Program; print(Program.find().path)"
+        finder = "import sys; sys.path.insert(0, 'top/tools'); from lab.base.program import Program; print(Program.find().path)"
         for by_lab_first in (False, True):
             calls = [self.by_lab(finder), self.by_launcher()] if by_lab_first else [self.by_launcher(), self.by_lab(finder)]
             self.assertEqual(calls[0], calls[1])

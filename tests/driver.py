@@ -53,8 +53,8 @@ sys.dont_write_bytecode = True
 sys.path[0:0] = [str(TOP / "tools"), str(HERE)]
 
 from checks import Check, Choice, Outcome, reasons, tried  # noqa: E402
-from lab.errors import LabError  # noqa: E402
-from lab.program import Program  # noqa: E402
+from lab.base.errors import LabError  # noqa: E402
+from lab.base.program import Program  # noqa: E402
 
 
 @dataclass(frozen=True)

@@ -12,7 +12,7 @@ from typing import Union
 from bench import DONE, MEMORY, SINK, UNREADABLE, Answer, Bench, tool
 from edge_texts import LONG_REPORT, LONG_WORLD, unreadable
 from jobs import WALKER, File, Job, lay
-from lab.limits import ELEMENT_LIMIT
+from lab.base.limits import ELEMENT_LIMIT
 
 
 @dataclass(frozen=True)

@@ -6,7 +6,7 @@ from typing import Optional
 
 from bench import BAD_ELEMENT, DONE, Answer, Bench, Limits
 from jobs import STATE, ZEROS
-from lab.limits import MOST_DEPTH
+from lab.base.limits import MOST_DEPTH
 
 TOKEN = re.compile(rb"[A-Za-z0-9_]+|<<=|>>=|==|!=|<=|>=|&&|\|\||<<|>>|\+\+|--|[-+*/%&|^]=|\S")
 PLAIN = {b";", b",", b".", b"(", b")", b"[", b"]", b"{", b"}"}

@@ -4,7 +4,7 @@ from __future__ import annotations
 from typing import Iterator, NamedTuple
 
 from jobs import STATE, ZEROS
-from lab.limits import MOST_ACROSS, MOST_CLASSES, MOST_COLUMNS, MOST_SIDE
+from lab.base.limits import MOST_ACROSS, MOST_CLASSES, MOST_COLUMNS, MOST_SIDE
 
 
 def fill(head: bytes, piece: bytes, total: int, last: bytes = b"") -> Iterator[bytes]:

@@ -8,9 +8,9 @@ from pathlib import Path
 
 from calls import EXAMPLES
 
-from lab.film_source import Source
-from lab.program import Program
-from lab.retraced import Retraced
+from lab.base.program import Program
+from lab.film.recording import Source
+from lab.trace.retraced import Retraced
 
 # The element files of the worlds for which they aren't one file of the same name.
 FILES = {"swapline": ["swapline", "stone"], "horde": ["horde", "regulator"], "garden": ["sower", "stone"],

@@ -5,11 +5,11 @@ import films
 from calls import EXAMPLES, LabCase, here
 from test_chain import ChainCase, contents, lines_of
 
-from lab.acts import Act
-from lab.layout import Layout
-from lab.limits import MOST_ATTEMPTS
-from lab.program import Program
-from lab.world import World
+from lab.base.limits import MOST_ATTEMPTS
+from lab.base.program import Program
+from lab.chain.acts import Act
+from lab.formats.layout import Layout
+from lab.formats.world import World
 
 ELEMENTS = """element Cell { Int(5) level; Unary(4) ones; Bool on; EventWindow ew; Void behave() { } }
 element Wall { EventWindow ew; Void behave() { } }

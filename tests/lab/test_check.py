@@ -6,8 +6,8 @@ from pathlib import Path
 
 from calls import EXAMPLES, TOP, LabCase, feast, here, program
 
-from lab.limits import ELEMENT_LIMIT
-from lab.rule_pages import codes, element_rules, ulam_rules
+from lab.base.limits import ELEMENT_LIMIT
+from lab.check.pages import codes, element_rules, ulam_rules
 
 EMPTY = "Void behave() { }"
 

@@ -11,9 +11,9 @@ from unittest import TestCase
 import films
 from calls import EXAMPLES, LabCase, feast
 
-from lab.drift import drifts, greatest, of_legs, plans
-from lab.main import main
-from lab.world import World
+from lab.command.main import main
+from lab.formats.world import World
+from lab.measure.drift import drifts, greatest, of_legs, plans
 
 # the plans of the tiles, the tile of each event, and how far each tile was ahead of the slowest
 CASES: list[tuple[list[int], str, list[str]]] = [

@@ -8,8 +8,8 @@ from again import Tally, example_runs, shortened
 from calls import LabCase, Word, feast, here, lab, program
 from drawn_elements import Drawer, world
 
-from lab.program import Program
-from lab.stack_code import codes
+from lab.base.program import Program
+from lab.machine.code import codes
 
 DRAWN_FILES = 100  # of two elements each
 # A body of `behave` for each cause, what stands before it, and the function in which it fails, with its line.

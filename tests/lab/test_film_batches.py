@@ -5,7 +5,7 @@ from unittest.mock import patch
 
 from calls import EXAMPLES, LabCase, here
 
-from lab import film_batches
+from lab.film import batches
 
 FRAIL = "element Frail { EventWindow ew; Random random; Void behave() { ew.isEmpty(random.create(4) + 38); } }\n"
 
@@ -20,7 +20,7 @@ class SideBySide(LabCase):
     def made(self, name: str, least: int, *options: str) -> tuple[str, str]:
         """The page and the table of the chain's film, made in batches of so many events."""
         page, table = self.room / f"{name}.html", self.room / f"{name}.csv"
-        with patch.object(film_batches, "LEAST", least), patch.object(os, "sched_getaffinity", return_value={0, 1, 2}):
+        with patch.object(batches, "LEAST", least), patch.object(os, "sched_getaffinity", return_value={0, 1, 2}):
             done = here("film", self.chain, "-o", page, "--table", table, *options)
         self.assertEqual((done.status, done.said), (0, ""))
         return page.read_text(), table.read_text()
@@ -51,5 +51,5 @@ class SideBySide(LabCase):
         (self.chain / "0003.kept.gz").write_bytes((self.chain / "0002.kept.gz").read_bytes())
         page = Path(self.room / "film.html")
         for least in (1, 10 ** 9):
-            with patch.object(film_batches, "LEAST", least):
+            with patch.object(batches, "LEAST", least):
                 self.refused("0003.kept.gz: it is damaged, or its world is another", "film", self.chain, "-o", page)

@@ -10,7 +10,7 @@ from pathlib import Path
 
 from calls import EXAMPLES, TOP, LabCase, program
 
-from lab.program import QUIET
+from lab.base.program import QUIET
 from proved.record import LAUNCHER, Record, digest_of
 from proved.sources import digest
 

@@ -8,14 +8,14 @@ from pathlib import Path
 from typing import Any, cast
 
 from calls import EXAMPLES, Word, program
-from lab.chain_folder import Folder
-from lab.chain_start import going_on
-from lab.errors import LabError
-from lab.legs import Maker
-from lab.live_chain import Live
-from lab.live_server import Server
-from lab.live_session import ENDED, Session
-from lab.program import Program
+from lab.base.errors import LabError
+from lab.base.program import Program
+from lab.chain.folder import Folder
+from lab.chain.legs import Maker
+from lab.chain.start import going_on
+from lab.live.chain import Live
+from lab.live.server import Server
+from lab.live.session import ENDED, Session
 from living import Living
 from test_live import LiveCase
 

@@ -3,10 +3,10 @@ import gzip
 
 from calls import EXAMPLES, LabCase, Word, feast
 
-from lab.errors import LabError
-from lab.outcome import Outcome, counts
-from lab.report import Abandoned, Record, Report
-from lab.world import Placed
+from lab.base.errors import LabError
+from lab.formats.outcome import Outcome, counts
+from lab.formats.report import Abandoned, Record, Report
+from lab.formats.world import Placed
 
 SMALL = """feast 1
 atoms 2

@@ -9,9 +9,9 @@ from typing import Any
 
 from calls import EXAMPLES, TOP
 
-from lab.ulam_parser import SyntaxFault, parse
-from lab.ulam_tokens import Source, Token, tokens
-from lab.ulam_tree import Block
+from lab.ulam.parser import SyntaxFault, parse
+from lab.ulam.tokens import Source, Token, tokens
+from lab.ulam.tree import Block
 
 SUBJECTS = ("grammar", "readings", "names", "classes", "stages", "typing_rules", "codes", "number_ends", "arithmetic",
             "events")

@@ -6,8 +6,8 @@ from pathlib import Path
 
 from calls import EXAMPLES, TOP, LabCase, Word, around, lab, program
 
-from lab.limits import MOST_COLUMNS
-from lab.main import VERBS
+from lab.base.limits import MOST_COLUMNS
+from lab.command.main import VERBS
 from proved.record import LAUNCHER, Record, digest_of
 from proved.sources import digest
 

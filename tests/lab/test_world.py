@@ -1,8 +1,8 @@
 """Worlds are read as the program reads them, and written so that it reads them again."""
 from calls import EXAMPLES, LabCase, feast
 
-from lab.errors import LabError
-from lab.world import Attempt, Placed, World
+from lab.base.errors import LabError
+from lab.formats.world import Attempt, Placed, World
 
 FULL = """feast 2
 # a comment

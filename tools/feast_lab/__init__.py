@@ -9,7 +9,7 @@ raises LabError, whose text is one line that names the file and what is wrong.
 """
 from feast_lab import parts  # finds the lab's modules, so it comes first
 
-from lab.errors import LabError
+from lab.base.errors import LabError
 from feast_lab.chains import Chain
 from feast_lab.films import Film
 from feast_lab.moments import Moment

@@ -5,7 +5,7 @@ from collections.abc import Mapping, Sequence
 from types import MappingProxyType
 from typing import Any
 
-from lab.errors import LabError
+from lab.base.errors import LabError
 
 
 def extra(name: str) -> Any:

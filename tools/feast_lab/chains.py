@@ -4,12 +4,12 @@ from pathlib import Path
 from tempfile import TemporaryDirectory
 from typing import Any
 
-from lab.chain_audit import Chain as Audited
-from lab.chain_folder import Folder
-from lab.errors import LabError
-from lab.film_source import Source, chain_source
-from lab.kept import read_report
-from lab.measures import Measure, measures_of
+from lab.base.errors import LabError
+from lab.chain.audit import Chain as Audited
+from lab.chain.folder import Folder
+from lab.film.recording import Source, chain_source
+from lab.formats.kept import read_report
+from lab.measure.measures import Measure, measures_of
 
 from feast_lab import arrays, sources
 from feast_lab.films import Film

@@ -5,13 +5,13 @@ from dataclasses import dataclass
 from pathlib import Path
 from typing import Any
 
-from lab.errors import LabError
-from lab.figure import plane_figure
-from lab.layout import Layout
-from lab.marks import marks_in
-from lab.report import placed
-from lab.tints import by_sources, tints
-from lab.world import Placed, World
+from lab.base.errors import LabError
+from lab.formats.layout import Layout
+from lab.formats.report import placed
+from lab.formats.world import Placed, World
+from lab.pictures.figure import plane_figure
+from lab.pictures.marks import marks_in
+from lab.pictures.tints import by_sources, tints
 
 from feast_lab import arrays
 

@@ -6,21 +6,21 @@ from pathlib import Path
 from tempfile import TemporaryDirectory
 from typing import Any
 
-from lab.chain_rule import Rule
-from lab.constants import constants, with_values
-from lab.drift import greatest, plans, tiles_of
-from lab.errors import LabError
-from lab.files import read_byte_text, read_comments, write_new, write_whole
-from lab.film_source import Source
-from lab.frames import Reported
-from lab.kept import read_report
-from lab.layout import Layout
-from lab.outcome import ABANDONED, JOURNAL, Outcome, atom_lines
-from lab.program import INSTEAD, Program
-from lab.report import Reader
-from lab.seeds import MODULUS
-from lab.starting import drawn_world
-from lab.world import World
+from lab.base.errors import LabError
+from lab.base.files import read_byte_text, read_comments, write_new, write_whole
+from lab.base.program import INSTEAD, Program
+from lab.base.seeds import MODULUS
+from lab.chain.rule import Rule
+from lab.film.frames import Reported
+from lab.film.recording import Source
+from lab.formats.constants import constants, with_values
+from lab.formats.kept import read_report
+from lab.formats.layout import Layout
+from lab.formats.outcome import ABANDONED, JOURNAL, Outcome, atom_lines
+from lab.formats.report import Reader
+from lab.formats.world import World
+from lab.measure.drift import greatest, plans, tiles_of
+from lab.worlds.starting import drawn_world
 
 from feast_lab import arrays, sources
 from feast_lab.films import Film

@@ -5,14 +5,14 @@ from pathlib import Path
 from tempfile import TemporaryDirectory
 from typing import Any
 
-from lab.errors import LabError
-from lab.film import page_of, refuse_frames
-from lab.film_measures import Curves
-from lab.film_source import Source
-from lab.frames import Frame, frames
-from lab.program import Program
-from lab.replays import Plane
-from lab.tints import tinted
+from lab.base.errors import LabError
+from lab.base.program import Program
+from lab.command.film import page_of, refuse_frames
+from lab.film.curves import Curves
+from lab.film.frames import Frame, frames
+from lab.film.recording import Source
+from lab.film.replays import Plane
+from lab.pictures.tints import tinted
 
 from feast_lab import arrays
 from feast_lab.films import Film

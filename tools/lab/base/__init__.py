@@ -1,0 +1,1 @@
+"""What all of the lab stands on: errors, files, limits, seeds, progress, and calls of the program."""

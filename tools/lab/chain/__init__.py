@@ -1,0 +1,1 @@
+"""Runs as long as you like, as chains of calls that a folder keeps."""

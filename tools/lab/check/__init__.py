@@ -1,0 +1,1 @@
+"""What is said of refusals beside their line."""

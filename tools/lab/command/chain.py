@@ -1,0 +1,150 @@
+"""A run as long as you like, as a chain of calls.
+
+A call makes at most 1,000,000 attempts over all tiles. In a chain each call, a leg, begins with the
+atoms that the leg before left, and makes the attempts that WORLD says (`attempts K` for each tile). DIR
+then has, for each leg NNNN from 0001 on,
+
+  NNNN.world      the world of the leg
+  NNNN.atoms      the atoms at its end, as `replay` writes them (0000.atoms: at the start)
+  NNNN.kept.gz    its report, with --keep reports (`./lab unpack NNNN.kept.gz` writes it in full)
+  acts.txt        what was done before legs by --at, one act in a line
+  course.csv      for each leg: its attempts, events and abandoned attempts; aeps, the events per live
+                  site in all legs so far; how many atoms of each element it left; and what --count, --mean,
+                  --sum, --min and --max measure of them. Leg 0 is the start.
+
+and copies of the world and the element files, with which the legs are run. A chain that was stopped, at
+whatever moment, goes on if the same command is given again, also with more legs. Another world, other
+elements or other options are refused. New measures are added to the course, for the legs that are done too.
+With --until the chain is over once the rule holds at the end of a leg, or at the start.
+
+Seeds: leg k takes the seed S + (k - 1) * (tiles + 1), modulo 2^64, where S is that of --seed or else
+of WORLD. Tile t draws from the seed + t, and the order of a stepped leg is drawn from the seed + tiles,
+so no two legs and no two tiles share a seed. An `order` line of WORLD is not used.
+
+--at says what is done to the atoms before a leg, or how many attempts a leg makes. It may be given several times,
+and to a chain that was begun already, for a leg that is still to come. The forms are
+
+  LEG:clear:X,Y,W,H                    no atoms are left in W by H sites, from column X and row Y on
+  LEG:put:Element:member=V,..:X,Y,W,H  each of these sites has an atom whose members have these values, and 0 for
+                                       all others (or LEG:put:Element:X,Y,W,H)
+  LEG:erase:P:X,Y,W,H                  each atom there vanishes with the probability P
+  LEG:flip:P:X,Y,W,H                   of each atom there, with the probability P, one bit of its members is changed
+  LEG:attempts:K                       in this leg alone each tile makes K attempts
+
+A site is X,Y, and several places have `+` between them: 3,4+0,8,16,2. Random numbers come from the seed of the
+leg, or from one that the act has (LEG:flip:0.1:0,0,8,8:seed=7). Acts of one leg are done in their order.
+
+With --failures each event is made again in Python, which takes much longer than the run, and the course has a column
+`failed`: how many events of each leg did (`./lab failures DIR` says which, and why). Once it is there it is filled for
+further legs too. Of legs that are done it takes the reports. If the program makes an event otherwise than the lab, the
+status is 1.
+
+--audit audits the report of each leg, and tests that each leg begins with exactly what the acts before it make of
+what the one before left. It writes `yes` or `no` with the first leg at fault, and ends with 0 or 1.
+With --leg K it does so for leg K alone, or for the start if K is 0. If it says `yes` for the start and for each leg,
+it does for the whole chain.
+
+--from OLD K begins the chain DIR as a branch of another: its legs up to K are copies of the legs of OLD, and it goes on
+from there with the same world, elements and seeds, and with acts of its own. So the two differ by the acts alone.
+"""
+import argparse
+from pathlib import Path
+
+from ..base.errors import LabError
+from ..base.files import read_text
+from ..base.program import Program
+from ..base.progress import Progress
+from ..chain.audit import audit
+from ..chain.branch import begin_branch
+from ..chain.columns import with_failures, with_measures
+from ..chain.folder import Course, Folder
+from ..chain.keeper import Keeper
+from ..chain.legs import Maker
+from ..chain.start import Start
+from ..formats.layout import Layout
+from ..measure.measures import add_measure_options, measures_of
+from ..measure.until import FORM, Until
+from ..trace.retraced import status_of
+from .alone import Alone
+
+
+def add_arguments(parser: argparse.ArgumentParser) -> None:
+    """The words of the verb."""
+    auditing = parser.add_argument("--audit", metavar="DIR", type=Path, action=Alone,
+                                   help="audit the chain of DIR, and do nothing else")
+    parser.add_argument("--leg", metavar="K", type=int, help="with --audit: audit this leg alone")
+    branching = parser.add_argument("--from", metavar=("OLD", "K"), dest="origin", nargs=2, action=Alone,
+                                    help="begin with the legs up to K of another chain")
+    folder = parser.add_argument("folder", metavar="DIR", type=Path,
+                                 help="the folder of the chain; it is made if it isn't there")
+    legs = parser.add_argument("--legs", metavar="N", type=int, required=True, help="the number of legs in all")
+    parser.add_argument("--step", action="store_true", help="stepped legs, on one thread; else each tile has a thread")
+    parser.add_argument("--seed", metavar="S", type=int, help="the seed of the first leg")
+    parser.add_argument("--keep", choices=["none", "reports"], default="none", help="keep the report of each leg")
+    parser.add_argument("--at", metavar="LEG:ACT", action="append", default=[],
+                        help="what is done to the atoms before a leg, as above; may be given several times")
+    parser.add_argument("--until", metavar="RULE", help=f"stop after the first leg at whose end this holds: {FORM}")
+    add_measure_options(parser)
+    parser.add_argument("--failures", action="store_true", help="find the events that failed, for a column of the course")
+    inputs = [parser.add_argument("world", metavar="WORLD", type=Path, help="the world to begin with"),
+              parser.add_argument("files", metavar="FILE", type=Path, nargs="+", help="the element files")]
+    setattr(auditing, "needless", [folder, legs, *inputs])
+    setattr(branching, "needless", inputs)
+
+
+def run(arguments: argparse.Namespace) -> int:
+    """Begins a chain, or goes on with it; or audits one."""
+    if arguments.audit is not None:
+        return audit(Folder(arguments.audit), arguments.leg)
+    if arguments.leg is not None:
+        raise LabError(f"--leg {arguments.leg}: it belongs to --audit DIR")
+    if arguments.origin is not None:
+        begin_branch(arguments)
+    return status_of(lambda: make(arguments))
+
+
+def make(arguments: argparse.Namespace) -> None:
+    """Begins a chain, or goes on with it, and tells how far it has come."""
+    course = made(arguments, Progress(max(arguments.legs, 1)), is_lasting=True)
+    print(course.summary(arguments.folder))
+    for text in arguments.at:
+        leg = int(text.partition(":")[0])
+        if leg >= len(course.legs):
+            print(f"--at {text}: still to come; the chain has {len(course.legs) - 1} legs so far, and --legs {leg} or more does it")
+
+
+def made(arguments: argparse.Namespace, progress: Progress, is_lasting: bool) -> Course:
+    """Begins a chain, or goes on with it, until it has its legs; gives back its course. If it is lasting, what a leg needs
+    has come down to the disk before the leg counts as done."""
+    if arguments.legs < 1:
+        raise LabError(f"--legs {arguments.legs}: a chain has at least one leg")
+    program, folder = Program.find(), Folder(arguments.folder, is_lasting)
+    start = Start.of(program, arguments.world, arguments.files, arguments.step, arguments.seed, arguments.keep, arguments.at)
+    layout = Layout.of(program, arguments.files)
+    measures_of(arguments.measures, layout)
+    until = Until.of(arguments.until, layout) if arguments.until is not None else None
+    folder.make()
+    with folder.held():
+        maker, course = start.opened(folder)
+        maker = with_measures(maker, course, arguments.measures)
+        if arguments.failures:
+            maker = with_failures(maker, course)
+        go(maker, course, arguments.legs, until, progress)
+    return course
+
+
+def go(maker: Maker, course: Course, legs: int, until: Until | None, progress: Progress) -> None:
+    """Makes the legs that are still to be made, or those up to the first at whose end the rule holds."""
+    progress.start_done = len(course.legs) - 1
+    with Keeper(maker.folder, maker.rule.world) as keeper:
+        keeper.keep_all(len(course.legs) - 1)
+        for number in range(len(course.legs), legs + 1):
+            if until is not None and until.holds(read_text(maker.folder.atoms(number - 1))):
+                break
+            progress.at(number - 1, f"leg {number} of {legs}")
+            atoms = maker.atoms_before(number)
+            report = maker.report(number, atoms)
+            course.legs.append(maker.written(number, report, maker.failed(atoms, report)))
+            maker.folder.write_course(course)
+            keeper.keep(number)
+    progress.end()

@@ -1,0 +1,180 @@
+"""Runs over values of constants, over numbers of the world, and over seeds, as CSV.
+
+Each --set names what is set, and its values, such as A,B,C or a range FIRST:LAST:STEP:
+  Element.constant  a constant of a class; the run has copies of the files with its value
+  attempts, size, tiles
+                    the numbers of the world's lines of these names; sizes are written as 16x16
+  fill.Element      a density: an empty site gets an atom of the element with this probability
+  NAME              if an act of --at has it in braces, as in --at '5:erase:{p}:0,0,8,8' --set p=0.1,0.2
+Every combination of the values is run R times, with the same seeds: S, S + L * (tiles + 1),
+S + 2 * L * (tiles + 1) .. modulo 2^64, where S is that of --seed or else of WORLD, and L is the number of legs.
+So no two tiles of two repetitions share a seed.
+
+A run is a single call, or with --legs a chain of that many, to which --at, --until and the measures belong as
+they do for the verb chain. A row has the values, the seed, with --legs the leg, the events and the abandoned
+attempts, aeps (the events per live site), how many atoms of each element there are at the end, and the
+measures. The rows come in the order of the values; with --legs each leg has one, and leg 0 is the start.
+
+Without a folder the rows go to standard output. --into DIR keeps the runs in a folder instead: sweep.json says
+how they are made, sweep.csv has the rows of all, and runs/NNNNN what each came to; with --keep reports that
+is a whole chain. A sweep that was stopped goes on if the same command is given again. For many machines,
+--plan DIR makes the folder alone, --task DIR I makes run I of it, and --gather DIR the table. A task may be made
+twice, at once or later: a run comes to its place whole, and the first one stays.
+
+--audit DIR audits each run, and tests that each is what the plan says and that the table has their rows. It
+writes `yes` or `no` with the first run at fault, and ends with 0 or 1.
+
+Runs on one thread are made side by side, one for each processor. Runs with a thread for each tile are
+made one after another. --jobs says otherwise.
+"""
+import argparse
+import csv
+import os
+import sys
+import tempfile
+import threading
+from collections.abc import Iterator, Sequence
+from concurrent.futures import ThreadPoolExecutor
+from pathlib import Path
+
+from ..base.errors import LabError
+from ..base.files import read_byte_text, read_bytes
+from ..base.inputs import digest
+from ..base.program import Program
+from ..base.progress import Progress
+from ..formats.layout import Layout
+from ..measure.measures import add_measure_options, measures_of
+from ..measure.until import FORM as RULE_FORM
+from ..measure.until import Until
+from ..sweep.check import check_runs
+from ..sweep.gather import audit, gather
+from ..sweep.plan import FORM, MOST_RUNS, Plan, Run, Sweep, write_plan
+from ..sweep.run import make_run, rows_of
+from ..sweep.values import settings
+from ..worlds.starting import drawn_world, first_seed
+from .alone import Alone
+
+
+def add_arguments(parser: argparse.ArgumentParser) -> None:
+    """The words of the verb."""
+    where = parser.add_mutually_exclusive_group()
+    where.add_argument("--into", metavar="DIR", type=Path, help="make the runs in a folder, or go on with them")
+    where.add_argument("--plan", metavar="DIR", type=Path, help="make the folder of a sweep, and no run")
+    alone = [
+        where.add_argument("--task", metavar=("DIR", "I"), nargs=2, action=Alone, help="make run I of a sweep that is planned"),
+        where.add_argument("--gather", metavar="DIR", type=Path, action=Alone, help="write sweep.csv, and name the runs that are missing"),
+        where.add_argument("--audit", metavar="DIR", type=Path, action=Alone, help="audit the runs of a sweep"),
+    ]
+    parser.add_argument("--set", metavar="NAME=A,B,..", dest="sets", action="append", default=[],
+                        help="values of what is set; may be given for several names")
+    parser.add_argument("--repeat", metavar="R", type=int, default=1, help="how many runs each combination has")
+    parser.add_argument("--legs", metavar="N", type=int, help="chains of N legs, with a row for each leg")
+    parser.add_argument("--step", action="store_true", help="stepped runs, on one thread; else each tile has a thread")
+    parser.add_argument("--seed", metavar="S", type=int, help="the first seed")
+    parser.add_argument("--at", metavar="LEG:ACT", action="append", default=[], help="do something to the plane before a leg, as in the verb chain")
+    parser.add_argument("--until", metavar="RULE", help=f"end a run after the first leg at whose end this holds: {RULE_FORM}")
+    parser.add_argument("--keep", choices=["none", "reports"], default="none", help="keep each run as a chain with its reports")
+    parser.add_argument("--jobs", metavar="N", type=int, help="how many runs are made side by side")
+    add_measure_options(parser)
+    needless = [parser.add_argument("world", metavar="WORLD", type=Path, help="a world that draws its attempts"),
+                parser.add_argument("files", metavar="FILE", type=Path, nargs="+", help="the element files")]
+    for action in alone:
+        setattr(action, "needless", needless)
+
+
+def run(arguments: argparse.Namespace) -> int:
+    """Does what is asked for with a sweep that is planned, or plans one and maybe makes its runs."""
+    if arguments.task is not None:
+        return task(Sweep(Path(arguments.task[0])), arguments.task[1])
+    if arguments.gather is not None:
+        return gather(Sweep(arguments.gather))
+    if arguments.audit is not None:
+        return audit(Sweep(arguments.audit))
+    folder = arguments.into or arguments.plan
+    if folder is None and arguments.keep != "none":
+        raise LabError(f"--keep {arguments.keep}: it takes a folder: --into DIR or --plan DIR")
+    plan = plan_of_words(arguments)
+    with tempfile.TemporaryDirectory() as room:
+        sweep = Sweep(folder or Path(room) / "sweep", is_lasting=folder is not None)
+        if not sweep.is_planned:
+            check_runs(plan, arguments.world, arguments.files)
+        write_plan(sweep, plan, arguments.world, arguments.files)
+        if arguments.plan is not None:
+            print(f"{sweep.path}: {plan.runs} runs, 1-{plan.runs}")
+            return 0
+        jobs = jobs_of(arguments, sweep)
+        if arguments.into is None:
+            write_rows(sweep, jobs)
+            return 0
+        for _ in made(sweep, sweep.missing(), jobs):
+            pass
+        return gather(sweep)
+
+
+def plan_of_words(arguments: argparse.Namespace) -> Plan:
+    """The plan that the words ask for; refuses what no run could do."""
+    for option in ("repeat", "legs", "jobs"):
+        value = getattr(arguments, option)
+        if value is not None and value < 1:
+            raise LabError(f"--{option} {value}: it has to be at least 1")
+    program, world = Program.find(), drawn_world(arguments.world)
+    layout = Layout.of(program, arguments.files)
+    measures = [measure.name for measure in measures_of(arguments.measures, layout)]
+    if arguments.until is not None:
+        Until.of(arguments.until, layout)
+    texts = [read_byte_text(file) for file in arguments.files]
+    sets = settings(arguments.sets, texts, layout.elements, arguments.at)
+    plan = Plan(FORM, digest(read_bytes(arguments.world)), [digest(text.encode("latin-1")) for text in texts], sets, arguments.repeat,
+                first_seed(world, arguments.seed), arguments.legs, arguments.step, arguments.keep, arguments.at, arguments.until,
+                measures, [*layout.elements, *measures])
+    if plan.runs > MOST_RUNS:
+        raise LabError(f"the sweep would have {plan.runs} runs, at most {MOST_RUNS}")
+    return plan
+
+
+def task(sweep: Sweep, text: str) -> int:
+    """Makes one run."""
+    if not text.isdecimal():
+        raise LabError(f"--task {sweep.path} {text}: {text} is no number of a run")
+    wanted = sweep.run(int(text))
+    was_there = sweep.folder(wanted.number).is_dir()
+    make_run(sweep, wanted, threading.Event())
+    print(f"{sweep.folder(wanted.number)}: {'was there' if was_there else 'made'}")
+    return 0
+
+
+def jobs_of(arguments: argparse.Namespace, sweep: Sweep) -> int:
+    """How many runs are made side by side."""
+    is_one_thread = arguments.step or sweep.most_tiles == 1
+    jobs: int = arguments.jobs or (len(os.sched_getaffinity(0)) if is_one_thread else 1)
+    return jobs
+
+
+def write_rows(sweep: Sweep, jobs: int) -> None:
+    """Makes all runs, and writes the rows of each to standard output as soon as those before it are there."""
+    out = csv.writer(sys.stdout, lineterminator="\n")
+    out.writerow(sweep.plan.head)
+    for done in made(sweep, range(1, sweep.plan.runs + 1), jobs):
+        out.writerows(rows_of(sweep, done))
+        sys.stdout.flush()
+
+
+def made(sweep: Sweep, numbers: Sequence[int], jobs: int) -> Iterator[Run]:
+    """Makes runs, and gives back each when it and those before it are over."""
+    progress, stopped = Progress(max(len(numbers), 1)), threading.Event()
+
+    def make(number: int) -> Run:
+        """Makes one run."""
+        wanted = sweep.run(number)
+        make_run(sweep, wanted, stopped)
+        return wanted
+
+    pool = ThreadPoolExecutor(jobs)
+    try:
+        for done, wanted in enumerate(pool.map(make, numbers), 1):
+            yield wanted
+            progress.at(done, f"run {done} of {len(numbers)}")
+    finally:
+        stopped.set()
+        pool.shutdown(cancel_futures=True)
+        progress.end()

@@ -1,0 +1,1 @@
+"""The moments of runs and chains, played again, and films of them."""

@@ -1,0 +1,169 @@
+"""The frames of a long chain, made side by side: each process plays some legs that follow one another.
+
+A leg's world has the plane with which it begins, so legs can be played in any order. What comes out is, frame for frame,
+what playing them one after another gives.
+"""
+import os
+import pickle
+import subprocess
+import sys
+import tempfile
+from collections.abc import Collection, Iterable, Iterator, Sequence
+from concurrent.futures import ThreadPoolExecutor
+from dataclasses import dataclass
+from functools import partial
+from pathlib import Path
+
+from ..base.errors import LabError
+from ..base.program import Program
+from ..formats.world import World
+from ..machine.code import codes
+from ..machine.windows import Disagreement
+from .failure_plane import FailurePlane
+from .frames import Frame, Leg, Reported, frames
+from .replays import Plane
+
+LEAST = 200_000  # events of a batch: with fewer it would hardly be worth a process
+MOST_JOBS = 4  # side by side; each has the text of a report in memory
+OWN = __name__  # of this module, from the top package on
+TOOLS = Path(__file__).resolve().parents[OWN.count(".")]
+CALL = f"import sys; sys.path.insert(0, sys.argv[1]); from {OWN} import serve; serve()"
+
+
+@dataclass(frozen=True)
+class Batch:
+    """What a process is to play: legs, and the moments of frames, counted in events of these legs.
+
+    With a world it looks for events that failed.
+    """
+
+    program: Program
+    files: Sequence[Path]
+    world: World | None
+    legs: Sequence[Leg]
+    moments: Collection[int]
+
+    @property
+    def events(self) -> int:
+        """How many events the legs have."""
+        return sum(leg.events for leg in self.legs)
+
+
+@dataclass(frozen=True)
+class Played:
+    """The frames of a batch, of which the first has the whole plane, and what there is behind the last."""
+
+    frames: list[Frame]
+    rest: Frame
+
+
+def side_by_side(plane: Plane, legs: Sequence[Leg], moments: Collection[int]) -> Iterator[Frame]:
+    """The frames of legs, as `frames` has them; of a long chain they are made by several processes."""
+    found = batches(plane, legs, moments)
+    jobs = min(len(found), len(os.sched_getaffinity(0)), MOST_JOBS)
+    if jobs < 2 or not all(isinstance(leg, Reported) for leg in legs):
+        yield from frames(plane, legs, moments)
+        return
+    pool, running = ThreadPoolExecutor(jobs), list[subprocess.Popen[bytes]]()
+    try:
+        yield from joined(found, pool.map(partial(played_apart, running), found))
+    finally:  # if the film is stopped, or a batch can't be played, the others end too
+        pool.shutdown(wait=False, cancel_futures=True)
+        for process in running:
+            process.kill()
+        pool.shutdown()
+
+
+def batches(plane: Plane, legs: Sequence[Leg], moments: Collection[int]) -> list[Batch]:
+    """Legs in batches of so many events at least."""
+    world = plane.maker.world if isinstance(plane, FailurePlane) else None
+    found: list[Batch] = []
+    begin = 0
+    taken: list[Leg] = []
+    for leg in legs:
+        taken.append(leg)
+        events = sum(it.events for it in taken)
+        if events >= LEAST or leg is legs[-1]:
+            own = {moment - begin for moment in moments if begin < moment <= begin + events}
+            found.append(Batch(plane.program, plane.files, world, taken, own))
+            begin, taken = begin + events, []
+    return found
+
+
+def played_apart(running: list["subprocess.Popen[bytes]"], batch: Batch) -> Played:
+    """Has a process of its own, which is put to those that run, play a batch."""
+    words = [sys.executable, "-B", "-c", CALL, str(TOOLS)]
+    with subprocess.Popen(words, stdin=subprocess.PIPE, stdout=subprocess.PIPE, stderr=subprocess.PIPE) as process:
+        running.append(process)
+        out, errors = process.communicate(pickle.dumps(batch))
+    if process.returncode != 0:
+        last = errors.decode(errors="replace").strip().rpartition("\n")[2]
+        raise LabError(f"{batch.legs[0].world}: the process that was to play it ended with status {process.returncode}: {last}")
+    found = pickle.loads(out)
+    if isinstance(found, Exception):
+        raise found
+    assert isinstance(found, Played)
+    return found
+
+
+def serve() -> None:
+    """Plays the batch of standard input; writes what it came to, or why it can't be played, to standard output."""
+    batch = pickle.load(sys.stdin.buffer)
+    try:
+        found: Played | Exception = played(batch)
+    except (LabError, Disagreement) as error:
+        found = error
+    sys.stdout.buffer.write(pickle.dumps(found))
+
+
+def played(batch: Batch) -> Played:
+    """Plays a batch."""
+    with tempfile.TemporaryDirectory() as room:
+        plane = Plane(batch.program, batch.files, Path(room))
+        if batch.world is not None:
+            plane = FailurePlane(batch.program, batch.files, Path(room), batch.world, codes(batch.program, batch.files))
+        found: list[Frame] = []
+        playing = frames(plane, batch.legs, batch.moments)
+        while True:
+            try:
+                found.append(next(playing))
+            except StopIteration as end:
+                return Played(found, end.value)
+
+
+def joined(parts: Iterable[Batch], results: Iterable[Played]) -> Iterator[Frame]:
+    """The frames of batches that follow one another; where a plane isn't the one that was left, that is a frame too."""
+    cells: dict[int, str] = {}  # the atoms
+    rest, done = Frame(), 0
+    for number, (batch, result) in enumerate(zip(parts, results, strict=True)):
+        first, *others = result.frames
+        begun = {site: "" for site in cells.keys() - first.changes.keys()}
+        begun |= {site: atom for site, atom in first.changes.items() if cells.get(site) != atom}
+        rest.changes |= begun
+        if number == 0 or begun:
+            rest.events = done
+            yield rest
+            rest = Frame()
+        cells = dict(first.changes)
+        for frame in others:
+            put(cells, frame)
+            yield both(rest, frame, done + frame.events)
+            rest = Frame()
+        put(cells, result.rest)
+        rest = both(rest, result.rest, 0)
+        done += batch.events
+
+
+def put(cells: dict[int, str], frame: Frame) -> None:
+    """Makes the atoms those after a frame."""
+    for site, atom in frame.changes.items():
+        if atom:
+            cells[site] = atom
+        else:
+            cells.pop(site, None)
+
+
+def both(before: Frame, after: Frame, events: int) -> Frame:
+    """What two frames have that follow one another, as one."""
+    return Frame(events, before.changes | after.changes, before.abandoned + after.abandoned, before.places + after.places,
+                 before.made + after.made, before.failed + after.failed)

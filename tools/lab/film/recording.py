@@ -1,0 +1,103 @@
+"""What a film is made of: a run with its report, or a chain."""
+from collections.abc import Sequence
+from dataclasses import dataclass
+from itertools import accumulate
+from operator import itemgetter
+from pathlib import Path
+
+from ..base.errors import LabError
+from ..base.program import Program
+from ..chain.folder import Folder
+from ..formats.layout import Layout
+from ..formats.report import Report
+from ..formats.world import World
+from .frames import Ended, Leg, Reported
+
+
+@dataclass(frozen=True)
+class Source:
+    """Runs that follow one another, with their elements. `acts` are what is done before legs, which count from 0.
+
+    `measures` are those of the course of a chain.
+    """
+
+    title: str
+    world: World
+    layout: Layout
+    files: Sequence[Path]
+    legs: Sequence[Leg]
+    acts: Sequence[tuple[int, str]] = ()
+    measures: Sequence[str] = ()
+
+    @staticmethod
+    def of(program: Program, words: Sequence[Path]) -> "Source":
+        """What the words name: a world, a report and element files, or a chain and, if they are given, element files."""
+        if words[0].is_dir():
+            return chain_source(program, words[0], words[1:])
+        if len(words) < 3:
+            missing = "a report and the element files" if len(words) == 1 else "the element files"
+            here = "" if words[0].exists() else f"{words[0]} is not there; "
+            raise LabError(f"{here}the words have to be WORLD REPORT FILE.., or the folder DIR of a chain; {missing} "
+                           f"should follow {words[-1]}")
+        world, path, *files = words
+        report = Report.read(path)
+        leg = Reported(world, len(report.journal), path, report)
+        return Source(world.name, World.read(world), Layout.of(program, files), files, [leg])
+
+    @property
+    def ends(self) -> list[int]:
+        """The start, and the moment at which each leg ends, in events over all legs."""
+        return list(accumulate((leg.events for leg in self.legs), initial=0))
+
+    @property
+    def act_moments(self) -> list[tuple[int, str]]:
+        """The moment of each act, and the act."""
+        ends = self.ends
+        return [(ends[leg], act) for leg, act in self.acts]
+
+    def moments(self, frames: int) -> set[int]:
+        """The moments of so many frames, evenly spaced, and those of acts."""
+        if any(isinstance(leg, Ended) for leg in self.legs):
+            known = self.ends
+            even = {known[at] for at in evenly(len(self.legs), frames)}
+        else:
+            even = set(evenly(self.ends[-1], frames))
+        return even | {moment for moment, _ in self.act_moments}
+
+    def leg_at(self, moment: int) -> tuple[Leg, int]:
+        """The leg in which a moment lies, and how many events of the leg are over then."""
+        ends = self.ends
+        number = next((at for at, end in enumerate(ends[1:]) if moment <= end), len(self.legs) - 1)
+        return self.legs[number], moment - ends[number]
+
+
+def evenly(whole: int, parts: int) -> list[int]:
+    """The start and the ends of so many parts of a number, as even as can be; fewer if it is small."""
+    return sorted({whole * part // parts for part in range(parts + 1)})
+
+
+def chain_source(program: Program, path: Path, files: Sequence[Path]) -> Source:
+    """The chain of a folder."""
+    folder = Folder(path)
+    begun = folder.begun()
+    world = World.read(folder.start)
+    layout = Layout.of(program, files or folder.files)
+    course = folder.course(layout.elements, world.sites)
+    rows = course.legs[1:]
+    if not rows:
+        raise LabError(f"{path}: the chain has no leg yet")
+    legs = [Reported(folder.world(row.number), row.events, folder.report(row.number)) if begun.keep == "reports" else
+            Ended(folder.world(row.number), row.events, folder.atoms(row.number), row.abandoned)
+            for row in rows]
+    acts = acts_by_leg(folder.act_texts(begun), len(legs))
+    return Source(path.resolve().name, world, layout, files or folder.files, legs, acts, course.measures)
+
+
+def acts_by_leg(texts: Sequence[str], legs: int) -> list[tuple[int, str]]:
+    """The acts on record before the legs there are, which count from 0; what only gives a leg its length is none."""
+    found = []
+    for text in texts:
+        leg, _, act = text.partition(":")
+        if not act.startswith("attempts:") and int(leg) <= legs:
+            found.append((int(leg) - 1, act))
+    return sorted(found, key=itemgetter(0))

@@ -1,0 +1,1 @@
+"""What the program reads and writes: worlds, reports, atoms and their members."""

@@ -1,0 +1,1 @@
+"""Warnings of element files that the program accepts."""

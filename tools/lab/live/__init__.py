@@ -1,0 +1,1 @@
+"""A chain at work, shown in a browser."""

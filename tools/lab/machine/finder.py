@@ -1,0 +1,39 @@
+"""The events of a leg that failed, found while its report is at hand."""
+from collections import Counter
+from collections.abc import Sequence
+from pathlib import Path
+
+from ..base.program import Program
+from ..formats.outcome import ABANDONED, JOURNAL, Outcome, atom_lines
+from ..formats.report import Record
+from ..formats.world import World
+from .code import codes
+from .maker import Maker
+from .windows import Disagreement
+
+
+class Finder:
+    """Makes the events of legs again, in Python, and finds those that failed."""
+
+    def __init__(self, program: Program, files: Sequence[Path], world: World) -> None:
+        self.maker = Maker(world, codes(program, files))
+
+    def failed(self, atoms: Sequence[str], report: bytes) -> Counter[int]:
+        """How many events of a leg that began with these atoms failed at each site, of the sites row by row.
+
+        Raises Disagreement if the lab comes to other atoms than the report.
+        """
+        self.maker.begin(atoms)
+        found: Counter[int] = Counter()
+        for line in journal_lines(report):
+            made = self.maker.make(0, Record.of(line))
+            if made is not None and made.ending.cause:
+                found[made.window.cells[0]] += 1
+        if self.maker.lines() != atom_lines(Outcome.of(report).atoms):
+            raise Disagreement("the lab comes to other atoms than the program, so it can't tell which events of the leg failed")
+        return found
+
+
+def journal_lines(report: bytes) -> list[str]:
+    """The lines of the events of a report."""
+    return report[report.index(JOURNAL) + 1:report.rindex(ABANDONED)].decode().splitlines()[1:]

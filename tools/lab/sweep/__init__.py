@@ -1,0 +1,1 @@
+"""Many runs over values and seeds."""

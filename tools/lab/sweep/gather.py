@@ -1,0 +1,99 @@
+"""What the runs of a sweep came to, in one table; and whether they are what the plan says."""
+import csv
+import io
+from collections.abc import Iterator, Sequence
+
+from ..base.errors import LabError
+from ..base.files import read_text, write_inside
+from ..base.locks import held
+from ..base.program import Program
+from ..base.progress import Progress
+from ..chain.audit import Chain
+from ..chain.folder import Folder
+from ..formats.layout import Layout
+from ..measure.until import Until
+from .plan import TABLE, Run, Sweep
+from .run import again, rows_of
+
+
+def gather(sweep: Sweep) -> int:
+    """Writes the table of the runs that are over, and names those that are missing; gives back 1 if there are some."""
+    runs = sweep.plan.runs
+    with held(sweep.path, "gathering this sweep"):
+        missing = sweep.missing()
+        write_inside(sweep.path / TABLE, table(sweep, sorted({*range(1, runs + 1)} - {*missing})))
+    print(f"{sweep.path / TABLE}: {runs - len(missing)} of {runs} runs")
+    if missing:
+        print(f"missing: {spans(missing)}", flush=True)
+    return 1 if missing else 0
+
+
+def table(sweep: Sweep, numbers: Sequence[int]) -> str:
+    """The rows of these runs as CSV, with the number of each run before them."""
+    text = io.StringIO()
+    out = csv.writer(text, lineterminator="\n")
+    out.writerow(["run", *sweep.plan.head])
+    for number in numbers:
+        out.writerows([number, *row] for row in rows_of(sweep, sweep.run(number)))
+    return text.getvalue()
+
+
+def spans(numbers: Sequence[int]) -> str:
+    """Numbers that rise, as `sbatch --array` takes them: 3,17-20."""
+    ends: list[list[int]] = []
+    for number in numbers:
+        if ends and number == ends[-1][1] + 1:
+            ends[-1][1] = number
+        else:
+            ends.append([number, number])
+    return ",".join(str(first) if first == last else f"{first}-{last}" for first, last in ends)
+
+
+def audit(sweep: Sweep) -> int:
+    """Writes whether a sweep is what its plan says, and gives back 0 if it is, else 1."""
+    if sweep.plan.keep != "reports":
+        raise LabError(f"{sweep.path}: the sweep can't be audited: it was planned without --keep reports")
+    missing = sweep.missing()
+    if missing:
+        raise LabError(f"{sweep.path}: the sweep can't be audited yet: it lacks the runs {spans(missing)}")
+    fault = next(faults(sweep), None)
+    print("yes" if fault is None else f"no {fault}", flush=True)
+    return 0 if fault is None else 1
+
+
+def faults(sweep: Sweep) -> Iterator[str]:
+    """What is wrong with a sweep: run by run, and then its table."""
+    program, runs = Program.find(), sweep.plan.runs
+    progress = Progress(runs)
+    for number in range(1, runs + 1):
+        progress.at(number - 1, f"run {number} of {runs}")
+        yield from (f"run {number}: {fault}" for fault in faults_of(program, sweep, sweep.run(number)))
+    progress.end()
+    if read_text(sweep.path / TABLE) != table(sweep, range(1, runs + 1)):
+        yield f"{TABLE}: its rows are not those of the runs"
+
+
+def faults_of(program: Program, sweep: Sweep, run: Run) -> Iterator[str]:
+    """What is wrong with a run: it isn't the chain that the plan says, or its chain isn't true."""
+    folder = Folder(sweep.folder(run.number))
+    rows_of(sweep, run)
+    chain = Chain.of(program, folder, folder.begun())
+    if not ends_as_planned(sweep, folder, chain):
+        yield "it has not the legs that the plan says"
+    try:
+        again(sweep, run)
+    except LabError as error:
+        yield f"it is not the chain that the plan says: {error}"
+    if folder.act_texts(chain.begun) != chain.begun.at:
+        yield "acts were done that the plan hasn't"
+    yield from chain.faults(range(len(chain.course.legs)))
+
+
+def ends_as_planned(sweep: Sweep, folder: Folder, chain: Chain) -> bool:
+    """Whether a run has all its legs, or else those up to the first at whose end the rule of --until holds."""
+    last, legs = len(chain.course.legs) - 1, sweep.plan.legs or 1
+    if sweep.plan.until is None:
+        return last == legs
+    until = Until.of(sweep.plan.until, Layout.of(chain.program, folder.files))
+    holds = [leg for leg in range(last + 1) if until.holds(read_text(folder.atoms(leg)))]
+    return holds == [last] or (last == legs and not holds)

@@ -1,0 +1,133 @@
+"""A run of a sweep: a chain of one or more legs, made apart and then put in its place whole."""
+import argparse
+import io
+import json
+import os
+import shutil
+import socket
+import tempfile
+import threading
+import uuid
+from collections.abc import Iterator
+from contextlib import contextmanager
+from pathlib import Path
+
+from ..base.errors import LabError
+from ..base.files import PART, cause, read_rows, read_text, sync, write_new
+from ..base.inputs import START, digest
+from ..base.progress import Progress
+from ..chain.folder import COLUMNS, COURSE
+from ..command import chain
+from ..measure.measures import WHOLE
+from .plan import Plan, Run, Sweep
+
+LABEL = "run.json"
+
+
+class Watched(Progress):
+    """Tells nothing of a run's legs, but ends the run between two of them once it is to stop."""
+
+    def __init__(self, stopped: threading.Event) -> None:
+        super().__init__(1, to=io.StringIO())
+        self.stopped = stopped
+
+    def at(self, done: float, leg: str) -> None:
+        """Ends the run if it is to stop."""
+        if self.stopped.is_set():
+            raise LabError("stopped")
+
+
+def make_run(sweep: Sweep, run: Run, stopped: threading.Event) -> None:
+    """Makes a run, if it isn't there yet. If another maker puts it in its place first, that one stays."""
+    if sweep.folder(run.number).is_dir():
+        return
+    with inputs(sweep, run) as (room, world, files):
+        chain.made(chain_words(sweep, run, room / "chain", world, files), Watched(stopped), is_lasting=False)
+        put_in_place(sweep, run, room / "chain")
+
+
+def again(sweep: Sweep, run: Run) -> None:
+    """Asks for a chain again that has all its legs: nothing is made. Raises LabError if it was begun with anything else."""
+    with inputs(sweep, run) as (_, world, files):
+        chain.made(chain_words(sweep, run, sweep.folder(run.number), world, files), Watched(threading.Event()), is_lasting=False)
+
+
+@contextmanager
+def inputs(sweep: Sweep, run: Run) -> Iterator[tuple[Path, Path, list[Path]]]:
+    """A folder on this machine, with the world and the element files of a run."""
+    with tempfile.TemporaryDirectory(prefix="feast-sweep-") as name:
+        room = Path(name)
+        world, files = room / START, sweep.with_plain_names(room)
+        write_new(world, sweep.world_of(run))
+        for file, data in zip(files, sweep.elements_of(run), strict=True):
+            write_new(file, data)
+        yield room, world, files
+
+
+def chain_words(sweep: Sweep, run: Run, folder: Path, world: Path, files: list[Path]) -> argparse.Namespace:
+    """What the verb chain is asked for."""
+    plan = sweep.plan
+    parser = argparse.ArgumentParser()
+    chain.add_arguments(parser)
+    words = [f"--legs={plan.legs or 1}", f"--seed={run.seed}", f"--keep={plan.keep}"]
+    words += ["--step"] if plan.step else []
+    words += [f"--until={plan.until}"] if plan.until is not None else []
+    words += [f"--at={act}" for act in sweep.acts_of(run)]
+    words += [f"--{match['kind']}={match['of']}" for match in map(WHOLE.fullmatch, plan.measures) if match is not None]
+    return parser.parse_args([*words, "--", str(folder), str(world), *map(str, files)])
+
+
+def label(plan: Plan, run: Run) -> str:
+    """What is kept beside a run: of which plan it is, and which of its runs."""
+    told = {"plan": digest(plan.text().encode()), "run": run.number, "values": run.values, "seed": run.seed}
+    return json.dumps(told, indent=2) + "\n"
+
+
+def put_in_place(sweep: Sweep, run: Run, made: Path) -> None:
+    """Copies what is kept of a run beside its place, down to the disk, and then puts it there by one rename."""
+    place = sweep.folder(run.number)
+    beside = place.with_name(f"{place.name}.{socket.gethostname()}.{os.getpid()}.{uuid.uuid4().hex[:8]}{PART}")
+    try:
+        try:
+            place.parent.mkdir(exist_ok=True)
+            sync(sweep.path)
+            if sweep.plan.keep == "none":
+                beside.mkdir()
+                shutil.copyfile(made / COURSE, beside / COURSE)
+            else:
+                shutil.copytree(made, beside, copy_function=shutil.copyfile)
+            (beside / LABEL).write_text(label(sweep.plan, run))
+            for path in [*beside.rglob("*"), beside]:
+                sync(path)
+            rename_first(beside, place)
+            sync(place.parent)
+        finally:
+            shutil.rmtree(beside, ignore_errors=True)
+    except (OSError, shutil.Error) as error:
+        told = cause(error) if isinstance(error, OSError) and error.strerror else str(error)
+        raise LabError(f"{place}: can't be written: {told}") from error
+
+
+def rename_first(beside: Path, place: Path) -> None:
+    """Puts a folder in its place, unless there is one by now."""
+    try:
+        os.rename(beside, place)
+    except OSError:
+        if not place.is_dir():
+            raise
+
+
+def rows_of(sweep: Sweep, run: Run) -> list[list[str]]:
+    """The rows of a run that is over, in the columns of `Plan.head`: one for each leg, or, without legs, for its end."""
+    folder, plan = sweep.folder(run.number), sweep.plan
+    if read_text(folder / LABEL) != label(plan, run):
+        raise LabError(f"{folder / LABEL}: the run was made for another plan, or for another number")
+    path = folder / COURSE
+    head, *legs = read_rows(path)
+    columns = [*COLUMNS, *plan.columns]
+    if head != columns or any(len(leg) != len(columns) for leg in legs) or len(legs) < 2 - (plan.legs is not None):
+        raise LabError(f"{path}: not the course of a run of this sweep")
+    front = [*run.values.values(), str(run.seed)]
+    if plan.legs is None:
+        return [[*front, *legs[-1][2:]]]
+    return [[*front, leg, *rest] for leg, _, *rest in legs]

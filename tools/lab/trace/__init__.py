@@ -1,0 +1,1 @@
+"""The events of runs and chains, made again one after another."""

@@ -1,0 +1,1 @@
+"""How worlds are made: from drawings, patterns and random fills."""
