@@ -9,7 +9,8 @@ from pathlib import Path
 from calls import EXAMPLES
 
 from lab.base.program import Program
-from lab.film.recording import Source
+from lab.base.progress import Progress
+from lab.film.recording import Recording
 from lab.trace.retraced import Retraced
 
 # The element files of the worlds for which they aren't one file of the same name.
@@ -31,11 +32,11 @@ class Tally:
             room = Path(folder)
             report = room / "report"
             report.write_bytes(program.call([form, world, *files]).output)
-            source = Source.of(program, [world, report, *files])
-            for made in Retraced(program, source, room).events():
+            recording = Recording.of(program, [world, report, *files])
+            for made in Retraced(program, recording, room, Progress()).events():
                 self.acted += 1
                 self.failed[made.ending.cause] += 1
-            self.events += source.ends[-1]
+            self.events += recording.ends[-1]
 
     def text(self) -> str:
         """The numbers in words."""

@@ -7,7 +7,7 @@ from pathlib import Path
 from calls import EXAMPLES, TOP, LabCase, feast, here, program
 
 from lab.base.limits import ELEMENT_LIMIT
-from lab.check.pages import codes, element_rules, ulam_rules
+from lab.check.pages import error_codes, element_rules, ulam_rules
 
 EMPTY = "Void behave() { }"
 
@@ -40,7 +40,7 @@ class Check(LabCase):
 
     def test_examples_of_all_codes(self) -> None:
         """Each refusal of an element file that docs/errors.md shows has a caret, and help that isn't the code's own."""
-        for code in codes().values():
+        for code in error_codes().values():
             if not "E10" <= code.code <= "E60":
                 continue
             with self.subTest(code.code):
@@ -56,7 +56,7 @@ class Check(LabCase):
     def test_worlds(self) -> None:
         """Each refusal of a world that the page shows is told with its line, and with the page's usual cause."""
         walker = EXAMPLES / "walker.ulam"
-        found = [code for code in codes().values() if "E70" <= code.code <= "E76"]
+        found = [code for code in error_codes().values() if "E70" <= code.code <= "E76"]
         self.assertEqual(len(found), 7)
         for code in found:
             with self.subTest(code.code):
@@ -76,7 +76,7 @@ class Check(LabCase):
     def test_reports(self) -> None:
         """So is each refusal of a report."""
         world, walker, lines = self.small_report()
-        found = [code for code in codes().values() if "E80" <= code.code <= "E83"]
+        found = [code for code in error_codes().values() if "E80" <= code.code <= "E83"]
         self.assertEqual(len(found), 4)
         for code in found:
             with self.subTest(code.code):
@@ -104,7 +104,7 @@ class Check(LabCase):
         """Of a code file the byte is marked."""
         element = "element A { Void behave() { } } element B { Void behave() { } }"
         packed = subprocess.run([program(), "pack", self.file("e", element)], stdout=subprocess.PIPE, check=True).stdout
-        found = [code for code in codes().values() if "E61" <= code.code <= "E64"]
+        found = [code for code in error_codes().values() if "E61" <= code.code <= "E64"]
         self.assertEqual(len(found), 4)
         for code in found:
             with self.subTest(code.code):
@@ -203,7 +203,7 @@ class Explain(LabCase):
 
     def test_codes(self) -> None:
         """Each code has its text and its cause, and each of its forms what to write instead and both examples."""
-        for code in codes().values():
+        for code in error_codes().values():
             told = self.passes("explain", code.code)
             self.assertTrue(told.startswith(f"{code.code} {code.text}\nusual cause: {code.cause}\n"), told)
             for rule in (*element_rules(), *ulam_rules()):
@@ -215,7 +215,7 @@ class Explain(LabCase):
 
     def test_list(self) -> None:
         told = self.passes("explain").splitlines()
-        for code in codes().values():
+        for code in error_codes().values():
             self.assertIn(f"{code.code}  {code.text}", told)
 
     def test_pages_as_they_are(self) -> None:

@@ -9,7 +9,7 @@ from calls import LabCase, Word, feast, here, lab, program
 from drawn_elements import Drawer, world
 
 from lab.base.program import Program
-from lab.machine.code import codes
+from lab.machine.code import element_codes
 
 DRAWN_FILES = 100  # of two elements each
 # A body of `behave` for each cause, what stands before it, and the function in which it fails, with its line.
@@ -189,7 +189,7 @@ class Again(LabCase):
     def test_texts(self) -> None:
         """The code that the machine reads is the one that `code` writes."""
         for _, _, files in example_runs():
-            self.assertEqual("".join(code.text() for code in codes(Program.find(), files)), feast("code", *files))
+            self.assertEqual("".join(code.text() for code in element_codes(Program.find(), files)), feast("code", *files))
 
     def test_examples(self) -> None:
         """Each event of the first ones of each example has the window of the program's replay."""

@@ -11,7 +11,7 @@ from calls import EXAMPLES, Word, program
 from lab.base.errors import LabError
 from lab.base.program import Program
 from lab.chain.folder import Folder
-from lab.chain.legs import Maker
+from lab.chain.legs import LegMaker
 from lab.chain.start import going_on
 from lab.live.chain import Live
 from lab.live.server import Server
@@ -133,7 +133,7 @@ class Worker(LiveCase):
         maker, course = going_on(Program.find(), Folder(self.chain))
         session = Session(maker, course)
         self.addCleanup(session.end)
-        self.addCleanup(setattr, Maker, "report", Maker.report)
+        self.addCleanup(setattr, LegMaker, "report", LegMaker.report)
         is_there, goes_on = threading.Event(), threading.Event()
 
         def ends(*_words: object) -> bytes:
@@ -141,7 +141,7 @@ class Worker(LiveCase):
             goes_on.wait(60)
             raise SystemExit("no more")
 
-        setattr(Maker, "report", ends)
+        setattr(LegMaker, "report", ends)
         session.turn("play")
         is_there.wait(60)
         waiting = threading.Timer(0.5, goes_on.set)

@@ -5,7 +5,7 @@ from calls import EXAMPLES, LabCase, Word, feast
 
 from lab.base.errors import LabError
 from lab.formats.outcome import Outcome, counts
-from lab.formats.report import Abandoned, Record, Report
+from lab.formats.report import Abandoned, JournalRecord, Report
 from lab.formats.world import Placed
 
 SMALL = """feast 1
@@ -41,7 +41,7 @@ class Reports(LabCase):
         for path in [self.file("plain", SMALL), packed]:
             report = Report.read(path)
             self.assertEqual(report.atoms, [Placed(6, 2, "Walker"), Placed(6, 4, "Walker", 0xb8 << 60)])
-            self.assertEqual(list(report.journal), [Record(1, 0, 0, 1, 4, 255), Record(2, 1, 1, 2, 4, 0)])
+            self.assertEqual(list(report.journal), [JournalRecord(1, 0, 0, 1, 4, 255), JournalRecord(2, 1, 1, 2, 4, 0)])
             self.assertEqual(report.journal[1:].lines, ["2 1 1 2 4 0000000000000000"])
             self.assertEqual(report.abandoned[0], Abandoned(1, 0, 8, 4, 0, 2, 7))
 

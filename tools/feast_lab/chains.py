@@ -5,9 +5,10 @@ from tempfile import TemporaryDirectory
 from typing import Any
 
 from lab.base.errors import LabError
-from lab.chain.audit import Chain as Audited
+from lab.base.progress import ProgressLine
+from lab.chain.audit import AuditedChain
 from lab.chain.folder import Folder
-from lab.film.recording import Source, chain_source
+from lab.film.recording import Recording, recording_of_chain
 from lab.formats.kept import read_report
 from lab.measure.measures import Measure, measures_of
 
@@ -25,9 +26,9 @@ class Chain:
         self.program = found(program)
 
     @cached_property
-    def source(self) -> Source:
+    def source(self) -> Recording:
         """Its legs, as a film takes them."""
-        return chain_source(self.program, self.folder.path, [])
+        return recording_of_chain(self.program, self.folder.path, [])
 
     def __repr__(self) -> str:
         return f"<Chain {self.folder.path}: {self.folder.done()} legs>"
@@ -79,8 +80,8 @@ class Chain:
         """`yes`, or `no` with the first leg at fault, as `./lab chain --audit` says."""
         if self.begun.keep != "reports":
             raise LabError(f"{self.folder.path}: the chain can't be audited: it was begun without --keep reports")
-        chain = Audited.of(self.program, self.folder, self.begun)
-        fault = next(chain.faults(range(len(chain.course.legs))), None)
+        chain = AuditedChain.of(self.program, self.folder, self.begun)
+        fault = next(chain.faults(range(len(chain.course.legs)), ProgressLine()), None)
         return "yes" if fault is None else f"no {fault}"
 
     def film(self, frames: int = 400) -> Film:

@@ -10,14 +10,14 @@ from lab.base.errors import LabError
 from lab.base.files import read_byte_text, read_comments, write_new, write_whole
 from lab.base.program import INSTEAD, Program
 from lab.base.seeds import MODULUS
-from lab.chain.rule import Rule
+from lab.chain.rule import ChainRule
 from lab.film.frames import Reported
-from lab.film.recording import Source
+from lab.film.recording import Recording
 from lab.formats.constants import constants, with_values
 from lab.formats.kept import read_report
 from lab.formats.layout import Layout
 from lab.formats.outcome import ABANDONED, JOURNAL, Outcome, atom_lines
-from lab.formats.report import Reader
+from lab.formats.report import ReportReader
 from lab.formats.world import World
 from lab.measure.drift import greatest, plans, tiles_of
 from lab.worlds.starting import drawn_world
@@ -136,10 +136,10 @@ class Run:
             write_new(path, self.bytes)
         return path
 
-    def _source(self) -> Source:
+    def _source(self) -> Recording:
         """What films are made of."""
         leg = Reported(self.path, self.outcome.events, self._report())
-        return Source(self.path.name, self.world, self.layout, self.files, [leg])
+        return Recording(self.path.name, self.world, self.layout, self.files, [leg])
 
 
 def run(world: str | Path, elements: Paths, *, step: bool = False, seed: int | None = None,
@@ -167,7 +167,7 @@ def read(world: str | Path, report: str | Path, elements: Paths, *, program: str
     """The run of a report, which may be packed by gzip or kept by a chain; its form is tested."""
     data = read_report(Path(report))
     try:
-        reader = Reader(Path(report), data.decode("ascii").split("\n"))
+        reader = ReportReader(Path(report), data.decode("ascii").split("\n"))
     except UnicodeDecodeError as error:
         raise LabError(f"{report}: byte {error.start + 1} is no part of a report") from error
     reader.report(reader.atoms())
@@ -199,7 +199,7 @@ def seeded(world: Path, seed: int, step: bool, room: Path) -> Path:
         raise LabError(f"seed={seed}: a seed is from 0 to {MODULUS - 1}")
     path = room / "seeded" / world.name
     path.parent.mkdir()
-    write_new(path, Rule(was, int(seed), step, {}).world_of(1, [atom.text() for atom in was.atoms]))
+    write_new(path, ChainRule(was, int(seed), step, {}).world_of(1, [atom.text() for atom in was.atoms]))
     return path
 
 

@@ -7,24 +7,23 @@ from typing import Any
 
 from lab.base.errors import LabError
 from lab.base.program import Program
-from lab.command.film import page_of, refuse_frames
-from lab.film.curves import Curves
+from lab.base.progress import Progress
 from lab.film.frames import Frame, frames
-from lab.film.recording import Source
+from lab.film.making import Filming, WantedFilm, refuse_frames
+from lab.film.recording import Recording
 from lab.film.replays import Plane
-from lab.pictures.tints import tinted
 
 from feast_lab import arrays
 from feast_lab.films import Film
 
 
-def played(program: Program, source: Source, moments: set[int]) -> Iterator[Frame]:
+def played(program: Program, source: Recording, moments: set[int]) -> Iterator[Frame]:
     """The frames of some moments, counted in events."""
     with TemporaryDirectory() as room:
         yield from frames(Plane(program, source.files, Path(room)), source.legs, moments)
 
 
-def counts(program: Program, source: Source, every: int) -> Any:
+def counts(program: Program, source: Recording, every: int) -> Any:
     """The atoms of each element at the start and after every so many events, and at the end, as an array or a list.
 
     A row has `events`, `abandoned` and `aeps` so far, and a number for each element.
@@ -45,9 +44,9 @@ def counts(program: Program, source: Source, every: int) -> Any:
     return arrays.columns(rows, ["events", "abandoned", "aeps", *elements], ["u8", "u8", "f8", *["u4"] * len(elements)])
 
 
-def film(program: Program, source: Source, count: int) -> Film:
+def film(program: Program, source: Recording, count: int) -> Film:
     """The film of so many frames behind the first."""
     refuse_frames(f"film({count})", count)
-    curves = Curves(source.measures, source.layout)
-    films = curves.watched(played(program, source, source.moments(count)))
-    return Film(page_of(source, films, curves, tinted([], source.layout, source.files), has_failures=False), source.title)
+    with TemporaryDirectory() as room:
+        filming = Filming.of(program, source, WantedFilm(count), Path(room), Progress())
+        return Film(filming.page(), source.title)

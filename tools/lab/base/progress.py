@@ -1,7 +1,10 @@
-"""How far a long command is, on standard error."""
+"""How far a long work is, and how it is told to stop: objects that the work is given."""
 import sys
+import threading
 import time
 from typing import TextIO
+
+from .errors import LabError
 
 REWRITTEN_EVERY = 0.2
 LINE_EVERY = 15.0
@@ -18,28 +21,45 @@ def duration(seconds: float) -> str:
 
 
 class Progress:
-    """One line: what is at work, how much of it is done, and how long the rest will take.
+    """Hears how far a work is. This one tells nobody."""
+
+    def begin(self, total: float, done: float = 0) -> None:
+        """A work of so much in all begins, of which so much is done already."""
+
+    def at(self, done: float, part: str) -> None:
+        """So much of the total is done, and this part is at work."""
+
+    def end(self) -> None:
+        """The work is over, or was given up."""
+
+
+class ProgressLine(Progress):
+    """Tells it in one line on standard error: what is at work, how much is done, and how long the rest will take.
 
     On a terminal the line is written over; elsewhere a new one follows now and then.
     """
 
-    def __init__(self, total: float, done: float = 0, to: TextIO | None = None) -> None:
+    def __init__(self, to: TextIO | None = None) -> None:
         self.to = to or sys.stderr
         self.is_terminal = self.to.isatty()
         self.every = REWRITTEN_EVERY if self.is_terminal else LINE_EVERY
-        self.total = total
-        self.start_done = done
-        self.begin = time.monotonic()
-        self.next = self.begin + (0 if self.is_terminal else LINE_EVERY)
         self.is_open = False
+        self.begin(1)
 
-    def at(self, done: float, leg: str) -> None:
-        """Tells that so much of the total is done, and which leg is at work."""
+    def begin(self, total: float, done: float = 0) -> None:
+        """Takes the time from now on."""
+        self.total = max(total, 1)
+        self.start_done = done
+        self.began = time.monotonic()
+        self.next = self.began + (0 if self.is_terminal else LINE_EVERY)
+
+    def at(self, done: float, part: str) -> None:
+        """Writes the line, if it is time for it."""
         now = time.monotonic()
         if now < self.next:
             return
         self.next = now + self.every
-        line = f"{leg}: {100 * done / self.total:.0f} % done{self.left(done, now)}"
+        line = f"{part}: {100 * done / self.total:.0f} % done{self.left(done, now)}"
         if self.is_terminal:
             self.to.write(f"\r{line}\x1b[K")
             self.is_open = True
@@ -52,7 +72,7 @@ class Progress:
         part = done - self.start_done
         if part <= 0 or done >= self.total:
             return ""
-        return f", {duration((now - self.begin) / part * (self.total - done))} left"
+        return f", {duration((now - self.began) / part * (self.total - done))} left"
 
     def end(self) -> None:
         """Clears the line away."""
@@ -60,3 +80,19 @@ class Progress:
             self.to.write("\r\x1b[K")
             self.to.flush()
             self.is_open = False
+
+
+class Stop:
+    """By this a work in another thread is told to stop. It does between two of its parts."""
+
+    def __init__(self) -> None:
+        self.is_set = threading.Event()
+
+    def set(self) -> None:
+        """Has the work stop."""
+        self.is_set.set()
+
+    def heed(self) -> None:
+        """Raises LabError if the work is to stop."""
+        if self.is_set.is_set():
+            raise LabError("stopped")

@@ -17,51 +17,49 @@ from ..machine.windows import Disagreement
 from ..measure.measures import Measure, measured, measures_of
 from ..worlds.starting import drawn_world, first_atoms
 from .folder import Begun, Course, Folder, Leg
-from .rule import Rule, by_legs
+from .rule import ChainRule, by_legs
 
 
-def audit(folder: Folder, leg: int | None) -> int:
-    """Writes whether a chain, or a leg of it, is what it says, and gives back 0 if it is, else 1."""
+def first_fault(folder: Folder, leg: int | None, progress: Progress) -> str | None:
+    """What is wrong first with a chain, or with a leg of it; None if it is what it says."""
     begun = folder.begun()
     if begun.keep != "reports":
         raise LabError(f"{folder.path}: the chain can't be audited: it was begun without --keep reports")
-    chain = Chain.of(Program.find(), folder, begun)
+    chain = AuditedChain.of(Program.find(), folder, begun)
     legs = len(chain.course.legs) - 1
     if leg is not None and not 0 <= leg <= legs:
         raise LabError(f"{folder.path}: the chain has the legs 0 to {legs}, and no leg {leg}")
-    fault = next(chain.faults(range(legs + 1) if leg is None else [leg]), None)
-    print("yes" if fault is None else f"no {fault}", flush=True)
-    return 0 if fault is None else 1
+    return next(chain.faults(range(legs + 1) if leg is None else [leg], progress), None)
 
 
 @dataclass(frozen=True)
-class Chain:
+class AuditedChain:
     """A chain that is being audited."""
 
     program: Program
     folder: Folder
     begun: Begun
-    rule: Rule
+    rule: ChainRule
     course: Course
     measures: list[Measure]
     finder: Finder | None
 
     @staticmethod
-    def of(program: Program, folder: Folder, begun: Begun) -> "Chain":
+    def of(program: Program, folder: Folder, begun: Begun) -> "AuditedChain":
         """The chain of a folder."""
         world = drawn_world(folder.start)
         layout = Layout.of(program, folder.files)
-        rule = Rule(world, begun.seed, begun.step, by_legs(folder.acts(begun, world, layout)))
+        rule = ChainRule(world, begun.seed, begun.step, by_legs(folder.acts(begun, world, layout)))
         course = folder.course(layout.elements, world.sites)
         finder = Finder(program, folder.files, world) if course.has_failures else None
-        return Chain(program, folder, begun, rule, course, measures_of(course.measures, layout), finder)
+        return AuditedChain(program, folder, begun, rule, course, measures_of(course.measures, layout), finder)
 
-    def faults(self, legs: Sequence[int]) -> Iterator[str]:
+    def faults(self, legs: Sequence[int], progress: Progress) -> Iterator[str]:
         """What is wrong with these legs of the chain, leg by leg; 0 is the start."""
         changed = self.folder.changed(self.begun)
         if changed is not None:
             yield f"start: {changed.name} is not as it was when the chain was begun"
-        progress = Progress(len(legs))
+        progress.begin(len(legs))
         for done, number in enumerate(legs):
             progress.at(done, f"leg {number} of {len(self.course.legs) - 1}")
             yield from self.leg_faults(number) if number else self.start_faults()

@@ -1,5 +1,5 @@
 """A branch of a chain: a chain of its own, whose first legs are copies of another's, and which goes on from there."""
-import argparse
+from dataclasses import dataclass, replace
 from pathlib import Path
 
 from ..base.errors import LabError
@@ -7,36 +7,48 @@ from ..base.program import Program
 from ..formats.layout import Layout
 from ..formats.world import World
 from .copies import copy_chain
-from .folder import Folder
+from .folder import Begun, Folder
+from .making import WantedChain
 from .start import acts_of
 
 
-def begin_branch(arguments: argparse.Namespace) -> None:
-    """Begins the chain DIR of the words as a branch, unless it is one, and fills in what it takes from the other chain.
+@dataclass(frozen=True)
+class Origin:
+    """The chain from which a branch comes, and what that was begun with."""
 
-    That are the world, the element files, the seed, whether the legs are stepped and the reports kept, and the acts
-    before the legs that are copied.
-    """
-    old, text = Folder(Path(arguments.origin[0])), arguments.origin[1]
-    begun = old.begun()
-    changed = old.changed(begun)
-    if changed is not None:
-        raise LabError(f"{changed}: not as it was when the chain was begun")
-    if arguments.world is not None or arguments.step or arguments.seed is not None or arguments.keep != "none":
-        raise LabError(f"--from: the branch takes its world, its elements, --step, --seed and --keep from {old.path}")
-    course = old.course(Layout.of(Program.find(), old.files).elements, World.read(old.start).sites)
-    if not text.isdecimal() or int(text) >= len(course.legs):
-        raise LabError(f"--from {old.path} {text}: the chain has the legs 0 to {len(course.legs) - 1}, and no leg {text}")
-    new = acts_of(arguments.at, World.read(old.start), Layout.of(Program.find(), old.files), begun.seed)
-    for act in new:
-        if act.leg <= int(text):
-            raise LabError(f"--at {act.text}: the branch begins behind leg {text}")
-    acts = [*(act for act in old.act_texts(begun) if leg_of(act) <= int(text)), *(act.text for act in new)]
-    copy_chain(old, Folder(arguments.folder, is_lasting=True), begun, course, int(text), acts)
-    arguments.world, arguments.files, arguments.at = old.start, old.files, acts
-    arguments.step, arguments.seed, arguments.keep = begun.step, begun.seed, begun.keep
+    folder: Folder
+    begun: Begun
+
+    @staticmethod
+    def of(path: Path) -> "Origin":
+        """The chain of a folder. Refuses one whose files are not as they were."""
+        folder = Folder(path)
+        begun = folder.begun()
+        changed = folder.changed(begun)
+        if changed is not None:
+            raise LabError(f"{changed}: not as it was when the chain was begun")
+        return Origin(folder, begun)
+
+    def branch(self, last: str, wanted: WantedChain) -> WantedChain:
+        """Begins a chain as a branch behind a leg, a word, unless it is one; gives back what is wanted of it then.
+
+        It takes from the other chain the world, the element files, the seed, whether the legs are stepped and the reports
+        kept, and the acts before the legs that are copied.
+        """
+        old, begun = self.folder, self.begun
+        world, layout = World.read(old.start), Layout.of(Program.find(), old.files)
+        course = old.course(layout.elements, world.sites)
+        if not last.isdecimal() or int(last) >= len(course.legs):
+            raise LabError(f"--from {old.path} {last}: the chain has the legs 0 to {len(course.legs) - 1}, and no leg {last}")
+        new = acts_of(wanted.at, world, layout, begun.seed)
+        for act in new:
+            if act.leg <= int(last):
+                raise LabError(f"--at {act.text}: the branch begins behind leg {last}")
+        acts = [*(act for act in old.act_texts(begun) if leg_before(act) <= int(last)), *(act.text for act in new)]
+        copy_chain(old, Folder(wanted.folder, is_lasting=True), begun, course, int(last), acts)
+        return replace(wanted, world=old.start, files=old.files, at=acts, step=begun.step, seed=begun.seed, keep=begun.keep)
 
 
-def leg_of(act: str) -> int:
+def leg_before(act: str) -> int:
     """The leg before which an act on record is done."""
     return int(act.partition(":")[0])

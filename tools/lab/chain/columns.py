@@ -11,10 +11,10 @@ from ..formats.world import World
 from ..machine.finder import Finder
 from ..measure.measures import measured, measures_of
 from .folder import Course
-from .legs import Maker
+from .legs import LegMaker
 
 
-def with_measures(maker: Maker, course: Course, names: Sequence[str]) -> Maker:
+def with_measures(maker: LegMaker, course: Course, names: Sequence[str]) -> LegMaker:
     """The chain with further measures: columns that its course lacks are added, for the legs that are done too."""
     columns = list(dict.fromkeys([*course.measures, *names]))
     measures = measures_of(columns, maker.layout)
@@ -26,7 +26,7 @@ def with_measures(maker: Maker, course: Course, names: Sequence[str]) -> Maker:
     return replace(maker, measures=measures)
 
 
-def with_failures(maker: Maker, course: Course) -> Maker:
+def with_failures(maker: LegMaker, course: Course, progress: Progress) -> LegMaker:
     """The chain with a column of the events that failed; of the legs that are done they are found in their reports."""
     if course.has_failures:
         return maker
@@ -35,7 +35,8 @@ def with_failures(maker: Maker, course: Course) -> Maker:
         raise LabError(f"{maker.folder.path}: --failures takes the reports of the legs that are done, and the chain keeps none; "
                        "begin another one with it")
     finder = Finder(maker.program, maker.folder.files, maker.rule.world)
-    progress, found = Progress(max(legs, 1)), [0]
+    progress.begin(legs)
+    found = [0]
     for leg in range(1, legs + 1):
         progress.at(leg - 1, f"failed events of leg {leg} of {legs}")
         atoms = [atom.text() for atom in World.read(maker.folder.world(leg)).atoms]
@@ -48,12 +49,12 @@ def with_failures(maker: Maker, course: Course) -> Maker:
     return replace(maker, finder=finder)
 
 
-def carried_on(maker: Maker, course: Course, before: Course) -> tuple[Maker, list[str]]:
+def carried_on(maker: LegMaker, course: Course, before: Course) -> tuple[LegMaker, list[str]]:
     """The chain with the columns that another's course has; and those measures that its elements have no members for."""
     can = [name for name in before.measures if is_measurable(name, maker.layout)]
     maker = with_measures(maker, course, can)
     if before.has_failures:
-        maker = with_failures(maker, course)
+        maker = with_failures(maker, course, Progress())
     return maker, [name for name in before.measures if name not in can]
 
 

@@ -12,7 +12,7 @@ from ..base.seeds import nth
 from ..formats.layout import Layout
 from .copies import copy_chain
 from .folder import Begun, Course, Folder
-from .legs import Maker
+from .legs import LegMaker
 from .start import Start
 
 
@@ -31,7 +31,7 @@ def fork(folder: Folder, begun: Begun, course: Course, acts: Sequence[str], leg:
 
 
 @contextmanager
-def anew(program: Program, maker: Maker, number: int, atoms: Sequence[str], files: Sequence[Path]) -> Iterator[Start]:
+def anew(program: Program, maker: LegMaker, number: int, atoms: Sequence[str], files: Sequence[Path]) -> Iterator[Start]:
     """What a new chain is to be begun with: the atoms and the seed with which a leg of another would begin, and other elements.
 
     Refuses element files that the program refuses, and those that lack an element of which there are atoms.

@@ -10,17 +10,17 @@ from ..formats.outcome import Outcome, atom_lines, counts
 from ..machine.finder import Finder
 from ..measure.measures import Measure, measured
 from .folder import Begun, Folder, Leg
-from .rule import Rule
+from .rule import ChainRule
 
 
 @dataclass(frozen=True)
-class Maker:
+class LegMaker:
     """Makes the legs of a chain, and measures what they leave. With a finder it looks for events that failed."""
 
     program: Program
     folder: Folder
     begun: Begun
-    rule: Rule
+    rule: ChainRule
     layout: Layout
     measures: Sequence[Measure] = ()
     finder: Finder | None = None

@@ -9,7 +9,7 @@ from .acts import Act, Pace
 
 
 @dataclass(frozen=True)
-class Rule:
+class ChainRule:
     """Worlds of legs: seeds of their own, and the attempts of the world that the chain was begun with.
 
     `acts` are those before each leg that has any, in their order.

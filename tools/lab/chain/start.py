@@ -16,8 +16,8 @@ from ..measure.measures import measures_of
 from ..worlds.starting import drawn_world, first_atoms, first_seed
 from .acts import Act
 from .folder import COURSE, Begun, Course, Folder, Leg, refuse_other
-from .legs import Maker
-from .rule import Rule, by_legs
+from .legs import LegMaker
+from .rule import ChainRule, by_legs
 
 
 @dataclass(frozen=True)
@@ -45,7 +45,7 @@ class Start:
         begun = Begun(digest(read_bytes(path)), [digest(read_bytes(file)) for file in files], step, first, keep, [act.text for act in acts])
         return Start(program, path, files, begun, acts, atoms, world.sites, layout.elements)
 
-    def opened(self, folder: Folder) -> tuple[Maker, Course]:
+    def opened(self, folder: Folder) -> tuple[LegMaker, Course]:
         """The chain of a folder that is held: begun, or gone on with if it was begun with the same."""
         if folder.is_begun:
             refuse_other(folder, folder.begun(), self.begun, self.world)
@@ -57,7 +57,7 @@ class Start:
         return going_on(self.program, folder)
 
 
-def going_on(program: Program, folder: Folder) -> tuple[Maker, Course]:
+def going_on(program: Program, folder: Folder) -> tuple[LegMaker, Course]:
     """The chain that was begun in a folder that is held. Refuses one whose files are not as they were."""
     begun = folder.begun()
     changed = folder.changed(begun)
@@ -69,9 +69,9 @@ def going_on(program: Program, folder: Folder) -> tuple[Maker, Course]:
     last = course.legs[-1]
     if counts(read_text(folder.atoms(last.number)), course.elements) != last.counts:
         raise LabError(f"{folder.atoms(last.number)}: it has other atoms than {COURSE} says")
-    rule = Rule(world, begun.seed, begun.step, by_legs(folder.acts(begun, world, layout)))
+    rule = ChainRule(world, begun.seed, begun.step, by_legs(folder.acts(begun, world, layout)))
     finder = Finder(program, folder.files, world) if course.has_failures else None
-    return Maker(program, folder, begun, rule, layout, measures_of(course.measures, layout), finder), course
+    return LegMaker(program, folder, begun, rule, layout, measures_of(course.measures, layout), finder), course
 
 
 def acts_of(texts: Sequence[str], world: World, layout: Layout, seed: int) -> list[Act]:
@@ -82,7 +82,7 @@ def acts_of(texts: Sequence[str], world: World, layout: Layout, seed: int) -> li
         raise LabError(f"--at {error}") from error
 
 
-def with_acts(maker: Maker, course: Course, acts: Sequence[Act]) -> Maker:
+def with_acts(maker: LegMaker, course: Course, acts: Sequence[Act]) -> LegMaker:
     """The chain with acts put on record that aren't there yet. Refuses those whose leg is done."""
     texts = maker.folder.act_texts(maker.begun)
     known = Counter(texts)

@@ -14,7 +14,7 @@ LINE = re.compile(r"(?P<name>.*):(?P<line>\d+):(?P<column>\d+): (?P<code>E\d\d) 
 
 
 @dataclass(frozen=True)
-class Told:
+class Hint:
     """What is said: a label for the caret, the form whose row of a page has what to write instead, how many bytes the
     caret marks, and other places with a label each."""
 
@@ -25,7 +25,7 @@ class Told:
 
 
 @dataclass(frozen=True)
-class Refused:
+class RefusalLine:
     """The line with which the program refuses a file at a place."""
 
     name: str
@@ -35,10 +35,10 @@ class Refused:
     text: str
 
     @staticmethod
-    def of(line: str) -> "Refused | None":
+    def of(line: str) -> "RefusalLine | None":
         """The parts of a line; None if it names no place."""
         match = LINE.fullmatch(line)
-        return Refused(match["name"], int(match["line"]), int(match["column"]), match["code"], match["text"]) \
+        return RefusalLine(match["name"], int(match["line"]), int(match["column"]), match["code"], match["text"]) \
             if match else None
 
 
@@ -46,7 +46,7 @@ class Refused:
 class Fault:
     """A refusal of an element file, with the texts of all files of the call."""
 
-    refused: Refused
+    refused: RefusalLine
     source: Source
     sources: Sequence[Source]
 

@@ -8,7 +8,7 @@ from ..base.errors import LabError
 from ..base.program import Program
 from ..ulam.tokens import Source
 from ..worlds.starting import first_atoms
-from .fault import Refused
+from .fault import RefusalLine
 
 MAGIC = "FEASTC\1\0"
 ALIKE = 6  # how many of these bytes a file has in their places that is to be a code file
@@ -39,7 +39,7 @@ class Given:
             raise LabError(f"{first.name}: a world; name the element files behind it")
         return Given(files, first, report)
 
-    def source(self, refused: Refused) -> Source:
+    def source(self, refused: RefusalLine) -> Source:
         """The file that is refused."""
         of_code = {"E6": self.code, "E7": self.world, "E8": self.report}
         found = of_code.get(refused.code[:2]) if refused.code != "E60" else None

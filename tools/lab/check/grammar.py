@@ -2,7 +2,7 @@
 from collections.abc import Callable
 
 from ..base.limits import MOST_DEPTH, MOST_TOKENS
-from .fault import Fault, Told
+from .fault import Fault, Hint
 
 SMALL_TYPES = frozenset("int void bool boolean unsigned bits atom auto char long short float double string unary uint "
                         "var let eventwindow random".split())
@@ -17,21 +17,21 @@ MISSING = {
     "an assignment such as `=`": "an expression by itself as a statement"}
 
 
-def told(fault: Fault) -> Told:
+def hint_of_grammar(fault: Fault) -> Hint:
     """What is said of a refusal with E10 to E21."""
     code = fault.refused.code
     if code == "E10":
         return bad_byte(fault)
     if code == "E11":
-        return Told("this comment has no end", "a comment without its end", 2)
+        return Hint("this comment has no end", "a comment without its end", 2)
     if code == "E12":
-        return Told("greater than 4294967295", "a number above 4294967295", word_length(fault))
+        return Hint("greater than 4294967295", "a number above 4294967295", word_length(fault))
     if code == "E20":
-        return Told(met(fault), form_of(fault), max(len(fault.token.text), 1))
+        return Hint(met(fault), form_of(fault), max(len(fault.token.text), 1))
     if code == "E21":
-        return Told(f"here it is more than {MOST_DEPTH} deep", f"more than {MOST_DEPTH} brackets and operators inside one another",
+        return Hint(f"here it is more than {MOST_DEPTH} deep", f"more than {MOST_DEPTH} brackets and operators inside one another",
                     max(len(fault.token.text), 1))
-    return Told(f"the {MOST_TOKENS + 1:,}st", f"more than {MOST_TOKENS:,} tokens", max(len(fault.token.text), 1))
+    return Hint(f"the {MOST_TOKENS + 1:,}st", f"more than {MOST_TOKENS:,} tokens", max(len(fault.token.text), 1))
 
 
 def word_length(fault: Fault) -> int:
@@ -42,22 +42,22 @@ def word_length(fault: Fault) -> int:
     return max(end - fault.byte, 1)
 
 
-def bad_byte(fault: Fault) -> Told:
+def bad_byte(fault: Fault) -> Hint:
     """What is said of a byte that begins no token."""
     text, at = fault.source.text, fault.byte
     letter = text[at:at + 4].encode("latin-1").decode(errors="ignore")[:1] or text[at:at + 1]
     length = len(letter.encode())
     if letter == "?":
-        return Told("no operator of this language", "`c ? a : b`")
+        return Hint("no operator of this language", "`c ? a : b`")
     if letter in ("'", '"'):
-        return Told("there are no characters and no texts", "`String`, characters")
+        return Hint("there are no characters and no texts", "`String`, characters")
     if at and text[at - 1].isascii() and (text[at - 1].isalnum() or text[at - 1] == "_"):
         if not letter:
-            return Told("the number isn't finished", "a letter straight after a number")
+            return Hint("the number isn't finished", "a letter straight after a number")
         if letter.isascii() and (letter.isalnum() or letter == "_"):
-            return Told("straight after a number", "a letter straight after a number")
+            return Hint("straight after a number", "a letter straight after a number")
     name = letter if letter.isprintable() else f"byte {ord(letter)}" if letter else "the end of the file"
-    return Told(f"`{name}` isn't in the language", "a letter or sign that the language doesn't have", length)
+    return Hint(f"`{name}` isn't in the language", "a letter or sign that the language doesn't have", length)
 
 
 def met(fault: Fault) -> str:

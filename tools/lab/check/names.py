@@ -9,7 +9,7 @@ from ..ulam.scopes import Step
 from ..ulam.tokens import Token
 from ..ulam.tree import (
     Cast, Class, Constant, Data, Declare, Function, Path, Statement, Typedef, TypeUse, own_exprs, parts, statements)
-from .fault import Fault, Told
+from .fault import Fault, Hint
 from .grammar import OF_TYPES
 
 OUTSIDE = "a local outside of its block, or before it is declared"
@@ -23,7 +23,7 @@ COUNTS = ("count", "age", "updates")
 WIDTHS = {"Int": (2, 64), "Unsigned": (1, 64), "Bits": (1, 64), "Unary": (1, 64), "Bool": (1, 1)}
 
 
-def told(fault: Fault) -> Told:
+def hint_of_names(fault: Fault) -> Hint:
     """What is said of a refusal with E30 to E41."""
     find = {"E30": twice, "E31": unknown, "E32": containing, "E33": no_behave, "E34": constant, "E35": too_many,
             "E36": bad_type, "E37": base, "E38": own_base, "E39": override, "E40": too_wide, "E41": too_wide}
@@ -35,24 +35,24 @@ def length(fault: Fault) -> int:
     return max(len(fault.token.text), 1)
 
 
-def twice(fault: Fault) -> Told:
+def twice(fault: Fault) -> Hint:
     """A name that is declared twice."""
     name, size = fault.token.text, length(fault)
     if name in BUILT_IN:
-        return Told(f"`{name}` is a built-in type", "a class or typedef with the name of a built-in type", size)
+        return Hint(f"`{name}` is a built-in type", "a class or typedef with the name of a built-in type", size)
     first, owner = first_of(fault)
     if first is None:
-        return Told(f"`{name}` again", "a name that is declared twice", size)
+        return Hint(f"`{name}` again", "a name that is declared twice", size)
     also = ((first, f"`{name}` is declared here"),)
     if fault.text(-1) in ("element", "quark"):
-        return Told(f"class `{name}` again", "a class that is declared twice", size, also)
+        return Hint(f"class `{name}` again", "a class that is declared twice", size, also)
     if owner is not None and owner is not fault.class_:
-        return Told(f"`{name}` again; the base `{owner.name.text}` has it", "a member that a base has already", size,
+        return Hint(f"`{name}` again; the base `{owner.name.text}` has it", "a member that a base has already", size,
                     also)
     both = [member for member in (fault.class_.members if fault.class_ else ()) if member.name.text == name]
     is_overloaded = len(both) > 1 and all(isinstance(it, Function) for it in both) and owner is not None
     form = "overloaded functions, operators of your own" if is_overloaded else "a name that is declared twice"
-    return Told(f"`{name}` again", form, size, also)
+    return Hint(f"`{name}` again", form, size, also)
 
 
 def first_of(fault: Fault) -> tuple[Token | None, Class | None]:
@@ -73,7 +73,7 @@ def first_of(fault: Fault) -> tuple[Token | None, Class | None]:
     return None, None
 
 
-def unknown(fault: Fault) -> Told:
+def unknown(fault: Fault) -> Hint:
     """A name that isn't known."""
     if fault.token.kind == "type":
         return unknown_type(fault)
@@ -83,12 +83,12 @@ def unknown(fault: Fault) -> Told:
     own = fault.classes.members(fault.class_) if fault.class_ else []
     member = fault.classes.find(fault.class_, name) if fault.class_ else None
     if isinstance(member, (Constant, Typedef)):
-        return Told(f"`{name}` isn't known yet", "a constant or typedef that is declared further down", length(fault),
+        return Hint(f"`{name}` isn't known yet", "a constant or typedef that is declared further down", length(fault),
                     ((member.name, "it is declared here"),))
     form = unknown_form(fault)
     known = [*(fault.context.scope if fault.context else ()), *(it.name.text for it in own)]
     label = f"nothing here has the name `{name}`" + nearest(name, known)
-    return Told(label, form, length(fault), elsewhere(fault) if form == OUTSIDE else ())
+    return Hint(label, form, length(fault), elsewhere(fault) if form == OUTSIDE else ())
 
 
 def unknown_form(fault: Fault) -> str:
@@ -130,12 +130,12 @@ def nearest(name: str, known: Iterable[str]) -> str:
     return f"; did you mean `{found[0]}`?" if found and found[0] != name else ""
 
 
-def unknown_type(fault: Fault) -> Told:
+def unknown_type(fault: Fault) -> Hint:
     """A type that isn't known."""
     name, size = fault.token.text, length(fault)
     member = fault.classes.find(fault.class_, name) if fault.class_ else None
     if isinstance(member, Typedef):
-        return Told(f"`{name}` isn't known yet", "a constant or typedef that is declared further down", size,
+        return Hint(f"`{name}` isn't known yet", "a constant or typedef that is declared further down", size,
                     ((member.name, "it is declared here"),))
     forms = {"String": "`String`, characters", "SiteNum": "`SiteNum`, `Self`", "Self": "`SiteNum`, `Self`"}
     if name in COORDINATES:
@@ -145,28 +145,28 @@ def unknown_type(fault: Fault) -> Told:
     else:
         form = forms.get(name, "a class that no file has")
     known = [*fault.classes.by_name, *BUILT_IN]
-    return Told(f"no class and no typedef has the name `{name}`" + (has_class(name, fault.sources) or nearest(name, known)),
+    return Hint(f"no class and no typedef has the name `{name}`" + (has_class(name, fault.sources) or nearest(name, known)),
                 form, size)
 
 
-def unknown_further(fault: Fault) -> Told:
+def unknown_further(fault: Fault) -> Hint:
     """A name behind a dot that isn't known there."""
     name, before = fault.token.text, step_before(fault)
     if name in OF_TYPES:
-        return Told(f"no value has a `{name}`", "`maxof`, `minof`, `sizeof` and the like of a type", length(fault))
+        return Hint(f"no value has a `{name}`", "`maxof`, `minof`, `sizeof` and the like of a type", length(fault))
     if before is None:
-        return Told(f"`{name}` isn't known here", "a misspelt name", length(fault))
+        return Hint(f"`{name}` isn't known here", "a misspelt name", length(fault))
     kind = before.type.kind
     if kind in LIBRARY:
         has = ", ".join(f"`{it}`" for it in LIBRARY[kind])
-        return Told(f"`{name}` isn't in {'an' if kind == WINDOW else 'a'} `{kind}`, which has {has}",
+        return Hint(f"`{name}` isn't in {'an' if kind == WINDOW else 'a'} `{kind}`, which has {has}",
                     window_form(name) if kind == WINDOW else "another call of a `Random`", length(fault))
     owner = fault.classes.by_name.get(kind)
     if owner is None or before.type.length:
-        return Told(f"`{before.name.text}` is of type {before.type}, which has no members",
+        return Hint(f"`{before.name.text}` is of type {before.type}, which has no members",
                     "a member that the class doesn't have", length(fault))
     known = [it.name.text for it in fault.classes.members(owner)]
-    return Told(f"`{name}` isn't in `{kind}`" + (nearest(name, known) or f", which has {listed(known)}"),
+    return Hint(f"`{name}` isn't in `{kind}`" + (nearest(name, known) or f", which has {listed(known)}"),
                 "a member that the class doesn't have", length(fault))
 
 
@@ -199,35 +199,35 @@ def listed(names: list[str]) -> str:
     return ", ".join(f"`{name}`" for name in names[:6]) + (" .." if len(names) > 6 else "")
 
 
-def containing(fault: Fault) -> Told:
+def containing(fault: Fault) -> Hint:
     """A quark that contains itself."""
-    return Told(f"`{fault.token.text}` is a part of itself", "quarks that have each other as members", length(fault))
+    return Hint(f"`{fault.token.text}` is a part of itself", "quarks that have each other as members", length(fault))
 
 
-def no_behave(fault: Fault) -> Told:
+def no_behave(fault: Fault) -> Hint:
     """An element without `behave`."""
     found = fault.classes.find(fault.class_, "behave") if fault.class_ else None
     if found is None:
-        return Told("it has no `Void behave()`", "an element without `behave`", length(fault))
-    return Told("its `behave` isn't `Void behave()`", "a `behave` with parameters or a result", length(fault),
+        return Hint("it has no `Void behave()`", "an element without `behave`", length(fault))
+    return Hint("its `behave` isn't `Void behave()`", "a `behave` with parameters or a result", length(fault),
                 ((found.name, "this one doesn't count"),))
 
 
-def constant(fault: Fault) -> Told:
+def constant(fault: Fault) -> Hint:
     """A constant whose value doesn't fit."""
     members = fault.class_.members if fault.class_ else ()
     found = next((it for it in members if isinstance(it, Constant) and fault.is_at(it.name)), None)
     if found is None or fault.class_ is None:
-        return Told()
+        return Hint()
     type_ = fault.classes.type(fault.class_, found.type)
     value = ("-" if found.minus else "") + found.value.text
     number = fault.classes.value(fault.class_, found.value)
     least, most = range_of(type_)
     is_truth = found.value.text in ("true", "false")
     if type_.kind == "Bool" or is_truth or number is None:
-        return Told(f"{value} for a constant of type {type_}",
+        return Hint(f"{value} for a constant of type {type_}",
                     "`true` or `false` for a number, or a number for a `Bool`", length(fault))
-    return Told(f"{value} for a constant of type {type_}, which has {least} to {most}",
+    return Hint(f"{value} for a constant of type {type_}, which has {least} to {most}",
                 "a constant that doesn't fit its type", length(fault))
 
 
@@ -238,40 +238,40 @@ def range_of(type_: Type) -> tuple[int, int]:
     return 0, type_.width if type_.kind == "Unary" else (1 << type_.width) - 1
 
 
-def too_many(fault: Fault) -> Told:
+def too_many(fault: Fault) -> Hint:
     """A declaration too many."""
     function = fault.function
     if function is not None and any(fault.is_at(it.name) for it in function.parameters):
-        return Told(f"the {MOST_PARAMS + 1}th parameter", f"more than {MOST_PARAMS} parameters", length(fault))
-    return Told("one too many", "more declarations than a class, a function or a call may have", length(fault))
+        return Hint(f"the {MOST_PARAMS + 1}th parameter", f"more than {MOST_PARAMS} parameters", length(fault))
+    return Hint("one too many", "more declarations than a class, a function or a call may have", length(fault))
 
 
-def bad_type(fault: Fault) -> Told:
+def bad_type(fault: Fault) -> Hint:
     """A type that isn't allowed where it stands."""
     kind, owner = fault.token.text, fault.class_
     use = next((it for it in uses(fault) if fault.is_at(it.name)), None)
     if use is None or owner is None:
-        return Told(f"a length from 1 to {STATE_BITS} is allowed", "an array that is too long, or of length 0", length(fault))
+        return Hint(f"a length from 1 to {STATE_BITS} is allowed", "an array that is too long, or of length 0", length(fault))
     width = fault.classes.value(owner, use.width)
     data = next((it for it in owner.members if isinstance(it, Data) and it.type is use), None)
     size = length(fault)
     if kind == "Bool" and use.width:
-        return Told(f"met a width of {width}; a `Bool` has 1 bit", "`Bool(3)` and other truth values of several bits",
+        return Hint(f"met a width of {width}; a `Bool` has 1 bit", "`Bool(3)` and other truth values of several bits",
                     size)
     if kind in WIDTHS and use.width:
         least, most = WIDTHS[kind]
         form = "numbers wider than 64 bits" if width is not None and width > 64 else "a width that is out of range"
-        return Told(f"met a width of {width}, expected {least} to {most}", form, size)
+        return Hint(f"met a width of {width}, expected {least} to {most}", form, size)
     if use.width and kind in fault.classes.by_name:
-        return Told("a class takes no parameters", "templates, class parameters (`quark Q(Unsigned cN)`)", size)
+        return Hint("a class takes no parameters", "templates, class parameters (`quark Q(Unsigned cN)`)", size)
     if use.width:
-        return Told(f"`{kind}` takes no width", "a width of a type that takes none", size)
+        return Hint(f"`{kind}` takes no width", "a width of a type that takes none", size)
     if data is not None and data.length and kind in fault.classes.by_name:
-        return Told("an array has numbers alone", "arrays as locals, arrays of quarks", size)
+        return Hint("an array has numbers alone", "arrays as locals, arrays of quarks", size)
     if data is not None and (kind == "Atom" or fault.classes.is_element(kind)):
-        return Told("a data member is no atom", "a data member that is an atom or an element", size)
+        return Hint("a data member is no atom", "a data member that is an atom or an element", size)
     form = "a member, constant or typedef of a type that isn't allowed there"
-    return Told(f"`{kind}` isn't allowed here", form, size)
+    return Hint(f"`{kind}` isn't allowed here", form, size)
 
 
 def uses(fault: Fault) -> list[TypeUse]:
@@ -287,36 +287,36 @@ def uses(fault: Fault) -> list[TypeUse]:
     return found
 
 
-def base(fault: Fault) -> Told:
+def base(fault: Fault) -> Hint:
     """A base that is no quark."""
     name = fault.token.text
     found = fault.classes.by_name.get(name)
     if found is None:
         quarks = [it.name.text for it in fault.classes.all() if it.keyword.text == "quark"]
         near = has_class(name, fault.sources) or nearest(name, quarks)
-        return Told(f"no quark has the name `{name}`{near}", "a base that no file has", length(fault))
-    return Told(f"`{name}` is an element", "an element as a base", length(fault), ((found.name, "declared here"),))
+        return Hint(f"no quark has the name `{name}`{near}", "a base that no file has", length(fault))
+    return Hint(f"`{name}` is an element", "an element as a base", length(fault), ((found.name, "declared here"),))
 
 
-def own_base(fault: Fault) -> Told:
+def own_base(fault: Fault) -> Hint:
     """A quark whose bases lead back to it."""
     line = fault.classes.line(fault.class_) if fault.class_ else []
     names = [it.name.text for it in line] + [it.base.text for it in line[-1:] if it.base]
-    return Told("its bases are " + " : ".join(names), "quarks that are each other's base", length(fault))
+    return Hint("its bases are " + " : ".join(names), "quarks that are each other's base", length(fault))
 
 
-def override(fault: Fault) -> Told:
+def override(fault: Fault) -> Hint:
     """A function that doesn't match the virtual one of a base."""
     members = fault.class_.members if fault.class_ else ()
     found = next((it for it in members if fault.is_at(it.name)), None)
     if isinstance(found, Data):
-        return Told("a data member", "`virtual` before a data member", length(fault))
+        return Hint("a data member", "`virtual` before a data member", length(fault))
     bases = fault.classes.line(fault.class_)[1:] if fault.class_ else []
     above = next((it for owner in bases for it in fault.classes.functions(owner)
                   if found is not None and it.name.text == found.name.text), None)
     if above is None or not isinstance(found, Function):
-        return Told("", "a function whose virtual one has another result or other parameters", length(fault))
-    return Told(f"met {head(found)}, expected {head(above)}",
+        return Hint("", "a function whose virtual one has another result or other parameters", length(fault))
+    return Hint(f"met {head(found)}, expected {head(above)}",
                 "a function whose virtual one has another result or other parameters", length(fault),
                 ((above.name, "the virtual function"),))
 
@@ -326,12 +326,12 @@ def head(function: Function) -> str:
     return f"`{function.type} {function.name.text}({', '.join(str(it.type) for it in function.parameters)})`"
 
 
-def too_wide(fault: Fault) -> Told:
+def too_wide(fault: Fault) -> Hint:
     """A class with too many bits."""
     bits = fault.classes.bits(fault.class_) if fault.class_ else []
     shown = [f"`{member.name.text}` {width}" for member, width in bits]
     if len(shown) > 8:
         shown = [*shown[:8], ".."]
     is_quark = fault.refused.code == "E40"
-    return Told("bits: " + ", ".join(shown), "a quark of more than 32 bits" if is_quark
+    return Hint("bits: " + ", ".join(shown), "a quark of more than 32 bits" if is_quark
                 else f"an element of more than {STATE_BITS} bits", length(fault))

@@ -12,7 +12,7 @@ CELL = re.compile(r"(?<!\\)\|")
 
 
 @dataclass(frozen=True)
-class Code:
+class ErrorCode:
     """A code with its text and its usual cause; an example that isn't a whole file changes the block."""
 
     code: str
@@ -63,13 +63,13 @@ def page(name: str) -> str:
 
 
 @cache
-def codes() -> dict[str, Code]:
+def error_codes() -> dict[str, ErrorCode]:
     """All codes, in their order."""
     found = {}
     for heads, cells, block in rows(page(ERRORS)):
         if heads[:2] == ["Code", "Text"]:
             code, text, cause, example, *place = cells
-            found[code] = Code(code, text.strip("`"), cause, example, "".join(place), block)
+            found[code] = ErrorCode(code, text.strip("`"), cause, example, "".join(place), block)
     return found
 
 

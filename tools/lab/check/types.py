@@ -5,14 +5,14 @@ from ..ulam.tree import (
     Assign, AsTest, Binary, Call, Cast, Data, Declare, Do, Expr, Function, If, IsTest, Item, Loop, Number, Path, Prefixed,
     Return, Statement)
 from ..ulam.types import BOOL, PLAIN, type_of
-from .fault import Fault, Told
+from .fault import Fault, Hint
 
 BIT_SIGNS = frozenset("& | ^ << >>".split())
 NO_VALUE = "a quark, an array, a function or a call without a result as a value"
 MAX_INT = 2**31 - 1
 
 
-def told(fault: Fault) -> Told:
+def hint_of_types(fault: Fault) -> Hint:
     """What is said of a refusal with E50 to E60."""
     find = {"E50": wrong_type, "E51": mixed, "E52": not_assignable, "E53": arguments, "E54": not_an_element,
             "E55": no_loop, "E56": no_return, "E60": too_long}
@@ -29,19 +29,19 @@ def mark(fault: Fault) -> int:
     return max(len(fault.token.text), 1)
 
 
-def mixed(fault: Fault) -> Told:
+def mixed(fault: Fault) -> Hint:
     """Int with Unsigned."""
     for node, context in fault.nodes:
         if isinstance(node, Binary) and fault.is_at(node.sign):
-            return Told(f"left {named(type_of(node.left, context))}, right {named(type_of(node.right, context))}",
+            return Hint(f"left {named(type_of(node.left, context))}, right {named(type_of(node.right, context))}",
                         "`Int` and `Unsigned` in one operation", mark(fault))
         if isinstance(node, Assign) and fault.is_at(node.first) and node.value is not None and node.sign.text != "=":
-            return Told(f"left {named(type_of(node.place, context))}, right {named(type_of(node.value, context))}",
+            return Hint(f"left {named(type_of(node.place, context))}, right {named(type_of(node.value, context))}",
                         "`Int` and `Unsigned` in one operation", mark(fault))
-    return Told("", "`Int` and `Unsigned` in one operation", mark(fault))
+    return Hint("", "`Int` and `Unsigned` in one operation", mark(fault))
 
 
-def wrong_type(fault: Fault) -> Told:
+def wrong_type(fault: Fault) -> Hint:
     """A wrong type: at an operator, at a type, at a `return`, or at the first token of what is wrong."""
     declared = bad_declaration(fault)
     if declared is not None:
@@ -54,42 +54,42 @@ def wrong_type(fault: Fault) -> Told:
         found = at_first(fault, node, context)
         if found is not None:
             return found
-    return Told("", "", mark(fault))
+    return Hint("", "", mark(fault))
 
 
-def bad_declaration(fault: Fault) -> Told | None:
+def bad_declaration(fault: Fault) -> Hint | None:
     """A local, a parameter or a result of a type that it can't have."""
     if fault.token.kind != "type":
         return None
     kind, size = fault.token.text, mark(fault)
     if kind in (WINDOW, RANDOM):
-        return Told(f"`{kind}` is for data members", "an `EventWindow` or a `Random` as a local or a parameter", size)
+        return Hint(f"`{kind}` is for data members", "an `EventWindow` or a `Random` as a local or a parameter", size)
     if kind in fault.classes.by_name and not fault.classes.is_element(kind):
-        return Told(f"`{kind}` is a quark", "locals of a quark type", size)
-    return Told(f"`{kind}` isn't allowed here", "a local, a parameter or a result of a type that it can't have", size)
+        return Hint(f"`{kind}` is a quark", "locals of a quark type", size)
+    return Hint(f"`{kind}` isn't allowed here", "a local, a parameter or a result of a type that it can't have", size)
 
 
-def at_sign(fault: Fault, node: Statement | Expr, context: Context) -> Told | None:
+def at_sign(fault: Fault, node: Statement | Expr, context: Context) -> Hint | None:
     """An operator at the place, with the types of its operands."""
     match node:
         case Binary() if fault.is_at(node.sign):
             left, right = type_of(node.left, context), type_of(node.right, context)
             form = sign_form(node.sign.text, left, right)
-            return Told(f"left {named(left)}, right {named(right)}", form, mark(fault))
+            return Hint(f"left {named(left)}, right {named(right)}", form, mark(fault))
         case IsTest() if fault.is_at(node.sign):
-            return Told(f"left {named(type_of(node.left, context))}, expected an atom",
+            return Hint(f"left {named(type_of(node.left, context))}, expected an atom",
                         "`is` of something that isn't an atom", mark(fault))
         case Prefixed() if fault.is_at(node.sign) and (form := prefix_form(node, context)):
-            return Told(f"before {named(type_of(node.operand, context))}", form, mark(fault))
+            return Hint(f"before {named(type_of(node.operand, context))}", form, mark(fault))
         case Assign() if fault.is_at(node.first) and node.sign.text != "=":
             left = type_of(node.place, context)
             right = PLAIN if node.value is None else type_of(node.value, context)
             form = sign_form(node.sign.text.removesuffix("=")[:2], left, right)
-            return Told(f"`{node.sign.text}` on {named(left)} and {named(right)}", form, mark(fault))
+            return Hint(f"`{node.sign.text}` on {named(left)} and {named(right)}", form, mark(fault))
         case Return() if fault.is_at(node.first):
             result = named(context.classes.type(context.class_, fault.function.type)) if fault.function else ""
             what = "with a value" if node.value is not None else "without a value"
-            return Told(f"{what}; the function's result is {result}",
+            return Hint(f"{what}; the function's result is {result}",
                         "`return` without a value, or with one in a `Void` function", mark(fault))
     return None
 
@@ -125,28 +125,28 @@ def prefix_form(node: Prefixed, context: Context) -> str:
     return ""
 
 
-def at_first(fault: Fault, node: Statement | Expr, context: Context) -> Told | None:
+def at_first(fault: Fault, node: Statement | Expr, context: Context) -> Hint | None:
     """Something at the place whose first token is there."""
     if isinstance(node, (If, Loop)) and node.condition is not None and fault.is_at(node.condition.first):
         met = type_of(node.condition, context)
         if met != BOOL and met is not None and not is_no_value(node.condition, context):
-            return Told(f"met {named(met)}, expected `Bool`", "a condition that isn't a `Bool`", extent(node.condition))
+            return Hint(f"met {named(met)}, expected `Bool`", "a condition that isn't a `Bool`", extent(node.condition))
     if not isinstance(node, Expr) or not fault.is_at(node.first):
         return None
     match node:
         case Cast():
             inner = type_of(node.operand, context)
             is_from = inner is not None and not inner.is_number and inner != PLAIN
-            return Told(f"a cast from {named(inner)}" if is_from else f"a cast to `{node.type}`",
+            return Hint(f"a cast from {named(inner)}" if is_from else f"a cast to `{node.type}`",
                         "a cast to or from an atom or an element", extent(node))
         case Number() if node.token.number > MAX_INT:
-            return Told(f"taken as an Int, which is at most {MAX_INT}", "a number above 2147483647 as an Int", mark(fault))
+            return Hint(f"taken as an Int, which is at most {MAX_INT}", "a number above 2147483647 as an Int", mark(fault))
         case Item():
             return item(node, context)
         case Call():
             return call(node, context)
         case Path() if is_no_value(node, context):
-            return Told(f"`{node.last.text}` is {what_is(node, context)}, which is no value", NO_VALUE, extent(node))
+            return Hint(f"`{node.last.text}` is {what_is(node, context)}, which is no value", NO_VALUE, extent(node))
     return None
 
 
@@ -183,19 +183,19 @@ def is_no_value(expr: Expr, context: Context) -> bool:
     return is_quark or is_function or steps[-1].type.length > 0 or kind in LIBRARY
 
 
-def item(node: Item, context: Context) -> Told | None:
+def item(node: Item, context: Context) -> Hint | None:
     """What is wrong with an index."""
     of, index = type_of(node.path, context), type_of(node.index, context)
     if of is None or (of.kind != WINDOW and not of.length):
-        return Told(f"`{node.path.last.text}` is of type {named(of)}", "an index behind something that has none",
+        return Hint(f"`{node.path.last.text}` is of type {named(of)}", "an index behind something that has none",
                     extent(node.path))
     if index is None or index.family not in ("Int", "Unsigned", "plain"):
-        return Told(f"the index is {named(index)}, expected an Int or an Unsigned",
+        return Hint(f"the index is {named(index)}, expected an Int or an Unsigned",
                     "an index or a site that isn't a number", extent(node))
     return None
 
 
-def call(node: Call, context: Context) -> Told | None:
+def call(node: Call, context: Context) -> Hint | None:
     """What is wrong with a call."""
     steps = context.steps(node.path)
     if len(steps) < len(node.path.names):
@@ -203,30 +203,30 @@ def call(node: Call, context: Context) -> Told | None:
     last, owner = steps[-1], steps[-2].type.kind if len(steps) > 1 else ""
     is_library = last.name.text in LIBRARY.get(owner, ())
     if not is_library and not isinstance(last.member, Function):
-        return Told(f"`{last.name.text}` is no function but of type {named(last.type)}",
+        return Hint(f"`{last.name.text}` is no function but of type {named(last.type)}",
                     "a call of what isn't a function", extent(node.path))
     if steps[0].local is not None and not is_library:
-        return Told(f"`{steps[0].name.text}` is a local",
+        return Hint(f"`{steps[0].name.text}` is a local",
                     "a call of another element's function through a local (`other.grow()`)", extent(node.path))
     kinds = [type_of(argument, context) for argument in node.arguments]
     if is_library and owner == RANDOM:
-        return Told(f"the argument is {named(kinds[0] if kinds else None)}, expected an Unsigned or a plain number",
+        return Hint(f"the argument is {named(kinds[0] if kinds else None)}, expected an Unsigned or a plain number",
                     "a random number below an Int", extent(node))
     if is_library and any(kind is None or kind.family not in ("Int", "Unsigned", "plain") for kind in kinds):
-        return Told(f"met {', '.join(map(named, kinds))}, expected site numbers",
+        return Hint(f"met {', '.join(map(named, kinds))}, expected site numbers",
                     "an index or a site that isn't a number", extent(node))
     if last.type.kind == "Void":
-        return Told(f"`{last.name.text}` has no result", NO_VALUE, extent(node))
+        return Hint(f"`{last.name.text}` has no result", NO_VALUE, extent(node))
     return None
 
 
-def not_assignable(fault: Fault) -> Told:
+def not_assignable(fault: Fault) -> Hint:
     """A value that can't be assigned to its target."""
     for node, context in fault.nodes:
         match node:
             case Assign() if fault.is_at(node.first):
                 if not can_change(node.place, context):
-                    return Told(f"{named_place(node.place)} can't be assigned to",
+                    return Hint(f"{named_place(node.place)} can't be assigned to",
                                 "a left side that can't be assigned to", extent(node.place))
                 return pair(type_of(node.place, context), PLAIN if node.value is None else type_of(node.value, context),
                             extent(node.place))
@@ -240,7 +240,7 @@ def not_assignable(fault: Fault) -> Told:
                 return argument(node.call, context)
             case Call() if fault.is_at(node.first):
                 return argument(node, context)
-    return Told("", "", mark(fault))
+    return Hint("", "", mark(fault))
 
 
 def named_place(place: Expr) -> str:
@@ -260,7 +260,7 @@ def can_change(place: Expr, context: Context) -> bool:
     return last.local is not None or (isinstance(last.member, Data) and last.type.is_number)
 
 
-def pair(target: Type | None, value: Type | None, size: int) -> Told:
+def pair(target: Type | None, value: Type | None, size: int) -> Hint:
     """Two types of which the second can't be assigned to the first."""
     label = f"met {named(value)}, expected {named(target)}"
     kinds = [it.family if it is not None else "" for it in (target, value)]
@@ -270,22 +270,22 @@ def pair(target: Type | None, value: Type | None, size: int) -> Told:
         form = "a value of another class of numbers"
     else:
         form = "an `Atom` for an element, or an atom for a number"
-    return Told(label, form, size)
+    return Hint(label, form, size)
 
 
-def argument(node: Call, context: Context) -> Told:
+def argument(node: Call, context: Context) -> Hint:
     """The first argument that can't be assigned to its parameter."""
     form = "an argument of another type than its parameter"
     steps = context.steps(node.path)
     member = steps[-1].member if steps else None
     owner = steps[-1].owner if steps else None
     if not isinstance(member, Function) or owner is None:
-        return Told("", form, extent(node))
+        return Hint("", form, extent(node))
     for given, parameter in zip(node.arguments, member.parameters):
         met, wanted = type_of(given, context), context.classes.type(owner, parameter.type)
         if not fits(met, wanted):
-            return Told(f"`{parameter.name.text}` gets {named(met)}, expected {named(wanted)}", form, extent(node))
-    return Told("", form, extent(node))
+            return Hint(f"`{parameter.name.text}` gets {named(met)}, expected {named(wanted)}", form, extent(node))
+    return Hint("", form, extent(node))
 
 
 def fits(met: Type | None, wanted: Type) -> bool:
@@ -297,7 +297,7 @@ def fits(met: Type | None, wanted: Type) -> bool:
     return met.family == wanted.family or (wanted.kind == "Atom" and not met.is_number)
 
 
-def arguments(fault: Fault) -> Told:
+def arguments(fault: Fault) -> Hint:
     """A call with too many or too few arguments."""
     for node, context in fault.nodes:
         if isinstance(node, Call) and fault.is_at(node.first):
@@ -306,9 +306,9 @@ def arguments(fault: Fault) -> Told:
             wanted = 2 if node.path.last.text == "swap" else 1
             wanted = len(member.parameters) if isinstance(member, Function) else wanted
             if len(node.arguments) != wanted:
-                return Told(f"met {count(len(node.arguments))}, expected {wanted}", "too many or too few arguments",
+                return Hint(f"met {count(len(node.arguments))}, expected {wanted}", "too many or too few arguments",
                             extent(node))
-    return Told("", "too many or too few arguments", mark(fault))
+    return Hint("", "too many or too few arguments", mark(fault))
 
 
 def count(number: int) -> str:
@@ -316,7 +316,7 @@ def count(number: int) -> str:
     return f"{number} argument{'' if number == 1 else 's'}"
 
 
-def not_an_element(fault: Fault) -> Told:
+def not_an_element(fault: Fault) -> Hint:
     """A type that isn't an element, or a name before `as` that isn't an Atom."""
     name = fault.token.text
     for node, context in fault.nodes:
@@ -325,27 +325,27 @@ def not_an_element(fault: Fault) -> Told:
             step = context.first(test.name)
             is_local = step is not None and step.local is not None
             kind = named(step.type if step else None)
-            return Told(f"`{name}` is {'of type ' + kind if is_local else 'no local'}",
+            return Hint(f"`{name}` is {'of type ' + kind if is_local else 'no local'}",
                         "`as` after something that isn't a local of type `Atom`", mark(fault))
     if name in fault.classes.by_name and fault.text(1) != ".":
-        return Told(f"`{name}` is a quark", "`a is Q`, `a as Q` with a quark", mark(fault))
+        return Hint(f"`{name}` is a quark", "`a is Q`, `a as Q` with a quark", mark(fault))
     form = "`is`, `as` or `instanceof` with something that isn't an element"
-    return Told(f"`{name}` is no element", form, mark(fault))
+    return Hint(f"`{name}` is no element", form, mark(fault))
 
 
-def no_loop(fault: Fault) -> Told:
+def no_loop(fault: Fault) -> Hint:
     """`break` or `continue` outside of a loop."""
-    return Told("no loop is around it", "`break` or `continue` outside of a loop", mark(fault))
+    return Hint("no loop is around it", "`break` or `continue` outside of a loop", mark(fault))
 
 
-def no_return(fault: Fault) -> Told:
+def no_return(fault: Fault) -> Hint:
     """A function with a result whose end can be reached."""
     result = f", which gives {named(fault.classes.type(fault.class_, fault.function.type))}" \
         if fault.function and fault.class_ else ""
-    return Told(f"the end of `{fault.token.text}`{result}, can be reached",
+    return Hint(f"the end of `{fault.token.text}`{result}, can be reached",
                 "a path through a function that returns nothing", mark(fault))
 
 
-def too_long(fault: Fault) -> Told:
+def too_long(fault: Fault) -> Hint:
     """An element whose code is too long."""
-    return Told("with all functions that it calls", "code of more than 65,536 instructions", mark(fault))
+    return Hint("with all functions that it calls", "code of more than 65,536 instructions", mark(fault))

@@ -5,24 +5,24 @@ from difflib import get_close_matches
 from ..ulam.classes import Classes
 from ..ulam.nearby import has_class
 from ..ulam.tokens import Source, Token
-from .fault import Refused, Told, read
+from .fault import RefusalLine, Hint, read
 
 
-def told(refused: Refused, world: Source, files: Sequence[Source]) -> Told:
+def hint_of_world(refused: RefusalLine, world: Source, files: Sequence[Source]) -> Hint:
     """What is said of a refusal with a code above E60; the caret marks the whole line."""
     lines = world.text.split("\n")
     line = lines[refused.line - 1].removesuffix("\r") if refused.line <= len(lines) else ""
     size = max(len(line), 1)
     if refused.code == "E73":
-        return Told(unknown(line, files), "", size)
+        return Hint(unknown(line, files), "", size)
     if refused.code == "E74":
         first = taken(lines[:refused.line - 1], line)
         token = Token("name", lines[first], world.starts[first], world)
-        return Told("", "", size, ((token, "the atom that is there"),))
+        return Hint("", "", size, ((token, "the atom that is there"),))
     if refused.code == "E81" and (before := int(refused.text.rpartition(" ")[2])):
         token = Token("name", lines[before - 1], world.starts[before - 1], world)
-        return Told("", "", size, ((token, "the line before which it belongs"),))
-    return Told("" if line else "the file ends here", "", size)
+        return Hint("", "", size, ((token, "the line before which it belongs"),))
+    return Hint("" if line else "the file ends here", "", size)
 
 
 def unknown(line: str, files: Sequence[Source]) -> str:

@@ -51,21 +51,15 @@ import argparse
 from pathlib import Path
 
 from ..base.errors import LabError
-from ..base.files import read_text
-from ..base.program import Program
-from ..base.progress import Progress
-from ..chain.audit import audit
-from ..chain.branch import begin_branch
-from ..chain.columns import with_failures, with_measures
-from ..chain.folder import Course, Folder
-from ..chain.keeper import Keeper
-from ..chain.legs import Maker
-from ..chain.start import Start
-from ..formats.layout import Layout
-from ..measure.measures import add_measure_options, measures_of
-from ..measure.until import FORM, Until
-from ..trace.retraced import status_of
+from ..base.progress import ProgressLine, Stop
+from ..chain.audit import first_fault
+from ..chain.branch import Origin
+from ..chain.folder import Folder
+from ..chain.making import WantedChain, made
+from ..measure.until import FORM
 from .alone import Alone
+from .options import add_measure_options
+from .verdicts import status_of, verdict
 
 
 def add_arguments(parser: argparse.ArgumentParser) -> None:
@@ -95,56 +89,35 @@ def add_arguments(parser: argparse.ArgumentParser) -> None:
 def run(arguments: argparse.Namespace) -> int:
     """Begins a chain, or goes on with it; or audits one."""
     if arguments.audit is not None:
-        return audit(Folder(arguments.audit), arguments.leg)
+        return verdict(first_fault(Folder(arguments.audit), arguments.leg, ProgressLine()))
     if arguments.leg is not None:
         raise LabError(f"--leg {arguments.leg}: it belongs to --audit DIR")
+    wanted = wanted_chain(arguments)
     if arguments.origin is not None:
-        begin_branch(arguments)
-    return status_of(lambda: make(arguments))
+        wanted = branch(arguments, wanted)
+    return status_of(lambda: make(wanted))
 
 
-def make(arguments: argparse.Namespace) -> None:
+def wanted_chain(arguments: argparse.Namespace) -> WantedChain:
+    """What the words say of the chain."""
+    return WantedChain(arguments.folder, arguments.world, arguments.files, arguments.legs, arguments.step, arguments.seed,
+                       arguments.keep, arguments.at, arguments.until, arguments.measures, arguments.failures)
+
+
+def branch(arguments: argparse.Namespace, wanted: WantedChain) -> WantedChain:
+    """Begins the chain as a branch of another. Refuses words for what a branch takes from that."""
+    path, last = arguments.origin
+    origin = Origin.of(Path(path))
+    if arguments.world is not None or arguments.step or arguments.seed is not None or arguments.keep != "none":
+        raise LabError(f"--from: the branch takes its world, its elements, --step, --seed and --keep from {origin.folder.path}")
+    return origin.branch(last, wanted)
+
+
+def make(wanted: WantedChain) -> None:
     """Begins a chain, or goes on with it, and tells how far it has come."""
-    course = made(arguments, Progress(max(arguments.legs, 1)), is_lasting=True)
-    print(course.summary(arguments.folder))
-    for text in arguments.at:
+    course = made(wanted, ProgressLine(), Stop(), is_lasting=True)
+    print(course.summary(wanted.folder))
+    for text in wanted.at:
         leg = int(text.partition(":")[0])
         if leg >= len(course.legs):
             print(f"--at {text}: still to come; the chain has {len(course.legs) - 1} legs so far, and --legs {leg} or more does it")
-
-
-def made(arguments: argparse.Namespace, progress: Progress, is_lasting: bool) -> Course:
-    """Begins a chain, or goes on with it, until it has its legs; gives back its course. If it is lasting, what a leg needs
-    has come down to the disk before the leg counts as done."""
-    if arguments.legs < 1:
-        raise LabError(f"--legs {arguments.legs}: a chain has at least one leg")
-    program, folder = Program.find(), Folder(arguments.folder, is_lasting)
-    start = Start.of(program, arguments.world, arguments.files, arguments.step, arguments.seed, arguments.keep, arguments.at)
-    layout = Layout.of(program, arguments.files)
-    measures_of(arguments.measures, layout)
-    until = Until.of(arguments.until, layout) if arguments.until is not None else None
-    folder.make()
-    with folder.held():
-        maker, course = start.opened(folder)
-        maker = with_measures(maker, course, arguments.measures)
-        if arguments.failures:
-            maker = with_failures(maker, course)
-        go(maker, course, arguments.legs, until, progress)
-    return course
-
-
-def go(maker: Maker, course: Course, legs: int, until: Until | None, progress: Progress) -> None:
-    """Makes the legs that are still to be made, or those up to the first at whose end the rule holds."""
-    progress.start_done = len(course.legs) - 1
-    with Keeper(maker.folder, maker.rule.world) as keeper:
-        keeper.keep_all(len(course.legs) - 1)
-        for number in range(len(course.legs), legs + 1):
-            if until is not None and until.holds(read_text(maker.folder.atoms(number - 1))):
-                break
-            progress.at(number - 1, f"leg {number} of {legs}")
-            atoms = maker.atoms_before(number)
-            report = maker.report(number, atoms)
-            course.legs.append(maker.written(number, report, maker.failed(atoms, report)))
-            maker.folder.write_course(course)
-            keeper.keep(number)
-    progress.end()

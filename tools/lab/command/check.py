@@ -15,20 +15,14 @@ from collections.abc import Sequence
 from pathlib import Path
 
 from ..base.errors import LabError
-from ..base.excerpt import bytes_around, lines_around
 from ..base.files import cause, read_byte_text
 from ..base.program import Program, Refusal
-from ..check.fault import Fault, Refused, Told, read
+from ..check.fault import RefusalLine, read
 from ..check.given import Given
-from ..check.grammar import told as told_of_grammar
-from ..check.names import told as told_of_names
-from ..check.pages import codes, instead_of
-from ..check.types import told as told_of_types
-from ..check.worlds import told as told_of_world
+from ..check.shown import refusal_lines, warned_lines
 from ..lint.every import warnings
-from ..lint.warned import Warned
 from ..ulam.classes import Classes
-from ..ulam.tokens import Source, Token
+from ..ulam.tokens import Source
 
 STRICT = 1
 REFUSED = 2
@@ -53,7 +47,7 @@ def run(arguments: argparse.Namespace) -> int:
     try:
         given.call(Program.find())
     except Refusal as refusal:
-        refused = Refused.of(str(refusal))
+        refused = RefusalLine.of(str(refusal))
         if refused is None:
             raise
         write(refusal_lines(refused, given))
@@ -80,50 +74,3 @@ def source_of(name: str) -> Source:
 def write(lines: Sequence[str]) -> None:
     """Writes lines to standard output."""
     sys.stdout.write("".join(line + "\n" for line in lines))
-
-
-def refusal_lines(refused: Refused, given: Given) -> list[str]:
-    """What is shown of a refusal: its line, the place, other places, and what to write instead."""
-    source = given.source(refused)
-    said = told(refused, source, given.files)
-    found = [f"{refused.name}:{refused.line}:{refused.column}: {refused.code} {refused.text}"]
-    if source is given.code:
-        found += bytes_around(source.text, refused.column)
-    else:
-        found += lines_around(source.text, refused.line, refused.column, said.length, said.label)
-    for token, label in said.also:
-        found += place_lines(token, label)
-    rule = instead_of(refused.code, said.form)
-    if rule is not None:
-        found += [f"written: {rule.form}", f"instead: {rule.instead}"]
-    elif refused.code in codes():
-        found += [f"usual cause: {codes()[refused.code].cause}"]
-    return [*found, f"more: ./lab explain {refused.code}"]
-
-
-def told(refused: Refused, source: Source, files: Sequence[Source]) -> Told:
-    """What is said of a refusal."""
-    code, fault = refused.code, Fault(refused, source, files)
-    if code > "E60":
-        return told_of_world(refused, source, files)
-    if code < "E30":
-        return told_of_grammar(fault)
-    if code < "E50":
-        return told_of_names(fault)
-    return told_of_types(fault)
-
-
-def place_lines(token: Token, label: str) -> list[str]:
-    """A place beside that of the refusal."""
-    line, column = token.place
-    return [f"{token.where}: {label}", *lines_around(token.source.text, line, column, len(token.text), "")]
-
-
-def warned_lines(warned: Warned) -> list[str]:
-    """What is shown of a warning."""
-    line, column = warned.token.place
-    found = [f"{warned.token.where}: warning: {warned.text} [{warned.name}]",
-             *lines_around(warned.token.source.text, line, column, len(warned.token.text), "")]
-    for token, label in warned.also:
-        found += place_lines(token, label)
-    return found

@@ -16,22 +16,19 @@ import argparse
 import csv
 import sys
 import tempfile
-from collections.abc import Iterator, Sequence
+from collections.abc import Sequence
 from pathlib import Path
 
 from ..base.errors import LabError
-from ..base.files import read_text
 from ..base.program import Program
-from ..chain.folder import COURSE, FAILED
-from ..film.recording import Source
+from ..base.progress import ProgressLine
+from ..chain.folder import COURSE
+from ..film.recording import Recording
 from ..machine.declarations import Declarations
-from ..machine.event import CAUSES
-from ..trace.retraced import Retraced, status_of
+from ..trace.failures import COLUMNS, LIST_COLUMNS, counted, course_rows, rows
+from ..trace.retraced import Retraced
+from .verdicts import status_of
 from .words import take_words_anywhere
-
-LIST_COLUMNS = ("event", "x", "y", "element", "cause", "reason", "function", "line", "instruction")
-COLUMNS = ("element", "cause", "reason", "events", "first", "x", "y", "function", "line", "instruction")
-Row = Sequence[object]
 
 
 def add_arguments(parser: argparse.ArgumentParser) -> None:
@@ -56,44 +53,13 @@ def run(arguments: argparse.Namespace) -> int:
 def write(words: Sequence[Path], is_list: bool, is_course: bool) -> None:
     """Writes the rows, once all events are made."""
     program = Program.find()
-    source = Source.of(program, words)
+    recording = Recording.of(program, words)
     with tempfile.TemporaryDirectory() as room:
-        retraced = Retraced(program, source, Path(room))
-        failed = list(rows(retraced, Declarations.of(source.files, source.layout)))
+        retraced = Retraced(program, recording, Path(room), ProgressLine())
+        failed = list(rows(retraced, Declarations.of(recording.files, recording.layout)))
     out = csv.writer(sys.stdout, lineterminator="\n")
     if is_course:
-        out.writerows(course_rows(words[0] / COURSE, source.ends, [int(str(row[0])) for row in failed]))
+        out.writerows(course_rows(words[0] / COURSE, recording.ends, [int(str(row[0])) for row in failed]))
     else:
         out.writerow(LIST_COLUMNS if is_list else COLUMNS)
         out.writerows(failed if is_list else counted(failed))
-
-
-def rows(retraced: Retraced, declarations: Declarations) -> Iterator[Row]:
-    """A row for each failed event, in the order of the journal."""
-    for made in retraced.events():
-        if made.ending.cause:
-            code, place = retraced.codes[made.acting - 1], made.ending.place
-            function = code.function_at(place)
-            yield (made.number, made.record.x, made.record.y, code.name, made.ending.cause, CAUSES[made.ending.cause],
-                   function.name, declarations.line(code.name, function), f"{place} {code.instructions[place].text()}")
-
-
-def counted(failed: Sequence[Row]) -> Iterator[Row]:
-    """A row for each element and cause, in the order in which they first came up."""
-    groups: dict[tuple[object, object], list[Row]] = {}
-    for row in failed:
-        groups.setdefault((row[3], row[4]), []).append(row)
-    for (element, cause), group in groups.items():
-        first, x, y, _, _, reason, *where = group[0]
-        yield element, cause, reason, len(group), first, x, y, *where
-
-
-def course_rows(path: Path, ends: Sequence[int], failed: Sequence[int]) -> Iterator[Row]:
-    """The rows of a course, with the failed events of each leg behind its abandoned attempts."""
-    header, *legs = csv.reader(read_text(path).splitlines())
-    at = header.index("abandoned") + 1
-    behind = at + (header[at] == FAILED)
-    yield [*header[:at], FAILED, *header[behind:]]
-    for number, row in enumerate(legs):
-        begin, end = ends[max(number - 1, 0)], ends[number]
-        yield [*row[:at], sum(begin < event <= end for event in failed), *row[behind:]]

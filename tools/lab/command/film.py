@@ -15,37 +15,18 @@ where events failed, and the CSV a column `failed`. If the program makes an even
 import argparse
 import sys
 import tempfile
-from collections.abc import Iterator, Mapping
-from itertools import pairwise
 from pathlib import Path
 
 from ..base.errors import LabError
 from ..base.files import write_whole
 from ..base.program import Program
-from ..base.progress import Progress
-from ..film.batches import side_by_side
-from ..film.curves import Curves
-from ..film.data import Packer
-from ..film.failure_plane import FailurePlane
-from ..film.frames import Frame, Reported
-from ..film.movie import movie
-from ..film.page import page
-from ..film.recording import Source
-from ..film.replays import Plane
-from ..film.table import Table
-from ..formats.layout import Leaf
-from ..formats.world import World
-from ..machine.code import codes
-from ..measure.drift import MIXED, of_legs, plans, tiles_of, warning
-from ..measure.measures import add_measure_options
-from ..pictures.figure import plane_figure
-from ..pictures.marks import marks
-from ..pictures.tints import tinted, tints
-from ..trace.retraced import reported_legs, status_of
+from ..base.progress import ProgressLine
+from ..film.making import FRAMES, MOST_FRAMES, Filming, WantedFilm, refuse_frames
+from ..film.recording import Recording
+from .options import add_measure_options
+from .verdicts import status_of
 from .words import take_words_anywhere
 
-FRAMES = 400
-MOST_FRAMES = 10_000  # each is a call of the program: on a small plane some two milliseconds of processor time, on the largest thirty
 PAGES = (".html", ".htm", ".xhtml")
 USAGE = """./lab film [-h] [--frames F] [--failures] [--color Element.member] [MEASURE..]
        (-o FILE.html [--table FILE.csv] | --svg K | --svg-movie SECONDS | --csv) (WORLD REPORT FILE.. | DIR)"""
@@ -86,44 +67,33 @@ def run(arguments: argparse.Namespace) -> int:
     return status_of(lambda: write(arguments))
 
 
-def refuse_frames(said: str, count: int) -> None:
-    """Refuses numbers of frames that no film has."""
-    if count < 1:
-        raise LabError(f"{said}: a film has at least one frame behind the first")
-    if count > MOST_FRAMES:
-        raise LabError(f"{said}: a film has at most {MOST_FRAMES:,} frames behind the first, and that many take minutes")
-
-
 def write(arguments: argparse.Namespace) -> None:
     """Makes what is asked for, and writes it."""
     program = Program.find()
-    source = Source.of(program, arguments.words)
-    curves = Curves(arguments.measures or source.measures, source.layout)
-    leaves = tinted(arguments.color, source.layout, source.files)
-    with tempfile.TemporaryDirectory() as folder:
-        plane = Plane(program, source.files, Path(folder))
-        if arguments.failures:
-            reported_legs(source)
-            plane = FailurePlane(program, source.files, Path(folder), source.world, codes(program, source.files))
-        if arguments.svg is not None:
-            text = figure_of(plane, source, arguments.svg, leaves)
-        elif arguments.svg_movie is not None:
-            text = movie(source.world, source.title, shown(plane, source, arguments.frames),
-                         marks(source.layout.elements, source.files), arguments.svg_movie)
-        elif arguments.csv:
-            text = table_of(source, curves.watched(shown(plane, source, arguments.frames)), curves, arguments.failures)
-        else:
-            films = curves.watched(shown(plane, source, arguments.frames))
-            if arguments.table is None:
-                text = page_of(source, films, curves, leaves, arguments.failures)
-            else:
-                table = Table(source, curves, arguments.failures)
-                text = page_of(source, table.noting(films), curves, leaves, arguments.failures)
-                write_whole(arguments.table, table.text())
+    recording = Recording.of(program, arguments.words)
+    wanted = WantedFilm(arguments.frames, arguments.color, arguments.measures, arguments.failures)
+    with tempfile.TemporaryDirectory() as room:
+        text = made(Filming.of(program, recording, wanted, Path(room), ProgressLine()), arguments)
     if arguments.output is None:
         sys.stdout.write(text)
     else:
         write_whole(arguments.output, text)
+
+
+def made(filming: Filming, arguments: argparse.Namespace) -> str:
+    """What is asked for; a table that is to be beside a film is written."""
+    if arguments.svg is not None:
+        return filming.figure(arguments.svg)
+    if arguments.svg_movie is not None:
+        return filming.movie(arguments.svg_movie)
+    if arguments.csv:
+        return filming.counts()
+    if arguments.table is None:
+        return filming.page()
+    table = filming.table()
+    text = filming.page(table)
+    write_whole(arguments.table, table.text())
+    return text
 
 
 def refuse_useless(arguments: argparse.Namespace) -> None:
@@ -151,57 +121,3 @@ def refuse_outputs(arguments: argparse.Namespace) -> None:
                        "--svg K makes a picture, and --csv a table")
     if arguments.table is not None and not is_page:
         raise LabError("--table belongs to a film; --csv writes the table alone")
-
-
-def shown(plane: Plane, source: Source, count: int) -> Iterator[Frame]:
-    """The frames, with the progress on standard error."""
-    progress = Progress(max(source.ends[-1], 1))
-    for frame in side_by_side(plane, source.legs, source.moments(count)):
-        yield frame
-        progress.at(frame.events, f"after {frame.events:,} events")
-    progress.end()
-
-
-def page_of(source: Source, films: Iterator[Frame], curves: Curves, leaves: Mapping[str, Leaf], has_failures: bool) -> str:
-    """The film."""
-    marked = marks(source.layout.elements, source.files)
-    packer = Packer(source.layout.elements, has_failures)
-    made = bytearray()
-    for frame in films:
-        packer.add(frame)
-        made += frame.made
-    more = {"measures": curves.head(), "colorBy": [tint.head() for tint in tints(leaves, packer.atoms).values()]}
-    return page(source.title, source.world, source.layout, marked, packer, source.act_moments, told_drift(source, made), more)
-
-
-def table_of(source: Source, films: Iterator[Frame], curves: Curves, has_failures: bool) -> str:
-    """The counts of the elements in each frame."""
-    table, made = Table(source, curves, has_failures), bytearray()
-    for frame in table.noting(films):
-        made += frame.made
-    told_drift(source, made)
-    return table.text()
-
-
-def told_drift(source: Source, made: bytes) -> float:
-    """The drift of the whole run, from the tile of each of its events; warns if its moments mix ages."""
-    drift = 0.0
-    if made and source.world.tiles > 1:
-        parts = zip(source.legs, pairwise(source.ends), strict=True)
-        drift = max(of_legs([(plans(World.read(leg.world)), made[begin:end]) for leg, (begin, end) in parts]))
-    if drift > MIXED:
-        print(f"lab: warning: {source.title}: {warning(drift)}", file=sys.stderr)
-    return drift
-
-
-def figure_of(plane: Plane, source: Source, moment: int, leaves: Mapping[str, Leaf]) -> str:
-    """The plane after so many events, as SVG."""
-    if not 0 <= moment <= source.ends[-1]:
-        raise LabError(f"--svg {moment}: there are {source.ends[-1]} events")
-    leg, events = source.leg_at(moment)
-    atoms = leg.atoms_after(plane, events)
-    if isinstance(leg, Reported) and leg.known is not None and 0 < events < leg.events:
-        told_drift(source, tiles_of(leg.known.journal.lines))
-    caption = f"{source.title} after {moment:,} of {source.ends[-1]:,} events"
-    scales = tints(leaves, (line.split(" ", 2)[2] for line in atoms))
-    return plane_figure(source.world, atoms, marks(source.layout.elements, source.files), caption, scales)

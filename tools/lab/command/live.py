@@ -21,12 +21,10 @@ from pathlib import Path
 
 from ..base.errors import LabError
 from ..base.program import Program
-from ..chain.folder import Folder
-from ..chain.start import Start, going_on
 from ..live.address import NAME, Address
 from ..live.chain import Live
+from ..live.opening import WantedLive, opened
 from ..live.server import Server
-from ..pictures.marks import marks
 
 
 def add_arguments(parser: argparse.ArgumentParser) -> None:
@@ -54,7 +52,7 @@ def run(arguments: argparse.Namespace) -> int:
     with Server(live, arguments.port, Address.kept(arguments.folder)) as server:
         try:
             live.address = server.address
-            opened(live, arguments)
+            opened(live, WantedLive(arguments.folder, arguments.world, arguments.files, arguments.step, arguments.seed, arguments.keep))
         except BaseException:
             live.held.close()
             raise
@@ -72,26 +70,6 @@ def run(arguments: argparse.Namespace) -> int:
     if live.session.fault:
         raise LabError(live.session.fault)
     return 0
-
-
-def opened(live: Live, arguments: argparse.Namespace) -> None:
-    """Opens the chain that the words name, and holds it."""
-    folder = Folder(arguments.folder)
-    if arguments.world is None:
-        if arguments.step or arguments.seed is not None or arguments.keep is not None:
-            raise LabError("--step, --seed and --keep are for a chain to begin: they take WORLD FILE..")
-        folder.begun()
-        live.held.enter_context(folder.held())
-        live.begin(*going_on(live.program, folder))
-        return
-    if not arguments.files:
-        raise LabError("a chain is begun with DIR WORLD FILE..; to go on with one DIR is enough")
-    start = Start.of(live.program, arguments.world, arguments.files, arguments.step, arguments.seed,
-                     arguments.keep or "reports")
-    marks(start.elements, arguments.files)  # refuses faulty ones before the chain is begun
-    folder.make()
-    live.held.enter_context(folder.held())
-    live.begin(*start.opened(folder))
 
 
 def has_display() -> bool:

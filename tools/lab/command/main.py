@@ -32,18 +32,18 @@ def verbs(words: list[str]) -> dict[str, ModuleType]:
     return {verb: importlib.import_module(f".{verb}", __package__) for verb in wanted}
 
 
-class Parser(argparse.ArgumentParser):
+class WordParser(argparse.ArgumentParser):
     """Reads words, and refuses those that it can't read in one line."""
 
     def error(self, message: str) -> NoReturn:
         self.exit(2, f"lab: {message}; see {self.prog} --help\n")
 
 
-def parser(modules: dict[str, ModuleType]) -> Parser:
+def parser(modules: dict[str, ModuleType]) -> WordParser:
     """What reads the words."""
     form = argparse.RawDescriptionHelpFormatter
-    top = Parser(prog="./lab", formatter_class=form, epilog=EPILOG,
-                 description="Long runs, a live window, films, sweeps, rates, atoms and checks, beside the program.")
+    top = WordParser(prog="./lab", formatter_class=form, epilog=EPILOG,
+                     description="Long runs, a live window, films, sweeps, rates, atoms and checks, beside the program.")
     top.add_argument("--version", action=Version, nargs=0, help="the version, the program's SHA-256 and the kit that proved it")
     choice = top.add_subparsers(metavar="VERB", required=True)
     for verb, module in modules.items():

@@ -14,19 +14,15 @@ them the world has none, and you can add lines for them after `size`. With --ord
 take turns; without it `step` makes all attempts of tile 0, then all of tile 1, and so on.
 """
 import argparse
-import re
 import sys
-from dataclasses import dataclass
 from pathlib import Path
 
 from ..base.errors import LabError
 from ..base.program import Program
 from ..formats.layout import Layout
-from ..formats.world import Placed, World
 from ..worlds.drawing import Drawing
-from ..worlds.frame import add_frame, frame, state
-
-KEY = re.compile(r"(?P<symbol>[^=]+|=)=(?P<element>\w+)(?::(?P<members>.*))?")
+from ..worlds.paint import keys_of, painted
+from .options import add_frame, wanted_frame
 
 
 def add_arguments(parser: argparse.ArgumentParser) -> None:
@@ -41,20 +37,12 @@ def add_arguments(parser: argparse.ArgumentParser) -> None:
     parser.add_argument("files", metavar="FILE", nargs="+", help="the element files")
 
 
-@dataclass(frozen=True)
-class Key:
-    """What a symbol stands for."""
-
-    element: str
-    state: int
-
-
 def run(arguments: argparse.Namespace) -> int:
     """Writes the world to standard output."""
     layout = Layout.of(Program.find(), arguments.files)
     if (arguments.seed is None) != (arguments.attempts is None):
         raise LabError("--seed and --attempts belong together")
-    world = frame(arguments)
+    world = wanted_frame(arguments).world()
     drawing = Drawing.read(arguments.map)
     keys = keys_of(arguments.keys, layout, drawing)
     left, top = arguments.place
@@ -63,39 +51,3 @@ def run(arguments: argparse.Namespace) -> int:
         print(f"lab: warning: {drawing.name}: {warning}", file=sys.stderr)
     sys.stdout.write(world.text())
     return 0
-
-
-def keys_of(texts: list[str], layout: Layout, drawing: Drawing) -> dict[str, Key]:
-    """What each symbol stands for."""
-    keys: dict[str, Key] = {}
-    for text in texts:
-        symbol, meant = key(text, layout)
-        if keys.setdefault(symbol, meant) is not meant:
-            raise LabError(f"--key {symbol}: it is given twice")
-    for symbol in drawing.empty:
-        if symbol in keys:
-            raise LabError(f"--key {symbol}: it is always empty in such a map as {drawing.name}")
-    return keys
-
-
-def painted(world: World, drawing: Drawing, keys: dict[str, Key], left: int, top: int) -> list[Placed]:
-    """The atoms of a map whose first symbol has a place of the plane."""
-    atoms = []
-    for mark in drawing.marks:
-        if mark.symbol not in keys:
-            shown = mark.symbol if mark.symbol.isprintable() else repr(mark.symbol)
-            raise LabError(f"{drawing.name}: {shown} at column {mark.x} of row {mark.y} has no --key")
-        x, y = mark.x + left, mark.y + top
-        if not (0 <= x < world.columns and 0 <= y < world.rows):
-            raise LabError(f"{drawing.name}: {mark.symbol} would stand at {x} {y}, "
-                           f"outside the plane of {world.columns} by {world.rows} sites")
-        atoms.append(Placed(x, y, keys[mark.symbol].element, keys[mark.symbol].state))
-    return atoms
-
-
-def key(text: str, layout: Layout) -> tuple[str, Key]:
-    """A symbol and what it stands for."""
-    match = KEY.fullmatch(text)
-    if match is None:
-        raise LabError(f"--key {text}: it has to be S=Element or S=Element:member=value,..")
-    return match["symbol"], Key(match["element"], state(f"--key {text}", layout, match["element"], match["members"]))

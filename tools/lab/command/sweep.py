@@ -32,27 +32,19 @@ import csv
 import os
 import sys
 import tempfile
-import threading
-from collections.abc import Iterator, Sequence
-from concurrent.futures import ThreadPoolExecutor
 from pathlib import Path
 
 from ..base.errors import LabError
-from ..base.files import read_byte_text, read_bytes
-from ..base.inputs import digest
-from ..base.program import Program
-from ..base.progress import Progress
-from ..formats.layout import Layout
-from ..measure.measures import add_measure_options, measures_of
+from ..base.progress import ProgressLine, Stop
 from ..measure.until import FORM as RULE_FORM
-from ..measure.until import Until
 from ..sweep.check import check_runs
-from ..sweep.gather import audit, gather
-from ..sweep.plan import FORM, MOST_RUNS, Plan, Run, Sweep, write_plan
+from ..sweep.gather import first_fault, gather, spans
+from ..sweep.making import WantedSweep, made
+from ..sweep.plan import TABLE, Sweep, write_plan
 from ..sweep.run import make_run, rows_of
-from ..sweep.values import settings
-from ..worlds.starting import drawn_world, first_seed
 from .alone import Alone
+from .options import add_measure_options
+from .verdicts import verdict
 
 
 def add_arguments(parser: argparse.ArgumentParser) -> None:
@@ -87,13 +79,15 @@ def run(arguments: argparse.Namespace) -> int:
     if arguments.task is not None:
         return task(Sweep(Path(arguments.task[0])), arguments.task[1])
     if arguments.gather is not None:
-        return gather(Sweep(arguments.gather))
+        return gathered(Sweep(arguments.gather))
     if arguments.audit is not None:
-        return audit(Sweep(arguments.audit))
+        return verdict(first_fault(Sweep(arguments.audit), ProgressLine()))
     folder = arguments.into or arguments.plan
     if folder is None and arguments.keep != "none":
         raise LabError(f"--keep {arguments.keep}: it takes a folder: --into DIR or --plan DIR")
-    plan = plan_of_words(arguments)
+    if arguments.jobs is not None and arguments.jobs < 1:
+        raise LabError(f"--jobs {arguments.jobs}: it has to be at least 1")
+    plan = wanted_sweep(arguments).plan()
     with tempfile.TemporaryDirectory() as room:
         sweep = Sweep(folder or Path(room) / "sweep", is_lasting=folder is not None)
         if not sweep.is_planned:
@@ -106,30 +100,24 @@ def run(arguments: argparse.Namespace) -> int:
         if arguments.into is None:
             write_rows(sweep, jobs)
             return 0
-        for _ in made(sweep, sweep.missing(), jobs):
+        for _ in made(sweep, sweep.missing(), jobs, ProgressLine()):
             pass
-        return gather(sweep)
+        return gathered(sweep)
 
 
-def plan_of_words(arguments: argparse.Namespace) -> Plan:
-    """The plan that the words ask for; refuses what no run could do."""
-    for option in ("repeat", "legs", "jobs"):
-        value = getattr(arguments, option)
-        if value is not None and value < 1:
-            raise LabError(f"--{option} {value}: it has to be at least 1")
-    program, world = Program.find(), drawn_world(arguments.world)
-    layout = Layout.of(program, arguments.files)
-    measures = [measure.name for measure in measures_of(arguments.measures, layout)]
-    if arguments.until is not None:
-        Until.of(arguments.until, layout)
-    texts = [read_byte_text(file) for file in arguments.files]
-    sets = settings(arguments.sets, texts, layout.elements, arguments.at)
-    plan = Plan(FORM, digest(read_bytes(arguments.world)), [digest(text.encode("latin-1")) for text in texts], sets, arguments.repeat,
-                first_seed(world, arguments.seed), arguments.legs, arguments.step, arguments.keep, arguments.at, arguments.until,
-                measures, [*layout.elements, *measures])
-    if plan.runs > MOST_RUNS:
-        raise LabError(f"the sweep would have {plan.runs} runs, at most {MOST_RUNS}")
-    return plan
+def wanted_sweep(arguments: argparse.Namespace) -> WantedSweep:
+    """What the words say of a sweep."""
+    return WantedSweep(arguments.world, arguments.files, arguments.sets, arguments.repeat, arguments.legs, arguments.step,
+                       arguments.seed, arguments.at, arguments.until, arguments.keep, arguments.measures)
+
+
+def gathered(sweep: Sweep) -> int:
+    """Has the table written, and names the runs that are missing; gives back 1 if there are some."""
+    missing, runs = gather(sweep), sweep.plan.runs
+    print(f"{sweep.path / TABLE}: {runs - len(missing)} of {runs} runs")
+    if missing:
+        print(f"missing: {spans(missing)}", flush=True)
+    return 1 if missing else 0
 
 
 def task(sweep: Sweep, text: str) -> int:
@@ -138,7 +126,7 @@ def task(sweep: Sweep, text: str) -> int:
         raise LabError(f"--task {sweep.path} {text}: {text} is no number of a run")
     wanted = sweep.run(int(text))
     was_there = sweep.folder(wanted.number).is_dir()
-    make_run(sweep, wanted, threading.Event())
+    make_run(sweep, wanted, Stop())
     print(f"{sweep.folder(wanted.number)}: {'was there' if was_there else 'made'}")
     return 0
 
@@ -154,27 +142,6 @@ def write_rows(sweep: Sweep, jobs: int) -> None:
     """Makes all runs, and writes the rows of each to standard output as soon as those before it are there."""
     out = csv.writer(sys.stdout, lineterminator="\n")
     out.writerow(sweep.plan.head)
-    for done in made(sweep, range(1, sweep.plan.runs + 1), jobs):
+    for done in made(sweep, range(1, sweep.plan.runs + 1), jobs, ProgressLine()):
         out.writerows(rows_of(sweep, done))
         sys.stdout.flush()
-
-
-def made(sweep: Sweep, numbers: Sequence[int], jobs: int) -> Iterator[Run]:
-    """Makes runs, and gives back each when it and those before it are over."""
-    progress, stopped = Progress(max(len(numbers), 1)), threading.Event()
-
-    def make(number: int) -> Run:
-        """Makes one run."""
-        wanted = sweep.run(number)
-        make_run(sweep, wanted, stopped)
-        return wanted
-
-    pool = ThreadPoolExecutor(jobs)
-    try:
-        for done, wanted in enumerate(pool.map(make, numbers), 1):
-            yield wanted
-            progress.at(done, f"run {done} of {len(numbers)}")
-    finally:
-        stopped.set()
-        pool.shutdown(cancel_futures=True)
-        progress.end()

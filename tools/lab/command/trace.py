@@ -23,11 +23,13 @@ from pathlib import Path
 
 from ..base.errors import LabError
 from ..base.program import Program
-from ..film.recording import Source
+from ..base.progress import ProgressLine
+from ..film.recording import Recording
 from ..machine.declarations import Declarations
-from ..trace.retraced import Retraced, status_of
+from ..trace.retraced import Retraced
 from ..trace.teller import Teller
 from ..trace.ways import atom_rows, site_rows
+from .verdicts import status_of
 from .words import take_words_anywhere
 
 
@@ -50,15 +52,15 @@ def run(arguments: argparse.Namespace) -> int:
     if number is None and place is None:
         raise LabError("which event? a number K has to follow the report, or --site X Y or --atom X Y be given")
     program = Program.find()
-    source = Source.of(program, words)
-    refuse(source, number, place)
+    recording = Recording.of(program, words)
+    refuse(recording, number, place)
     with tempfile.TemporaryDirectory() as room:
-        retraced = Retraced(program, source, Path(room))
+        retraced = Retraced(program, recording, Path(room), ProgressLine())
         if place is None:
             return status_of(lambda: write_event(retraced, number or 0))
         rows = site_rows if arguments.site else atom_rows
         x, y = place
-        return status_of(lambda: write_rows(list(rows(retraced, source.layout, x, y, number or 0))))
+        return status_of(lambda: write_rows(list(rows(retraced, recording.layout, x, y, number or 0))))
 
 
 def numbered(words: Sequence[str]) -> tuple[list[Path], int | None]:
@@ -69,21 +71,21 @@ def numbered(words: Sequence[str]) -> tuple[list[Path], int | None]:
     return [Path(word) for word in [*words[:at], *words[at + 1:]]], int(words[at])
 
 
-def refuse(source: Source, number: int | None, place: Sequence[int] | None) -> None:
+def refuse(recording: Recording, number: int | None, place: Sequence[int] | None) -> None:
     """Refuses an event that there isn't, and a site that is outside the plane."""
-    events = source.ends[-1]
+    events = recording.ends[-1]
     if number is not None and not (place is None) <= number <= events:
         what = f"after {number} events" if place else f"event {number}"
         raise LabError(f"{what}: there are {events} events")
-    if place is not None and not (0 <= place[0] < source.world.columns and 0 <= place[1] < source.world.rows):
-        raise LabError(f"{place[0]} {place[1]}: outside the plane of {source.world.columns} by {source.world.rows} sites")
+    if place is not None and not (0 <= place[0] < recording.world.columns and 0 <= place[1] < recording.world.rows):
+        raise LabError(f"{place[0]} {place[1]}: outside the plane of {recording.world.columns} by {recording.world.rows} sites")
 
 
 def write_event(retraced: Retraced, number: int) -> None:
     """Writes what an event did, once the program agrees."""
-    source = retraced.source
+    recording = retraced.recording
     record, made = retraced.event(number)
-    teller = Teller(retraced.maker, retraced.codes, source, Declarations.of(source.files, source.layout))
+    teller = Teller(retraced.maker, retraced.codes, recording, Declarations.of(recording.files, recording.layout))
     sys.stdout.write("".join(f"{line}\n" for line in teller.lines(number, record, made)))
 
 

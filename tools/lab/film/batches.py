@@ -17,10 +17,10 @@ from pathlib import Path
 from ..base.errors import LabError
 from ..base.program import Program
 from ..formats.world import World
-from ..machine.code import codes
+from ..machine.code import element_codes
 from ..machine.windows import Disagreement
 from .failure_plane import FailurePlane
-from .frames import Frame, Leg, Reported, frames
+from .frames import Frame, Playable, Reported, frames
 from .replays import Plane
 
 LEAST = 200_000  # events of a batch: with fewer it would hardly be worth a process
@@ -40,7 +40,7 @@ class Batch:
     program: Program
     files: Sequence[Path]
     world: World | None
-    legs: Sequence[Leg]
+    legs: Sequence[Playable]
     moments: Collection[int]
 
     @property
@@ -50,14 +50,14 @@ class Batch:
 
 
 @dataclass(frozen=True)
-class Played:
+class PlayedBatch:
     """The frames of a batch, of which the first has the whole plane, and what there is behind the last."""
 
     frames: list[Frame]
     rest: Frame
 
 
-def side_by_side(plane: Plane, legs: Sequence[Leg], moments: Collection[int]) -> Iterator[Frame]:
+def side_by_side(plane: Plane, legs: Sequence[Playable], moments: Collection[int]) -> Iterator[Frame]:
     """The frames of legs, as `frames` has them; of a long chain they are made by several processes."""
     found = batches(plane, legs, moments)
     jobs = min(len(found), len(os.sched_getaffinity(0)), MOST_JOBS)
@@ -74,12 +74,12 @@ def side_by_side(plane: Plane, legs: Sequence[Leg], moments: Collection[int]) ->
         pool.shutdown()
 
 
-def batches(plane: Plane, legs: Sequence[Leg], moments: Collection[int]) -> list[Batch]:
+def batches(plane: Plane, legs: Sequence[Playable], moments: Collection[int]) -> list[Batch]:
     """Legs in batches of so many events at least."""
     world = plane.maker.world if isinstance(plane, FailurePlane) else None
     found: list[Batch] = []
     begin = 0
-    taken: list[Leg] = []
+    taken: list[Playable] = []
     for leg in legs:
         taken.append(leg)
         events = sum(it.events for it in taken)
@@ -90,7 +90,7 @@ def batches(plane: Plane, legs: Sequence[Leg], moments: Collection[int]) -> list
     return found
 
 
-def played_apart(running: list["subprocess.Popen[bytes]"], batch: Batch) -> Played:
+def played_apart(running: list["subprocess.Popen[bytes]"], batch: Batch) -> PlayedBatch:
     """Has a process of its own, which is put to those that run, play a batch."""
     words = [sys.executable, "-B", "-c", CALL, str(TOOLS)]
     with subprocess.Popen(words, stdin=subprocess.PIPE, stdout=subprocess.PIPE, stderr=subprocess.PIPE) as process:
@@ -102,7 +102,7 @@ def played_apart(running: list["subprocess.Popen[bytes]"], batch: Batch) -> Play
     found = pickle.loads(out)
     if isinstance(found, Exception):
         raise found
-    assert isinstance(found, Played)
+    assert isinstance(found, PlayedBatch)
     return found
 
 
@@ -110,28 +110,28 @@ def serve() -> None:
     """Plays the batch of standard input; writes what it came to, or why it can't be played, to standard output."""
     batch = pickle.load(sys.stdin.buffer)
     try:
-        found: Played | Exception = played(batch)
+        found: PlayedBatch | Exception = played(batch)
     except (LabError, Disagreement) as error:
         found = error
     sys.stdout.buffer.write(pickle.dumps(found))
 
 
-def played(batch: Batch) -> Played:
+def played(batch: Batch) -> PlayedBatch:
     """Plays a batch."""
     with tempfile.TemporaryDirectory() as room:
         plane = Plane(batch.program, batch.files, Path(room))
         if batch.world is not None:
-            plane = FailurePlane(batch.program, batch.files, Path(room), batch.world, codes(batch.program, batch.files))
+            plane = FailurePlane(batch.program, batch.files, Path(room), batch.world, element_codes(batch.program, batch.files))
         found: list[Frame] = []
         playing = frames(plane, batch.legs, batch.moments)
         while True:
             try:
                 found.append(next(playing))
             except StopIteration as end:
-                return Played(found, end.value)
+                return PlayedBatch(found, end.value)
 
 
-def joined(parts: Iterable[Batch], results: Iterable[Played]) -> Iterator[Frame]:
+def joined(parts: Iterable[Batch], results: Iterable[PlayedBatch]) -> Iterator[Frame]:
     """The frames of batches that follow one another; where a plane isn't the one that was left, that is a frame too."""
     cells: dict[int, str] = {}  # the atoms
     rest, done = Frame(), 0

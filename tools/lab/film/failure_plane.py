@@ -3,10 +3,10 @@ from collections.abc import Sequence
 from pathlib import Path
 
 from ..base.program import Program
-from ..formats.report import Record
+from ..formats.report import JournalRecord
 from ..formats.world import World
-from ..machine.code import Code
-from ..machine.maker import Maker
+from ..machine.code import ElementCode
+from ..machine.maker import EventMaker
 from ..machine.windows import Disagreement
 from .replays import Plane
 
@@ -14,9 +14,9 @@ from .replays import Plane
 class FailurePlane(Plane):
     """A plane that notes at which sites events failed. Raises Disagreement if the two come to different atoms."""
 
-    def __init__(self, program: Program, files: Sequence[Path], room: Path, world: World, codes: Sequence[Code]) -> None:
+    def __init__(self, program: Program, files: Sequence[Path], room: Path, world: World, codes: Sequence[ElementCode]) -> None:
         super().__init__(program, files, room)
-        self.maker = Maker(world, codes)
+        self.maker = EventMaker(world, codes)
 
     def begin(self, world: World) -> dict[int, str]:
         """Makes the plane that of the beginning of a world; gives back what changed."""
@@ -27,7 +27,7 @@ class FailurePlane(Plane):
         """Makes the next events, which are lines of a journal; gives back what changed, and notes those that failed."""
         cells = self.maker.cells
         before: dict[int, int] = {}  # the cells that the events wrote, with what they were
-        for record in map(Record.of, records):
+        for record in map(JournalRecord.of, records):
             made = self.maker.make(0, record)
             if made is not None:
                 for cell, atom in self.maker.machine.event.before.items():

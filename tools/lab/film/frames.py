@@ -41,7 +41,7 @@ class Player(Protocol):
 
 
 @dataclass(frozen=True)
-class Leg:
+class Playable:
     """A run, of so many events, that is one of a chain or stands alone."""
 
     world: Path
@@ -57,7 +57,7 @@ class Leg:
 
 
 @dataclass(frozen=True)
-class Reported(Leg):
+class Reported(Playable):
     """A leg whose report is at hand, and maybe read."""
 
     report: Path
@@ -65,7 +65,7 @@ class Reported(Leg):
 
     def player(self, plane: Plane, world: World) -> Player:
         """What plays the leg, whose report is checked first."""
-        return Played(plane, world, self.checked(plane.program, plane.files, plane.room))
+        return ReportPlayer(plane, world, self.checked(plane.program, plane.files, plane.room))
 
     def checked(self, program: Program, files: Sequence[Path], room: Path) -> Report:
         """The report. Refuses one whose events aren't those of its world, or don't lead to its atoms."""
@@ -83,7 +83,7 @@ class Reported(Leg):
 
 
 @dataclass(frozen=True)
-class Ended(Leg):
+class Ended(Playable):
     """A leg of a chain that keeps no reports: only the atoms at its end are known, and those of the start."""
 
     atoms: Path
@@ -91,7 +91,7 @@ class Ended(Leg):
 
     def player(self, plane: Plane, world: World) -> Player:
         """What plays the leg from its beginning to its end at once."""
-        return Kept(plane, self)
+        return EndPlayer(plane, self)
 
     def atoms_after(self, plane: Plane, events: int) -> list[str]:
         """The lines of the atoms at its beginning or its end; refuses other moments."""
@@ -102,7 +102,7 @@ class Ended(Leg):
         raise LabError(f"{self.world}: the chain keeps no reports, so the plane is known at the ends of its legs alone")
 
 
-class Played:
+class ReportPlayer:
     """Plays a leg by its report."""
 
     def __init__(self, plane: Plane, world: World, report: Report) -> None:
@@ -123,7 +123,7 @@ class Played:
             frame.abandoned += 1
 
 
-class Kept:
+class EndPlayer:
     """Plays a leg by the atoms at its end."""
 
     def __init__(self, plane: Plane, leg: Ended) -> None:
@@ -137,7 +137,7 @@ class Kept:
             frame.abandoned += self.leg.abandoned
 
 
-def frames(plane: Plane, legs: Sequence[Leg], moments: Collection[int]) -> Generator[Frame, None, Frame]:
+def frames(plane: Plane, legs: Sequence[Playable], moments: Collection[int]) -> Generator[Frame, None, Frame]:
     """The frame at the start, and those at the moments, counted in events over all legs; it ends with what is behind these.
 
     If a leg begins with other atoms than the one before left, that is a frame too, with as many events.

@@ -11,11 +11,11 @@ from ..chain.folder import Folder
 from ..formats.layout import Layout
 from ..formats.report import Report
 from ..formats.world import World
-from .frames import Ended, Leg, Reported
+from .frames import Ended, Playable, Reported
 
 
 @dataclass(frozen=True)
-class Source:
+class Recording:
     """Runs that follow one another, with their elements. `acts` are what is done before legs, which count from 0.
 
     `measures` are those of the course of a chain.
@@ -25,15 +25,15 @@ class Source:
     world: World
     layout: Layout
     files: Sequence[Path]
-    legs: Sequence[Leg]
+    legs: Sequence[Playable]
     acts: Sequence[tuple[int, str]] = ()
     measures: Sequence[str] = ()
 
     @staticmethod
-    def of(program: Program, words: Sequence[Path]) -> "Source":
+    def of(program: Program, words: Sequence[Path]) -> "Recording":
         """What the words name: a world, a report and element files, or a chain and, if they are given, element files."""
         if words[0].is_dir():
-            return chain_source(program, words[0], words[1:])
+            return recording_of_chain(program, words[0], words[1:])
         if len(words) < 3:
             missing = "a report and the element files" if len(words) == 1 else "the element files"
             here = "" if words[0].exists() else f"{words[0]} is not there; "
@@ -42,7 +42,15 @@ class Source:
         world, path, *files = words
         report = Report.read(path)
         leg = Reported(world, len(report.journal), path, report)
-        return Source(world.name, World.read(world), Layout.of(program, files), files, [leg])
+        return Recording(world.name, World.read(world), Layout.of(program, files), files, [leg])
+
+    def reported(self) -> list[Reported]:
+        """The legs with their reports; refuses a chain that keeps none."""
+        legs = [leg for leg in self.legs if isinstance(leg, Reported)]
+        if len(legs) < len(self.legs):
+            raise LabError(f"{self.title}: the chain keeps no reports, so its events aren't known; "
+                           "one that is begun with --keep reports has them")
+        return legs
 
     @property
     def ends(self) -> list[int]:
@@ -64,7 +72,7 @@ class Source:
             even = set(evenly(self.ends[-1], frames))
         return even | {moment for moment, _ in self.act_moments}
 
-    def leg_at(self, moment: int) -> tuple[Leg, int]:
+    def leg_at(self, moment: int) -> tuple[Playable, int]:
         """The leg in which a moment lies, and how many events of the leg are over then."""
         ends = self.ends
         number = next((at for at, end in enumerate(ends[1:]) if moment <= end), len(self.legs) - 1)
@@ -76,7 +84,7 @@ def evenly(whole: int, parts: int) -> list[int]:
     return sorted({whole * part // parts for part in range(parts + 1)})
 
 
-def chain_source(program: Program, path: Path, files: Sequence[Path]) -> Source:
+def recording_of_chain(program: Program, path: Path, files: Sequence[Path]) -> Recording:
     """The chain of a folder."""
     folder = Folder(path)
     begun = folder.begun()
@@ -90,7 +98,7 @@ def chain_source(program: Program, path: Path, files: Sequence[Path]) -> Source:
             Ended(folder.world(row.number), row.events, folder.atoms(row.number), row.abandoned)
             for row in rows]
     acts = acts_by_leg(folder.act_texts(begun), len(legs))
-    return Source(path.resolve().name, world, layout, files or folder.files, legs, acts, course.measures)
+    return Recording(path.resolve().name, world, layout, files or folder.files, legs, acts, course.measures)
 
 
 def acts_by_leg(texts: Sequence[str], legs: int) -> list[tuple[int, str]]:

@@ -6,15 +6,15 @@ from collections.abc import Iterator
 
 from .curves import Curves
 from .frames import Frame
-from .recording import Source
+from .recording import Recording
 
 
 class Table:
     """The counts of each frame, with the events, the abandoned attempts and the failed events so far, and the measures."""
 
-    def __init__(self, source: Source, curves: Curves, has_failures: bool) -> None:
-        self.sites = source.world.sites
-        self.elements = source.layout.elements
+    def __init__(self, recording: Recording, curves: Curves, has_failures: bool) -> None:
+        self.sites = recording.world.sites
+        self.elements = recording.layout.elements
         self.curves = curves
         self.has_failures = has_failures
         self.rows: list[list[object]] = []

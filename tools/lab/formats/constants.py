@@ -7,7 +7,7 @@ TOKEN = re.compile(r"(?P<blank>\s+|//[^\n]*|/\*.*?(?:\*/|\Z))|(?P<word>\w+)|(?P<
 
 
 @dataclass(frozen=True)
-class Constant:
+class ConstantPlace:
     """A constant `Class.name`, and the part of the text that has its value."""
 
     name: str
@@ -20,7 +20,7 @@ def tokens(text: str) -> Iterator[re.Match[str]]:
     return (match for match in TOKEN.finditer(text) if match["blank"] is None)
 
 
-def constants(text: str) -> list[Constant]:
+def constants(text: str) -> list[ConstantPlace]:
     """The constants of all classes of an element file, in their order.
 
     A text that is no element file has whatever is found; the program refuses it.
@@ -37,13 +37,13 @@ def constants(text: str) -> list[Constant]:
     return found
 
 
-def of_item(text: str, owner: str, behind: list[re.Match[str]]) -> list[Constant]:
+def of_item(text: str, owner: str, behind: list[re.Match[str]]) -> list[ConstantPlace]:
     """The constant whose keyword these tokens follow, if they are those of one."""
     signs = [token[0] for token in behind]
     if "=" not in signs or ";" not in signs or not 0 < signs.index("=") < signs.index(";") - 1:
         return []
     name, value, last = (behind[at] for at in (signs.index("=") - 1, signs.index("=") + 1, signs.index(";") - 1))
-    return [Constant(f"{owner}.{name[0]}", value.start(), last.end())]
+    return [ConstantPlace(f"{owner}.{name[0]}", value.start(), last.end())]
 
 
 def with_values(text: str, values: dict[str, str]) -> str:

@@ -147,7 +147,7 @@ def unpacked(text: str, world: World) -> bytes:
     if match is None:
         raise ValueError("no number of atoms")
     at = int(match[1])
-    made, atoms = Made(world), lines[:at]
+    made, atoms = RemadeReport(world), lines[:at]
     while at < len(lines):
         at = made.take(lines, at)
     report = "".join(f"{line}\n" for line in ["feast 1", front, *atoms, *made.lines()]).encode()
@@ -156,7 +156,7 @@ def unpacked(text: str, world: World) -> bytes:
     return report
 
 
-class Made:
+class RemadeReport:
     """The events and the abandoned attempts of a report that is made again, tile by tile."""
 
     def __init__(self, world: World) -> None:

@@ -17,7 +17,7 @@ REFUSAL = re.compile(rb"(?:[^\n]*: )?E\d\d [^\n]*\n?")
 Entry = TypeVar("Entry")
 
 
-class Record(NamedTuple):
+class JournalRecord(NamedTuple):
     """An event: its stamp, its tile, which attempt of the tile it is, its site, and its seed."""
 
     stamp: int
@@ -28,10 +28,10 @@ class Record(NamedTuple):
     seed: int
 
     @staticmethod
-    def of(line: str) -> "Record":
+    def of(line: str) -> "JournalRecord":
         """The event that a line has."""
         stamp, tile, attempt, x, y, seed = line.split(" ")
-        return Record(int(stamp), int(tile), int(attempt), int(x), int(y), int(seed, 16))
+        return JournalRecord(int(stamp), int(tile), int(attempt), int(x), int(y), int(seed, 16))
 
 
 class Abandoned(NamedTuple):
@@ -80,7 +80,7 @@ class Report:
     """What a run left and how it came to it."""
 
     atoms: list[Placed]
-    journal: Entries[Record]
+    journal: Entries[JournalRecord]
     abandoned: Entries[Abandoned]
 
     @staticmethod
@@ -91,7 +91,7 @@ class Report:
     @staticmethod
     def of(path: Path, data: bytes) -> "Report":
         """The report whose bytes a file has, or leads to; each line is tested for its form."""
-        reader = Reader.of(path, data)
+        reader = ReportReader.of(path, data)
         report = reader.report(reader.atoms())
         reader.end()
         return report
@@ -99,7 +99,7 @@ class Report:
 
 def read_atoms(path: Path) -> list[Placed]:
     """The atoms of a report, or of what `replay` and `rewind` write, which is the first part of one."""
-    reader = Reader.of(path, read_report(path))
+    reader = ReportReader.of(path, read_report(path))
     atoms = reader.atoms()
     if not reader.is_over:
         reader.report(atoms)
@@ -113,7 +113,7 @@ def placed(line: str) -> Placed:
     return Placed(int(x), int(y), name, int(state, 16))
 
 
-class Reader:
+class ReportReader:
     """Reads the parts of a report, one after another."""
 
     def __init__(self, path: Path, lines: list[str]) -> None:
@@ -124,13 +124,13 @@ class Reader:
             raise LabError(f"{path}:1: no report: its first line is not `feast 1`")
 
     @staticmethod
-    def of(path: Path, data: bytes) -> "Reader":
+    def of(path: Path, data: bytes) -> "ReportReader":
         """What reads the bytes that a file has, or leads to."""
         if REFUSAL.fullmatch(data):
             raise LabError(f"{path}: no report, but the line of a call that was refused: "
                            f"{data.decode(errors='replace').strip()}")
         try:
-            return Reader(path, data.decode("ascii").split("\n"))
+            return ReportReader(path, data.decode("ascii").split("\n"))
         except UnicodeDecodeError as error:
             raise LabError(f"{path}: byte {error.start + 1} is no part of a report") from error
 
@@ -141,7 +141,7 @@ class Reader:
     def report(self, atoms: list[Placed]) -> Report:
         """The report of which these atoms and the parts behind them are."""
         journal, abandoned = self.part("journal", RECORD), self.part("abandoned", ABANDONED)
-        return Report(atoms, Entries(journal, Record.of), Entries(abandoned, Abandoned.of))
+        return Report(atoms, Entries(journal, JournalRecord.of), Entries(abandoned, Abandoned.of))
 
     def part(self, word: str, form: re.Pattern[str]) -> list[str]:
         """The lines of a part, which begins with a line that counts them."""

@@ -83,7 +83,7 @@ class World:
     @staticmethod
     def read(path: Path) -> "World":
         """The world of a file. The program's own reading is the judge of what else is wrong with it."""
-        return Reader(path).world()
+        return WorldReader(path).world()
 
     @property
     def tiles(self) -> int:
@@ -129,7 +129,7 @@ class World:
         return self.front() + "".join(f"atom {atom.text()}\n" for atom in self.atoms) + self.back()
 
 
-class Reader:
+class WorldReader:
     """Reads the lines of a world file, one by one."""
 
     def __init__(self, path: Path) -> None:

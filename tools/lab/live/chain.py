@@ -13,7 +13,7 @@ from ..base.program import Program, Refusal
 from ..chain.columns import carried_on
 from ..chain.folder import Course, Folder
 from ..chain.fork import anew, fork, free_folder
-from ..chain.legs import Maker
+from ..chain.legs import LegMaker
 from ..machine.finder import Finder
 from ..pictures.marks import marks
 from ..worlds.stamps import stamped
@@ -47,7 +47,7 @@ class Live:
             "act": self.act, "stamp": self.stamp, "undo": self.undo, "fork": self.fork, "reload": self.reload,
         }
 
-    def begin(self, maker: Maker, course: Course) -> None:
+    def begin(self, maker: LegMaker, course: Course) -> None:
         """Shows a chain from now on. Refuses a faulty colour or symbol of an element."""
         marked = marks(maker.layout.elements, maker.folder.files)
         if self.finds_failures and maker.finder is None:
@@ -126,7 +126,7 @@ class Live:
         leg = self.session.rest()
         to = free_folder(self.folder.path, "fork")
         session = self.session
-        fork(self.folder, session.maker.begun, session.course, session.record, leg, to)
+        fork(self.folder, session.maker.begun, session.course, session.act_texts, leg, to)
         return f"The chain up to leg {leg} is copied to {to.name}: ./lab live {to}"
 
     def reload(self, _order: dict[str, Any]) -> str:

@@ -36,7 +36,7 @@ GUARDS = {
 }
 
 
-class Refused(Exception):
+class RequestRefused(Exception):
     """A request that is answered by a refusal."""
 
     def __init__(self, status: HTTPStatus, line: str) -> None:
@@ -111,23 +111,23 @@ class Handler(BaseHTTPRequestHandler):
         self.close_connection = True
         try:
             work(self.asked())
-        except Refused as refusal:
+        except RequestRefused as refusal:
             self.reply(refusal.status, "text/plain", f"refused: {refusal}\n".encode())
 
     def asked(self) -> str:
         """What is asked for, behind the token; refuses requests that are not from the page itself."""
         if self.headers.get_all("Host") is None or self.headers.get_all("Host") not in [[name] for name in self.server.names]:
-            raise Refused(HTTPStatus.FORBIDDEN, "another host's name")
+            raise RequestRefused(HTTPStatus.FORBIDDEN, "another host's name")
         origins: Sequence[str] = self.headers.get_all("Origin") or []
         if any(origin not in {f"http://{name}" for name in self.server.names} for origin in origins):
-            raise Refused(HTTPStatus.FORBIDDEN, "another page's script")
+            raise RequestRefused(HTTPStatus.FORBIDDEN, "another page's script")
         if self.command == "POST" and len(origins) != 1:
-            raise Refused(HTTPStatus.FORBIDDEN, "an order says from which page it comes")
+            raise RequestRefused(HTTPStatus.FORBIDDEN, "an order says from which page it comes")
         if self.command == "GET" and HELLO.fullmatch(self.path):
             return self.path
         token, slash, rest = self.path.removeprefix("/").partition("/")
         if not hmac.compare_digest(token.encode(), self.server.address.token.encode()) or not slash:
-            raise Refused(HTTPStatus.FORBIDDEN, "the address lacks its token")
+            raise RequestRefused(HTTPStatus.FORBIDDEN, "the address lacks its token")
         return rest
 
     def serve(self, name: str) -> None:
@@ -142,33 +142,33 @@ class Handler(BaseHTTPRequestHandler):
             kind = "text/css" if name.endswith(".css") else "text/javascript"
             self.reply(HTTPStatus.OK, kind, PARTS[name]().encode())
         else:
-            raise Refused(HTTPStatus.NOT_FOUND, "there is nothing here")
+            raise RequestRefused(HTTPStatus.NOT_FOUND, "there is nothing here")
 
     def take(self, name: str) -> None:
         """Takes an order, and says what was done."""
         if name != "do":
-            raise Refused(HTTPStatus.NOT_FOUND, "there is nothing here")
+            raise RequestRefused(HTTPStatus.NOT_FOUND, "there is nothing here")
         try:
             order = json.loads(self.body())
         except (ValueError, RecursionError) as error:
-            raise Refused(HTTPStatus.BAD_REQUEST, "an order is JSON") from error
+            raise RequestRefused(HTTPStatus.BAD_REQUEST, "an order is JSON") from error
         try:
             said = self.server.live.do(order)
         except LabError as error:
-            raise Refused(HTTPStatus.BAD_REQUEST, str(error)) from error
+            raise RequestRefused(HTTPStatus.BAD_REQUEST, str(error)) from error
         except Exception as error:  # a page that has no answer would take the server for dead
-            raise Refused(HTTPStatus.INTERNAL_SERVER_ERROR, said_of(error)) from error
+            raise RequestRefused(HTTPStatus.INTERNAL_SERVER_ERROR, said_of(error)) from error
         self.reply(HTTPStatus.OK, "text/plain", said.encode())
 
     def body(self) -> bytes:
         """What the request has; refuses what is too long, or of another kind."""
         if self.headers.get_content_type() != "application/json":
-            raise Refused(HTTPStatus.UNSUPPORTED_MEDIA_TYPE, "an order is JSON")
+            raise RequestRefused(HTTPStatus.UNSUPPORTED_MEDIA_TYPE, "an order is JSON")
         length = self.headers.get("Content-Length", "")
         if not (length.isascii() and length.isdigit()) or self.headers.get("Transfer-Encoding"):
-            raise Refused(HTTPStatus.LENGTH_REQUIRED, "an order says how long it is")
+            raise RequestRefused(HTTPStatus.LENGTH_REQUIRED, "an order says how long it is")
         if len(length) > 9 or int(length) > LONGEST:
-            raise Refused(HTTPStatus.REQUEST_ENTITY_TOO_LARGE, f"an order has at most {LONGEST} bytes")
+            raise RequestRefused(HTTPStatus.REQUEST_ENTITY_TOO_LARGE, f"an order has at most {LONGEST} bytes")
         return self.rfile.read(int(length))
 
     def reply(self, status: HTTPStatus, kind: str, data: bytes) -> None:
@@ -182,7 +182,7 @@ class Handler(BaseHTTPRequestHandler):
     def stream(self) -> None:
         """Tells a page of each shot, until it goes away or another chain takes the place of this one."""
         if not self.server.streams.acquire(blocking=False):
-            raise Refused(HTTPStatus.SERVICE_UNAVAILABLE, f"{MOST_STREAMS} pages are open already")
+            raise RequestRefused(HTTPStatus.SERVICE_UNAVAILABLE, f"{MOST_STREAMS} pages are open already")
         try:
             self.connection.setsockopt(socket.IPPROTO_TCP, socket.TCP_NODELAY, 1)
             self.send_response(HTTPStatus.OK)
@@ -205,7 +205,7 @@ class Handler(BaseHTTPRequestHandler):
             if shot is None:
                 self.wfile.write(b": still there\n\n")
                 continue
-            self.tell("shot", view.told(shot, lines))
+            self.tell("shot", view.shot_text(shot, lines))
             number, lines = shot.number, shot.lines
         self.tell("anew", "another chain")
 

@@ -12,7 +12,7 @@ from ..base.files import cause, read_text
 from ..chain.acts import Act, Pace
 from ..chain.folder import Course, Leg
 from ..chain.keeper import Keeper
-from ..chain.legs import Maker
+from ..chain.legs import LegMaker
 from ..formats.outcome import ABANDONED, Outcome, atom_lines
 from ..machine.windows import Disagreement
 from .pace import EVERY, Tempo
@@ -54,7 +54,7 @@ class Session:
     a leg is made again, and for good if the session has ended by it, which then refuses each order with that.
     """
 
-    def __init__(self, maker: Maker, course: Course) -> None:
+    def __init__(self, maker: LegMaker, course: Course) -> None:
         self.maker = maker
         self.course = course
         self.failed: Counter[int] = Counter()
@@ -66,7 +66,7 @@ class Session:
         self.next = 0
         self.events = 0
         self.abandoned = 0
-        self.record = list(maker.folder.act_texts(maker.begun))
+        self.act_texts = list(maker.folder.act_texts(maker.begun))
         self.tempo = Tempo.of(maker.rule.world, course.legs[-1].attempts)
         self.left: Sequence[str] = ()
         self.lines: Sequence[str] = ()
@@ -120,7 +120,7 @@ class Session:
                 acts = [Act.of(f"{leg}:{seeded(text)}", world, layout, seed) for text in texts]
             except LabError as error:
                 raise LabError(str(error).removeprefix(f"{leg}:")) from error
-            self.put_on_record([*self.record, *(act.text for act in acts)])
+            self.put_on_record([*self.act_texts, *(act.text for act in acts)])
             self.maker.rule.acts.setdefault(leg, []).extend(acts)
             if not self.is_busy:
                 for act in acts:
@@ -135,7 +135,7 @@ class Session:
             act = next((act for act in reversed(waiting) if not isinstance(act, Pace)), None)
             if act is None:
                 raise LabError("there is nothing to take back: no act waits for the next leg")
-            texts = list(self.record)
+            texts = list(self.act_texts)
             del texts[len(texts) - 1 - texts[::-1].index(act.text)]
             self.put_on_record(texts)
             waiting.remove(act)
@@ -146,7 +146,7 @@ class Session:
     def put_on_record(self, texts: list[str]) -> None:
         """Writes the record of the acts."""
         self.maker.folder.write_acts(texts)
-        self.record = texts
+        self.act_texts = texts
 
     def rest(self) -> int:
         """Pauses; gives back how many legs are done when all that was begun is on record."""
@@ -235,7 +235,7 @@ class Session:
         acts = self.maker.rule.acts.get(number, [])
         if self.tempo.attempts != self.maker.rule.attempts_each(number) and not any(isinstance(act, Pace) for act in acts):
             act = Act.of(f"{number}:attempts:{self.tempo.attempts}", self.maker.rule.world, self.maker.layout)
-            self.put_on_record([*self.record, act.text])
+            self.put_on_record([*self.act_texts, act.text])
             self.maker.rule.acts.setdefault(number, []).append(act)
 
     def settle(self) -> None:

@@ -36,10 +36,10 @@ class View:
     def acts(self) -> list[dict[str, int]]:
         """The moments of the acts so far, in events."""
         ends = list(accumulate(leg.events for leg in self.session.course.legs[:]))
-        legs = [int(text.partition(":")[0]) for text in self.session.record if text.split(":")[1] != "attempts"]
+        legs = [int(text.partition(":")[0]) for text in self.session.act_texts if text.split(":")[1] != "attempts"]
         return [{"events": ends[leg - 1]} for leg in sorted(legs) if leg <= len(ends)]
 
-    def told(self, shot: Shot, before: Sequence[str]) -> str:
+    def shot_text(self, shot: Shot, before: Sequence[str]) -> str:
         """A shot as JSON, for a page that shows the atoms before."""
         with self.lock:
             if self.last[0] is not before or self.last[1] is not shot.lines:

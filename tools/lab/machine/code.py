@@ -41,7 +41,7 @@ class Instruction:
 
 
 @dataclass(frozen=True)
-class Function:
+class CodeFunction:
     """A function: the first state bit of its class, the place where it begins, how many of its slots are parameters."""
 
     name: str
@@ -52,15 +52,15 @@ class Function:
 
 
 @dataclass(frozen=True)
-class Code:
+class ElementCode:
     """The code of an element, whose type number counts from 1; an event runs function 0."""
 
     name: str
     number: int
-    functions: Sequence[Function]
+    functions: Sequence[CodeFunction]
     instructions: Sequence[Instruction]
 
-    def function_at(self, place: int) -> Function:
+    def function_at(self, place: int) -> CodeFunction:
         """The function that has an instruction."""
         return next(function for function in reversed(self.functions) if function.first <= place)
 
@@ -74,12 +74,12 @@ class Code:
         return "".join(f"{line}\n" for line in lines)
 
 
-def codes(program: Program, files: Sequence[Path]) -> list[Code]:
+def element_codes(program: Program, files: Sequence[Path]) -> list[ElementCode]:
     """The codes of the elements of some files, in the order of their type numbers."""
-    return list(Reader(program.call(["pack", *files]).output).codes())
+    return list(CodeReader(program.call(["pack", *files]).output).codes())
 
 
-class Reader:
+class CodeReader:
     """Reads the bytes of a code file."""
 
     def __init__(self, data: bytes) -> None:
@@ -102,24 +102,24 @@ class Reader:
         """A name, behind its length."""
         return self.take(self.number(4)).decode("ascii")
 
-    def codes(self) -> Iterator[Code]:
+    def codes(self) -> Iterator[ElementCode]:
         """The codes of the elements."""
         if self.take(len(MAGIC)) != MAGIC:
             raise LabError("the program wrote code of a form that the lab doesn't know")
         for number in range(1, self.number(2) + 1):
             name = self.name()
             functions = [self.function() for _ in range(self.number(4))]
-            yield Code(name, number, functions, [self.instruction() for _ in range(self.number(4))])
+            yield ElementCode(name, number, functions, [self.instruction() for _ in range(self.number(4))])
         if self.at < len(self.data):
             raise LabError(f"the program wrote code that goes on after its end, at byte {self.at + 1}")
 
-    def function(self) -> Function:
+    def function(self) -> CodeFunction:
         """A function; what kinds its slots and its result have is left out, as the machine doesn't ask for it."""
         name, base, first, parameters = self.name(), self.number(1), self.number(4), self.number(1)
         self.take(1)
         slots = self.number(1)
         self.take(slots)
-        return Function(name, base, first, parameters, slots)
+        return CodeFunction(name, base, first, parameters, slots)
 
     def instruction(self) -> Instruction:
         """An instruction."""

@@ -11,7 +11,7 @@ from pathlib import Path
 from ..base.files import read_byte_text
 from ..formats.constants import tokens
 from ..formats.layout import Layout
-from .code import Function
+from .code import CodeFunction
 
 
 @dataclass
@@ -52,7 +52,7 @@ class Declarations:
         """The declarations of element files with that layout."""
         return Declarations(declarations(files), layout)
 
-    def line(self, element: str, function: Function) -> str:
+    def line(self, element: str, function: CodeFunction) -> str:
         """Where a function of an element's code is declared, as FILE:LINE; several are joined by `or`."""
         owners = [element, *(kind for kind, first in self.quarks(element, 0) if first == function.base)]
         if function.base:

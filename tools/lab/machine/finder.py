@@ -5,10 +5,10 @@ from pathlib import Path
 
 from ..base.program import Program
 from ..formats.outcome import ABANDONED, JOURNAL, Outcome, atom_lines
-from ..formats.report import Record
+from ..formats.report import JournalRecord
 from ..formats.world import World
-from .code import codes
-from .maker import Maker
+from .code import element_codes
+from .maker import EventMaker
 from .windows import Disagreement
 
 
@@ -16,7 +16,7 @@ class Finder:
     """Makes the events of legs again, in Python, and finds those that failed."""
 
     def __init__(self, program: Program, files: Sequence[Path], world: World) -> None:
-        self.maker = Maker(world, codes(program, files))
+        self.maker = EventMaker(world, element_codes(program, files))
 
     def failed(self, atoms: Sequence[str], report: bytes) -> Counter[int]:
         """How many events of a leg that began with these atoms failed at each site, of the sites row by row.
@@ -26,7 +26,7 @@ class Finder:
         self.maker.begin(atoms)
         found: Counter[int] = Counter()
         for line in journal_lines(report):
-            made = self.maker.make(0, Record.of(line))
+            made = self.maker.make(0, JournalRecord.of(line))
             if made is not None and made.ending.cause:
                 found[made.window.cells[0]] += 1
         if self.maker.lines() != atom_lines(Outcome.of(report).atoms):

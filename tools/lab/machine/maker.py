@@ -3,9 +3,9 @@ from collections.abc import Iterable, Sequence
 from typing import NamedTuple
 
 from ..base.limits import STATE_BITS
-from ..formats.report import Record
+from ..formats.report import JournalRecord
 from ..formats.world import World
-from .code import Code
+from .code import ElementCode
 from .event import Deed
 from .stack import Ending, Machine
 
@@ -23,14 +23,14 @@ class Window(NamedTuple):
     live: tuple[bool, ...]
 
 
-class Made(NamedTuple):
+class MadeEvent(NamedTuple):
     """An event that was made again: its number in the run, from 1 on, and the atoms of its window before and after.
 
     What it did is there if it was asked for.
     """
 
     number: int
-    record: Record
+    record: JournalRecord
     window: Window
     before: tuple[int, ...]
     after: tuple[int, ...]
@@ -47,10 +47,10 @@ class Made(NamedTuple):
         return [site for site, atom in enumerate(self.before) if atom != self.after[site]]
 
 
-class Maker:
+class EventMaker:
     """A plane, and what makes events on it. An atom is a number, its type times 2^71 and its state; the empty one is 0."""
 
-    def __init__(self, world: World, codes: Sequence[Code]) -> None:
+    def __init__(self, world: World, codes: Sequence[ElementCode]) -> None:
         self.world = world
         self.names = ["Empty", *(code.name for code in codes)]
         self.kinds = {name: kind for kind, name in enumerate(self.names)}
@@ -96,7 +96,7 @@ class Maker:
         world = self.world
         return 0 <= x < world.columns and 0 <= y < world.rows and world.tile_at(x, y) not in self.off
 
-    def make(self, number: int, record: Record, is_noted: bool = False) -> Made | None:
+    def make(self, number: int, record: JournalRecord, is_noted: bool = False) -> MadeEvent | None:
         """Makes an event, and notes what it does if that is asked for; nothing happens if its centre is empty."""
         cells = self.cells
         if not cells[record.y * self.world.columns + record.x]:
@@ -106,4 +106,4 @@ class Maker:
         deeds: list[Deed] = []
         self.machine.event.deeds = deeds if is_noted else None
         ending = self.machine.act(window.cells, record.seed)
-        return Made(number, record, window, before, tuple([cells[cell] for cell in window.cells]), ending, deeds)
+        return MadeEvent(number, record, window, before, tuple([cells[cell] for cell in window.cells]), ending, deeds)

@@ -6,7 +6,7 @@ from collections.abc import Sequence
 from dataclasses import dataclass
 
 from ..base.limits import STATE_BITS, MOST_TURNS
-from .code import Code
+from .code import ElementCode
 from .event import Event, Failed
 from .steps import step_of
 
@@ -24,7 +24,7 @@ class Ending:
 class Machine:
     """Makes events on the cells of a plane, of which the last stands for all sites that aren't live and is empty."""
 
-    def __init__(self, codes: Sequence[Code], cells: list[int]) -> None:
+    def __init__(self, codes: Sequence[ElementCode], cells: list[int]) -> None:
         self.event = Event(cells)
         self.slots = {code.number: code.functions[0].slots for code in codes}
         self.steps = {code.number: [step_of(self.event, code, place) for place in range(len(code.instructions))]

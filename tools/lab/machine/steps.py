@@ -6,7 +6,7 @@ below 0 the event is over.
 from collections.abc import Callable
 
 from ..base.limits import MOST_CALLS, STATE_BITS
-from .code import Code
+from .code import ElementCode
 from .event import Event, Failed, Step
 from .fields import FIELD_STEPS
 from .numbers import BINARY, Binary, DividedByZero, fitting, shifted_up
@@ -15,7 +15,7 @@ OVER = -1
 Unary = Callable[[int], int]
 
 
-def step_of(event: Event, code: Code, place: int) -> Step:
+def step_of(event: Event, code: ElementCode, place: int) -> Step:
     """The step of an instruction."""
     it = code.instructions[place]
     if it.name in BINARY:
@@ -231,7 +231,7 @@ def turn(event: Event, after: int) -> Step:
     return step
 
 
-def call(event: Event, after: int, code: Code, number: int) -> Step:
+def call(event: Event, after: int, code: ElementCode, number: int) -> Step:
     """`Call`."""
     function = code.functions[number]
     operands, first, parameters = event.operands, function.first, function.parameters

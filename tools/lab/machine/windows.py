@@ -15,7 +15,7 @@ from ..base.files import write_new
 from ..base.limits import MOST_ACROSS, MOST_SIDE
 from ..base.program import Program
 from ..formats.world import World
-from .maker import OFFSETS, REACH, Made, Maker
+from .maker import OFFSETS, REACH, MadeEvent, EventMaker
 
 BOX = 2 * REACH + 1
 LOW, MIDDLE, HIGH = range(3)  # where a window lies: near the border before it, near none, near the border behind it
@@ -33,9 +33,9 @@ class Sheet:
 
     world: World
     free: dict[tuple[int, int], Iterator[Place]] = field(default_factory=dict)
-    laid: list[tuple[Made, Place]] = field(default_factory=list)
+    laid: list[tuple[MadeEvent, Place]] = field(default_factory=list)
 
-    def lay(self, made: Made, form: Form) -> bool:
+    def lay(self, made: MadeEvent, form: Form) -> bool:
         """Lays out the window of an event, if there is a place for it."""
         across, from_side, down, from_top = form
         place = next(self.free.setdefault((across, down), places(self.world, across, down)), None)
@@ -54,7 +54,7 @@ class Sheet:
 class WindowCheck:
     """Takes events one after another, and has the program make them."""
 
-    def __init__(self, program: Program, files: Sequence[Path], room: Path, maker: Maker) -> None:
+    def __init__(self, program: Program, files: Sequence[Path], room: Path, maker: EventMaker) -> None:
         self.program, self.files, self.room, self.maker = program, files, room, maker
         apart = [tile for tile in range(7 * 7) if tile % 7 % 2 or tile // 7 % 2]
         self.whole = Sheet(World(MOST_ACROSS, MOST_ACROSS, MOST_SIDE, MOST_SIDE))
@@ -62,7 +62,7 @@ class WindowCheck:
         self.own = Sheet(replace(maker.world, seed=None, attempts=None, tries=[]))
         self.texts: dict[int, str] = {}
 
-    def add(self, made: Made) -> None:
+    def add(self, made: MadeEvent) -> None:
         """Takes an event. Raises Disagreement for one of those so far that the program makes otherwise."""
         form = FORMS.get(made.window.live)
         if form is None:

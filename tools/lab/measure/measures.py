@@ -4,13 +4,11 @@ A measure is written as the column that it has in a table: `count(Gossip.knows=1
 `sum(..)`, `min(..)`, `max(..)`. A condition compares a member with a number or a truth value by one of
 =, !=, <, <=, > and >=; of several, with commas between them, all have to hold.
 """
-import argparse
 import operator
 import re
 from collections import Counter
 from collections.abc import Callable, Sequence
 from dataclasses import dataclass
-from functools import partial
 from typing import Any
 
 from ..base.errors import LabError
@@ -147,15 +145,3 @@ def measured(measures: Sequence[Measure], atoms: str) -> list[str]:
         for atom, times in Counter(line.split(" ", 2)[2] for line in atom_lines(atoms)).items():
             tallies.add(atom, times)
     return tallies.numbers()
-
-
-def add_measure_options(parser: argparse.ArgumentParser) -> None:
-    """The options that name measures; `measures` has their columns, in the order in which they were given."""
-    for kind, (form, told) in FORMS.items():
-        parser.add_argument(f"--{kind}", metavar=form, dest="measures", action="append", default=[],
-                            type=partial(column, kind), help=f"{told}; may be given several times")
-
-
-def column(kind: str, said: str) -> str:
-    """The column of a measure, from what stands behind its option."""
-    return f"{kind}({''.join(said.split())})"

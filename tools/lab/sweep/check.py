@@ -43,5 +43,5 @@ def check(program: Program, sweep: Sweep, number: int, room: Path, copies: dict[
     except Refusal as refusal:
         line = str(refusal)
         original = next((f"{file}{line[len(copy):]}" for copy, file in copies.items() if line.startswith(f"{copy}:")), line)
-        told = run.told()
-        raise LabError(f"{original} (with {told})" if told else original) from refusal
+        values = run.values_text()
+        raise LabError(f"{original} (with {values})" if values else original) from refusal

@@ -8,24 +8,21 @@ from ..base.files import read_text, write_inside
 from ..base.locks import held
 from ..base.program import Program
 from ..base.progress import Progress
-from ..chain.audit import Chain
+from ..chain.audit import AuditedChain
 from ..chain.folder import Folder
 from ..formats.layout import Layout
 from ..measure.until import Until
-from .plan import TABLE, Run, Sweep
+from .plan import TABLE, PlannedRun, Sweep
 from .run import again, rows_of
 
 
-def gather(sweep: Sweep) -> int:
-    """Writes the table of the runs that are over, and names those that are missing; gives back 1 if there are some."""
+def gather(sweep: Sweep) -> list[int]:
+    """Writes the table of the runs that are over; gives back the numbers of those that are missing."""
     runs = sweep.plan.runs
     with held(sweep.path, "gathering this sweep"):
         missing = sweep.missing()
         write_inside(sweep.path / TABLE, table(sweep, sorted({*range(1, runs + 1)} - {*missing})))
-    print(f"{sweep.path / TABLE}: {runs - len(missing)} of {runs} runs")
-    if missing:
-        print(f"missing: {spans(missing)}", flush=True)
-    return 1 if missing else 0
+    return missing
 
 
 def table(sweep: Sweep, numbers: Sequence[int]) -> str:
@@ -49,22 +46,20 @@ def spans(numbers: Sequence[int]) -> str:
     return ",".join(str(first) if first == last else f"{first}-{last}" for first, last in ends)
 
 
-def audit(sweep: Sweep) -> int:
-    """Writes whether a sweep is what its plan says, and gives back 0 if it is, else 1."""
+def first_fault(sweep: Sweep, progress: Progress) -> str | None:
+    """What is wrong first with a sweep; None if it is what its plan says."""
     if sweep.plan.keep != "reports":
         raise LabError(f"{sweep.path}: the sweep can't be audited: it was planned without --keep reports")
     missing = sweep.missing()
     if missing:
         raise LabError(f"{sweep.path}: the sweep can't be audited yet: it lacks the runs {spans(missing)}")
-    fault = next(faults(sweep), None)
-    print("yes" if fault is None else f"no {fault}", flush=True)
-    return 0 if fault is None else 1
+    return next(faults(sweep, progress), None)
 
 
-def faults(sweep: Sweep) -> Iterator[str]:
+def faults(sweep: Sweep, progress: Progress) -> Iterator[str]:
     """What is wrong with a sweep: run by run, and then its table."""
     program, runs = Program.find(), sweep.plan.runs
-    progress = Progress(runs)
+    progress.begin(runs)
     for number in range(1, runs + 1):
         progress.at(number - 1, f"run {number} of {runs}")
         yield from (f"run {number}: {fault}" for fault in faults_of(program, sweep, sweep.run(number)))
@@ -73,11 +68,11 @@ def faults(sweep: Sweep) -> Iterator[str]:
         yield f"{TABLE}: its rows are not those of the runs"
 
 
-def faults_of(program: Program, sweep: Sweep, run: Run) -> Iterator[str]:
+def faults_of(program: Program, sweep: Sweep, run: PlannedRun) -> Iterator[str]:
     """What is wrong with a run: it isn't the chain that the plan says, or its chain isn't true."""
     folder = Folder(sweep.folder(run.number))
     rows_of(sweep, run)
-    chain = Chain.of(program, folder, folder.begun())
+    chain = AuditedChain.of(program, folder, folder.begun())
     if not ends_as_planned(sweep, folder, chain):
         yield "it has not the legs that the plan says"
     try:
@@ -86,10 +81,10 @@ def faults_of(program: Program, sweep: Sweep, run: Run) -> Iterator[str]:
         yield f"it is not the chain that the plan says: {error}"
     if folder.act_texts(chain.begun) != chain.begun.at:
         yield "acts were done that the plan hasn't"
-    yield from chain.faults(range(len(chain.course.legs)))
+    yield from chain.faults(range(len(chain.course.legs)), Progress())
 
 
-def ends_as_planned(sweep: Sweep, folder: Folder, chain: Chain) -> bool:
+def ends_as_planned(sweep: Sweep, folder: Folder, chain: AuditedChain) -> bool:
     """Whether a run has all its legs, or else those up to the first at whose end the rule of --until holds."""
     last, legs = len(chain.course.legs) - 1, sweep.plan.legs or 1
     if sweep.plan.until is None:

@@ -68,14 +68,14 @@ class Plan:
 
 
 @dataclass(frozen=True)
-class Run:
+class PlannedRun:
     """A run of a sweep: its number, from 1 on, the values that are set, and its seed."""
 
     number: int
     values: dict[str, str]
     seed: int
 
-    def told(self) -> str:
+    def values_text(self) -> str:
         """The values in words."""
         return ", ".join(f"{name}={value}" for name, value in self.values.items())
 
@@ -113,7 +113,7 @@ class Sweep(Inputs):
         """What a run has come to; the folder is there if the run is over."""
         return self.path / RUNS / f"{number:05}"
 
-    def run(self, number: int) -> Run:
+    def run(self, number: int) -> PlannedRun:
         """The run of a number. Refuses one that the sweep hasn't."""
         if not 1 <= number <= self.plan.runs:
             raise LabError(f"{self.path}: the sweep has the runs 1 to {self.plan.runs}, and no run {number}")
@@ -122,7 +122,7 @@ class Sweep(Inputs):
         for name, values in reversed(self.plan.sets.items()):
             place, at = divmod(place, len(values))
             found.append((name, values[at]))
-        return Run(number, dict(reversed(found)), nth(self.plan.seed, self.most_tiles, turn * (self.plan.legs or 1)))
+        return PlannedRun(number, dict(reversed(found)), nth(self.plan.seed, self.most_tiles, turn * (self.plan.legs or 1)))
 
     @property
     def most_tiles(self) -> int:
@@ -130,17 +130,17 @@ class Sweep(Inputs):
         sizes = [size.split("x") for size in self.plan.sets.get("tiles", [])]
         return max([self.world.tiles, *(int(across) * int(down) for across, down in sizes)])
 
-    def world_of(self, run: Run) -> bytes:
+    def world_of(self, run: PlannedRun) -> bytes:
         """The world of a run, as a file has it: the copy, if nothing of it is set."""
         if not any(name in OF_WORLD or name.startswith(FILL) for name in run.values):
             return read_bytes(self.start)
         return set_world(self.world, run.values, run.seed).text().encode()
 
-    def elements_of(self, run: Run) -> list[bytes]:
+    def elements_of(self, run: PlannedRun) -> list[bytes]:
         """The element files of a run: the copies, in which the constants have their values."""
         return [with_values(read_byte_text(file), run.values).encode("latin-1") for file in self.files]
 
-    def acts_of(self, run: Run) -> list[str]:
+    def acts_of(self, run: PlannedRun) -> list[str]:
         """What is done to the plane before legs of a run: each name in braces is its value."""
         return [in_braces(act, run.values) for act in self.plan.at]
 

@@ -1,59 +1,42 @@
 """A run of a sweep: a chain of one or more legs, made apart and then put in its place whole."""
-import argparse
-import io
 import json
 import os
 import shutil
 import socket
 import tempfile
-import threading
 import uuid
-from collections.abc import Iterator
+from collections.abc import Iterator, Sequence
 from contextlib import contextmanager
 from pathlib import Path
 
 from ..base.errors import LabError
 from ..base.files import PART, cause, read_rows, read_text, sync, write_new
 from ..base.inputs import START, digest
-from ..base.progress import Progress
+from ..base.progress import Progress, Stop
 from ..chain.folder import COLUMNS, COURSE
-from ..command import chain
-from ..measure.measures import WHOLE
-from .plan import Plan, Run, Sweep
+from ..chain.making import WantedChain, made
+from .plan import Plan, PlannedRun, Sweep
 
 LABEL = "run.json"
 
 
-class Watched(Progress):
-    """Tells nothing of a run's legs, but ends the run between two of them once it is to stop."""
-
-    def __init__(self, stopped: threading.Event) -> None:
-        super().__init__(1, to=io.StringIO())
-        self.stopped = stopped
-
-    def at(self, done: float, leg: str) -> None:
-        """Ends the run if it is to stop."""
-        if self.stopped.is_set():
-            raise LabError("stopped")
-
-
-def make_run(sweep: Sweep, run: Run, stopped: threading.Event) -> None:
+def make_run(sweep: Sweep, run: PlannedRun, stop: Stop) -> None:
     """Makes a run, if it isn't there yet. If another maker puts it in its place first, that one stays."""
     if sweep.folder(run.number).is_dir():
         return
     with inputs(sweep, run) as (room, world, files):
-        chain.made(chain_words(sweep, run, room / "chain", world, files), Watched(stopped), is_lasting=False)
+        made(wanted_chain(sweep, run, room / "chain", world, files), Progress(), stop, is_lasting=False)
         put_in_place(sweep, run, room / "chain")
 
 
-def again(sweep: Sweep, run: Run) -> None:
+def again(sweep: Sweep, run: PlannedRun) -> None:
     """Asks for a chain again that has all its legs: nothing is made. Raises LabError if it was begun with anything else."""
     with inputs(sweep, run) as (_, world, files):
-        chain.made(chain_words(sweep, run, sweep.folder(run.number), world, files), Watched(threading.Event()), is_lasting=False)
+        made(wanted_chain(sweep, run, sweep.folder(run.number), world, files), Progress(), Stop(), is_lasting=False)
 
 
 @contextmanager
-def inputs(sweep: Sweep, run: Run) -> Iterator[tuple[Path, Path, list[Path]]]:
+def inputs(sweep: Sweep, run: PlannedRun) -> Iterator[tuple[Path, Path, list[Path]]]:
     """A folder on this machine, with the world and the element files of a run."""
     with tempfile.TemporaryDirectory(prefix="feast-sweep-") as name:
         room = Path(name)
@@ -64,26 +47,19 @@ def inputs(sweep: Sweep, run: Run) -> Iterator[tuple[Path, Path, list[Path]]]:
         yield room, world, files
 
 
-def chain_words(sweep: Sweep, run: Run, folder: Path, world: Path, files: list[Path]) -> argparse.Namespace:
-    """What the verb chain is asked for."""
+def wanted_chain(sweep: Sweep, run: PlannedRun, folder: Path, world: Path, files: Sequence[Path]) -> WantedChain:
+    """The chain that a run is."""
     plan = sweep.plan
-    parser = argparse.ArgumentParser()
-    chain.add_arguments(parser)
-    words = [f"--legs={plan.legs or 1}", f"--seed={run.seed}", f"--keep={plan.keep}"]
-    words += ["--step"] if plan.step else []
-    words += [f"--until={plan.until}"] if plan.until is not None else []
-    words += [f"--at={act}" for act in sweep.acts_of(run)]
-    words += [f"--{match['kind']}={match['of']}" for match in map(WHOLE.fullmatch, plan.measures) if match is not None]
-    return parser.parse_args([*words, "--", str(folder), str(world), *map(str, files)])
+    return WantedChain(folder, world, files, plan.legs or 1, plan.step, run.seed, plan.keep, sweep.acts_of(run), plan.until, plan.measures)
 
 
-def label(plan: Plan, run: Run) -> str:
+def label(plan: Plan, run: PlannedRun) -> str:
     """What is kept beside a run: of which plan it is, and which of its runs."""
     told = {"plan": digest(plan.text().encode()), "run": run.number, "values": run.values, "seed": run.seed}
     return json.dumps(told, indent=2) + "\n"
 
 
-def put_in_place(sweep: Sweep, run: Run, made: Path) -> None:
+def put_in_place(sweep: Sweep, run: PlannedRun, chain: Path) -> None:
     """Copies what is kept of a run beside its place, down to the disk, and then puts it there by one rename."""
     place = sweep.folder(run.number)
     beside = place.with_name(f"{place.name}.{socket.gethostname()}.{os.getpid()}.{uuid.uuid4().hex[:8]}{PART}")
@@ -93,9 +69,9 @@ def put_in_place(sweep: Sweep, run: Run, made: Path) -> None:
             sync(sweep.path)
             if sweep.plan.keep == "none":
                 beside.mkdir()
-                shutil.copyfile(made / COURSE, beside / COURSE)
+                shutil.copyfile(chain / COURSE, beside / COURSE)
             else:
-                shutil.copytree(made, beside, copy_function=shutil.copyfile)
+                shutil.copytree(chain, beside, copy_function=shutil.copyfile)
             (beside / LABEL).write_text(label(sweep.plan, run))
             for path in [*beside.rglob("*"), beside]:
                 sync(path)
@@ -117,7 +93,7 @@ def rename_first(beside: Path, place: Path) -> None:
             raise
 
 
-def rows_of(sweep: Sweep, run: Run) -> list[list[str]]:
+def rows_of(sweep: Sweep, run: PlannedRun) -> list[list[str]]:
     """The rows of a run that is over, in the columns of `Plan.head`: one for each leg, or, without legs, for its end."""
     folder, plan = sweep.folder(run.number), sweep.plan
     if read_text(folder / LABEL) != label(plan, run):

@@ -3,13 +3,13 @@ from collections.abc import Callable, Iterator, Sequence
 from dataclasses import dataclass
 
 from ..base.limits import STATE_BITS
-from ..film.recording import Source
+from ..film.recording import Recording
 from ..formats.layout import Layout
-from ..formats.report import Record
-from ..machine.code import Code
+from ..formats.report import JournalRecord
+from ..machine.code import ElementCode
 from ..machine.declarations import Declarations
 from ..machine.event import CAUSES, Deed
-from ..machine.maker import OFFSETS, REACH, STATE, Made, Maker
+from ..machine.maker import OFFSETS, REACH, STATE, MadeEvent, EventMaker
 from ..pictures.marks import marks
 
 WIDE = 5  # how many letters a site has in a picture
@@ -27,14 +27,14 @@ def described(layout: Layout, names: Sequence[str], atom: int) -> str:
 class Teller:
     """Tells an event."""
 
-    maker: Maker
-    codes: Sequence[Code]
-    source: Source
+    maker: EventMaker
+    codes: Sequence[ElementCode]
+    recording: Recording
     declarations: Declarations
 
-    def lines(self, number: int, record: Record, made: Made | None) -> Iterator[str]:
+    def lines(self, number: int, record: JournalRecord, made: MadeEvent | None) -> Iterator[str]:
         """What the event did. `made` is nothing if its centre was empty."""
-        yield (f"event {number} of {self.source.ends[-1]}: attempt {record.attempt} of tile {record.tile}, "
+        yield (f"event {number} of {self.recording.ends[-1]}: attempt {record.attempt} of tile {record.tile}, "
                f"stamp {record.stamp}, at {record.x} {record.y}, seed {record.seed:016x}")
         if made is None:
             yield "The centre is empty, so the event changes nothing."
@@ -56,25 +56,25 @@ class Teller:
                             f"at instruction {ending.place}, {self.instruction(code, ending.place)}.",
                         f"Cause {ending.cause}: {CAUSES[ending.cause]}. All that it did was undone, and its own atom is gone."]
 
-    def instruction(self, code: Code, place: int) -> str:
+    def instruction(self, code: ElementCode, place: int) -> str:
         """An instruction, and the member that it reads or writes, if it does."""
         it = code.instructions[place]
         first = it.arguments[0] if it.name.endswith(("Field", "FieldAt")) else None
-        found = [leaf.name for leaf in self.source.layout.numbers(code.name) if leaf.first == first]
+        found = [leaf.name for leaf in self.recording.layout.numbers(code.name) if leaf.first == first]
         return it.text() + (f" (member {found[0].partition('[')[0]})" if found else "")
 
     def described(self, atom: int) -> str:
         """An atom by its element and the values of its members."""
-        return described(self.source.layout, self.maker.names, atom)
+        return described(self.recording.layout, self.maker.names, atom)
 
-    def place(self, made: Made, site: int) -> str:
+    def place(self, made: MadeEvent, site: int) -> str:
         """The column and the row of a site."""
         dx, dy = OFFSETS[site]
         return f"{made.record.x + dx} {made.record.y + dy}"
 
-    def pictures(self, made: Made) -> Iterator[str]:
+    def pictures(self, made: MadeEvent) -> Iterator[str]:
         """The window before and after beside each other, and what the letters mean."""
-        symbols = ["."] + [mark.symbol for mark in marks(self.source.layout.elements, self.source.files)]
+        symbols = ["."] + [mark.symbol for mark in marks(self.recording.layout.elements, self.recording.files)]
         changed = set(made.changed())
 
         def letters(atoms: Sequence[int], site: int, is_after: bool) -> str:
@@ -92,12 +92,12 @@ class Teller:
         yield ", ".join([*(f"{symbols[kind]} {self.maker.names[kind]}" for kind in kinds),
                          ". empty", "- not live", "* changed"])
 
-    def call(self, code: Code, number: int, depth: int) -> str:
+    def call(self, code: ElementCode, number: int, depth: int) -> str:
         """A function that is called, and where it is declared."""
         function = code.functions[number]
         return f"{'  ' * (depth + 1)}{function.name} ({self.declarations.line(code.name, function)})"
 
-    def deed(self, code: Code, deed: Deed) -> str:
+    def deed(self, code: ElementCode, deed: Deed) -> str:
         """Something that the event did."""
         numbers = deed.numbers
         if deed.what == "call":

@@ -4,8 +4,8 @@ from collections.abc import Iterator, Sequence
 from ..base.errors import LabError
 from ..base.limits import STATE_BITS
 from ..formats.layout import Layout
-from ..formats.report import Record
-from ..machine.maker import OFFSETS, REACH, Made
+from ..formats.report import JournalRecord
+from ..machine.maker import OFFSETS, REACH, MadeEvent
 from .retraced import Retraced
 from .teller import described
 
@@ -13,7 +13,7 @@ NUMBERS = {offset: number for number, offset in enumerate(OFFSETS)}
 Row = Sequence[object]
 
 
-def is_near(record: Record, x: int, y: int) -> bool:
+def is_near(record: JournalRecord, x: int, y: int) -> bool:
     """Whether a site lies in the window of an event."""
     return abs(record.x - x) + abs(record.y - y) <= REACH
 
@@ -55,12 +55,12 @@ def atom_rows(retraced: Retraced, layout: Layout, x: int, y: int, since: int) ->
 
 def atom_at(retraced: Retraced, x: int, y: int, since: int) -> int:
     """The atom at a site after so many events."""
-    leg, events = retraced.source.leg_at(since)
-    retraced.maker.begin(retraced.atoms(retraced.legs[list(retraced.source.legs).index(leg)], events))
-    return retraced.maker.cells[y * retraced.source.world.columns + x]
+    leg, events = retraced.recording.leg_at(since)
+    retraced.maker.begin(retraced.atoms(retraced.legs[list(retraced.recording.legs).index(leg)], events))
+    return retraced.maker.cells[y * retraced.recording.world.columns + x]
 
 
-def site_after(made: Made, site: int) -> int | None:
+def site_after(made: MadeEvent, site: int) -> int | None:
     """At which site of the window an atom is after an event, if it is at one before; nothing if it has ended."""
     if made.ending.cause:
         return None if site == 0 else site

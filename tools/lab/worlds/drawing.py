@@ -23,7 +23,7 @@ OTHER_FORMS = (("[M2]", (".mc",), "a macrocell file"), ("#Life 1.0", (".lif", ".
 
 
 @dataclass(frozen=True)
-class Mark:
+class DrawnSymbol:
     """A symbol at a place of a map."""
 
     x: int
@@ -40,7 +40,7 @@ class Drawing:
 
     name: str
     empty: tuple[str, str]
-    marks: Iterator[Mark]
+    marks: Iterator[DrawnSymbol]
     box: tuple[int, int] | None = None
     rule: str | None = None
 
@@ -91,13 +91,13 @@ def refuse_other_forms(path: Path, name: str, text: str) -> None:
             raise LabError(f"{name}: {form}, which is not read; open it in Golly and save it as RLE")
 
 
-def letters(lines: list[str]) -> Iterator[Mark]:
+def letters(lines: list[str]) -> Iterator[DrawnSymbol]:
     """The symbols of a drawing in letters, a row a line."""
     for y, line in enumerate(lines):
-        yield from (Mark(x, y, symbol) for x, symbol in enumerate(line) if symbol not in EMPTY_IN_LETTERS)
+        yield from (DrawnSymbol(x, y, symbol) for x, symbol in enumerate(line) if symbol not in EMPTY_IN_LETTERS)
 
 
-def runs(name: str, lines: list[str]) -> Iterator[Mark]:
+def runs(name: str, lines: list[str]) -> Iterator[DrawnSymbol]:
     """The symbols of a pattern in RLE, which counts cells and rows; `!` ends it."""
     x = y = 0
     text = "\n".join(line for line in lines if not line.startswith("#"))
@@ -112,6 +112,6 @@ def runs(name: str, lines: list[str]) -> Iterator[Mark]:
             x, y = 0, y + times
             continue
         if symbol not in EMPTY_IN_RLE:
-            yield from (Mark(x + at, y, symbol) for at in range(times))
+            yield from (DrawnSymbol(x + at, y, symbol) for at in range(times))
         x += times
     raise LabError(f"{name}: the pattern has no end: a `!` is missing")

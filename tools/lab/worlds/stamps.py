@@ -5,10 +5,10 @@ from pathlib import Path
 
 from ..base.errors import LabError
 from ..base.limits import MOST_COLUMNS
-from ..command.paint import KEY, key
 from ..formats.areas import Area, Site
 from ..formats.layout import Layout
-from .drawing import Drawing, Mark
+from .drawing import Drawing, DrawnSymbol
+from .paint import KEY, key
 
 NAME = "the drawing"
 
@@ -36,7 +36,7 @@ def stamped(text: str, keys: Sequence[str], place: Site, layout: Layout) -> list
     return [f"put:{atom}:{Area.of_sites(where).text()}" for atom, where in sites.items()]
 
 
-def within_a_plane(marks: Iterable[Mark]) -> Iterator[tuple[int, int, str]]:
+def within_a_plane(marks: Iterable[DrawnSymbol]) -> Iterator[tuple[int, int, str]]:
     """The column, the row and the symbol of marks. Refuses one that no plane has a site for, before the next one is made."""
     for mark in marks:
         if max(mark.x, mark.y) >= MOST_COLUMNS:
