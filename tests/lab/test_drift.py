@@ -9,7 +9,7 @@ from pathlib import Path
 from unittest import TestCase
 
 import films
-from calls import EXAMPLES, LabCase, feast
+from calls import EXAMPLES, LabCase, feast, here
 
 from lab.command.main import main
 from lab.formats.world import World
@@ -128,6 +128,40 @@ class Runs(LabCase):
             self.assertEqual(self.said("film", world, report, "--svg", "10", "-o", page, file), line)
             for moment in ("0", "40"):  # moments that are one age of the plane
                 self.assertEqual(self.said("film", world, report, "--svg", moment, "-o", page, file), "")
+
+    def test_course(self) -> None:
+        """The course of a chain has the drift of each leg if that is asked for, also of legs that are done; the audit tries it."""
+        file = EXAMPLES / "stone.ulam"
+        world = self.file("w.world", "feast 1\ntiles 2 1\nsize 16 8\nseed 1\nattempts 60\natom 1 1 Stone\n")
+        chain, later, bare = (self.room / name for name in ("chain", "later", "bare"))
+        words = ["--step", "--at", "2:attempts:30", "--keep", "reports"]
+        self.passes("chain", chain, "--legs", "3", *words, "--drift", world, file)
+        rows = list(csv.DictReader(io.StringIO((chain / "course.csv").read_text())))
+        self.assertEqual(list(rows[0]), ["leg", "attempts", "events", "abandoned", "aeps", "drift", "Stone"])
+        reports = [self.passes("unpack", chain / f"{leg:04}.kept.gz") for leg in (1, 2, 3)]
+        ahead = [float(max(self.ahead(chain / f"{leg:04}.world", [report]))) for leg, report in enumerate(reports, 1)]
+        self.assertEqual([row["drift"] for row in rows], ["0.0000", *(f"{it:.4f}" for it in ahead)])
+        self.assertEqual(len(set(ahead)), 3)
+        self.passes("chain", later, "--legs", "2", *words, world, file)
+        self.passes("chain", later, "--legs", "2", *words, "--drift", world, file)
+        self.passes("chain", later, "--legs", "3", *words, world, file)
+        self.assertEqual((later / "course.csv").read_bytes(), (chain / "course.csv").read_bytes())
+        self.passes("chain", later, "--legs", "3", *words, "--failures", world, file)
+        self.assertEqual((later / "course.csv").read_text().splitlines()[0], "leg,attempts,events,abandoned,failed,aeps,drift,Stone")
+        for it in (chain, later):
+            self.assertEqual(self.passes("chain", "--audit", it), "yes\n")
+        self.passes("chain", "--from", later, "2", self.room / "branch", "--legs", "3", "--drift")
+        branch = csv.DictReader(io.StringIO((self.room / "branch" / "course.csv").read_text()))
+        self.assertEqual([row["drift"] for row in branch], [row["drift"] for row in rows])
+        path = chain / "course.csv"
+        path.write_text(path.read_text().replace(rows[2]["drift"], "0.5001"))
+        done = here("chain", "--audit", chain)
+        self.assertEqual((done.status, done.wrote), (1, "no leg 2: its row in the course is another\n"))
+        for legs in ("1", "2"):  # without reports it has to be asked for from the first leg on
+            self.passes("chain", self.room / "short", "--legs", legs, "--drift", world, file)
+        self.passes("chain", bare, "--legs", "2", world, file)
+        self.refused("--drift takes the reports of the legs that are done, and the chain keeps none",
+                     "chain", bare, "--legs", "3", "--drift", world, file)
 
     def test_chain(self) -> None:
         """In a chain the tiles wait for each other at the end of each leg, so with more legs they are less apart."""

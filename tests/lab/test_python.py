@@ -151,9 +151,9 @@ class Package(LabCase):
         self.assertEqual(done.stdout.splitlines(), [f"2 yes [0, 1, 2] {course[3].split(',')[2]}", str(events), *["refused"] * 9])
 
     def test_failed(self) -> None:
-        """The course of a chain that looks for failed events has them, in the place where its file has them."""
+        """The course of a chain that looks for failed events, and for the drift, has them in the places where its file has them."""
         chain = self.room / "failing"
-        self.passes("chain", chain, "--legs", "2", "--failures", self.world, self.elements)
+        self.passes("chain", chain, "--legs", "2", "--failures", "--drift", self.world, self.elements)
         script = f"import feast_lab\nfor row in feast_lab.Chain({str(chain)!r}).course: print(*row); print(row['failed'])\n"
         done = subprocess.run(without_extras(), input=script, capture_output=True, text=True, check=False)
         head, *rows = (line.split(",") for line in (chain / "course.csv").read_text().splitlines())

@@ -1,31 +1,46 @@
 """Sweeps in a folder: chains of legs, what is set, sweeps that go on, and their audits."""
+import io
 import json
 import random
 import shutil
 import signal
 from collections import Counter
+from contextlib import redirect_stderr, redirect_stdout
+from itertools import accumulate
+from pathlib import Path
+from unittest import mock
 
 from calls import feast, here, lab, program
 from sweeps import BIRTH, SOURCE, WORLD, FolderCase, contents
+
+from lab.command.main import main
+
+
+def seed_line(world: Path) -> str:
+    """The line of a world that has its seed."""
+    return next(line for line in world.read_text().splitlines() if line.startswith("seed "))
 
 
 class Folders(FolderCase):
     """What a sweep of chains has."""
 
     def test_legs(self) -> None:
-        """The rows of a run are those of a chain with its values and its seed; no two legs share a seed."""
+        """The rows of a run are those of a chain with its values and its seed, and name the seed of each leg; no two legs share one."""
         options = ["--legs", "3", "--sum", "Regulator.part"]
         self.elements = self.file("regulator.ulam", SOURCE.replace("Random random;", "Random random; Unsigned(3) part;", 1))
         told = self.passes(*self.words(BIRTH, "--repeat", "2", *options, "--at", "2:clear:0,0,8,8"))
         rows = self.rows(told)
-        self.assertEqual(list(rows[0]), ["Regulator.regulator_birth", "seed", "leg", "events", "abandoned", "aeps",
+        self.assertEqual(list(rows[0]), ["Regulator.regulator_birth", "seed", "leg", "leg_seed", "events", "abandoned", "aeps",
                                          "Regulator", "Resource", "sum(Regulator.part)"])
         expected = []
         for birth in ("5", "40"):
             for seed in (3, 3 + 3 * 3):
                 for row in self.chained(seed, birth, "--legs", "3", "--at", "2:clear:0,0,8,8"):
                     del row["attempts"]
-                    expected.append({"Regulator.regulator_birth": birth, "seed": str(seed), **row, "sum(Regulator.part)": "0"})
+                    front = {"Regulator.regulator_birth": birth, "seed": str(seed), "leg": row.pop("leg")}
+                    leg_seed = str(seed + 3 * (int(front["leg"]) - 1)) if front["leg"] != "0" else ""
+                    expected.append({**front, "leg_seed": leg_seed, **row, "sum(Regulator.part)": "0"})
+        self.assertEqual(len({row["leg_seed"] for row in rows if row["leg_seed"]}), 6)
         self.assertEqual(rows, expected)
         self.assertEqual(self.passes(*self.words(BIRTH, "--repeat", "2", *options, "--at", "2:clear:0,0,8,8", "--into", self.out)),
                          f"{self.out / 'sweep.csv'}: 4 of 4 runs\n")
@@ -79,6 +94,76 @@ class Folders(FolderCase):
             last = self.chained(int(row["seed"]), "40", "--legs", "1", world=text)[-1]
             self.assertEqual(list(row.values())[4:], [last[name] for name in list(row)[4:]])
         self.assertEqual({row["seed"] for row in rows}, {"3", str(3 + 3 * 2 + 1)})
+
+    def test_leg_seeds(self) -> None:
+        """The seed of a leg is that of its world, also where runs have different numbers of tiles."""
+        self.passes(*self.words("--legs", "3", "--keep", "reports", "--repeat", "2", "--set", "tiles=3x2,2x1", "--into", self.out))
+        for row in self.rows():
+            path = self.out / "runs" / f"{int(row['run']):05}" / f"{int(row['leg']):04}.world"
+            self.assertEqual(f"seed {row['leg_seed']}" if row["leg"] != "0" else "", seed_line(path) if path.exists() else "")
+
+    def test_together(self) -> None:
+        """Values of --with go with those of the --set before it; with several --set these groups make all combinations."""
+        words = ["--set", "tiles=2x1,1x2,4x1", "--with", "size=8x16,16x8,8x8", "--with", "attempts=90:270:90", BIRTH, "--repeat", "2"]
+        rows = self.rows(self.passes(*self.words(*words)))
+        groups = [("2x1", "8x16", "90"), ("1x2", "16x8", "180"), ("4x1", "8x8", "270")]
+        self.assertEqual([tuple(row.values())[:5] for row in rows],
+                         [(*group, birth, str(seed)) for group in groups for birth in ("5", "40") for seed in (3, 3 + 5)])
+        for row in rows:
+            text = WORLD.replace("tiles 2 1", f"tiles {row['tiles']}").replace("size 8 8", f"size {row['size']}").replace("x", " ")
+            last = self.chained(int(row["seed"]), row["Regulator.regulator_birth"], "--legs", "1",
+                                world=text.replace("attempts 400", f"attempts {row['attempts']}"))[-1]
+            self.assertEqual(list(row.values())[5:], [last[name] for name in list(row)[5:]])
+        self.passes(*self.words(*words, "--legs", "1", "--keep", "reports", "--into", self.out))
+        self.assertEqual(self.passes("sweep", "--audit", self.out), "yes\n")
+        self.assertEqual(json.loads((self.out / "sweep.json").read_text())["together"],
+                         [["tiles", "size", "attempts"], ["Regulator.regulator_birth"]])
+        for more, says in [
+            (["--with", "size=8x8"], "--with size=8x8: its values go with those of a --set before it, and there is none"),
+            (["--set", "tiles=2x1,1x2", "--with", "size=8x8"], "--with size=8x8: values: 1, and of --set tiles there are 2; they go together"),
+            (["--set", "tiles=2x1", "--with", "tiles=1x2"], "--with tiles: it is given twice"),
+            (["--set", "tiles=2x1", "--with", "size"], "--with size: it has to be Element.constant=A,B,.."),
+            (["--set", "tiles=2x1,1x1", "--with", "size=8x8,8x8"], "--set tiles=1x1, size=8x8: atoms of the world lie outside"),
+        ]:
+            self.refused(says, *self.words(*more))
+
+    def test_until_events(self) -> None:
+        """A run is over by the events of all its legs, or by those for each site."""
+        course = self.chained(3, "40", "--legs", "6")
+        events = list(accumulate(int(row["events"]) for row in course))
+        for rule, legs in [(f"events>={events[3]}", 3), (f"events>{events[3]}", 4), ("events>=0", 0), (f"events={events[5]}", 5),
+                           (f"aeps>={(events[1] + events[2]) / 2 / 128:.4f}", 2), ("aeps>1000", 6), (f"events>{events[6]}", 6)]:
+            rows = self.rows(self.passes(*self.words("--legs", "6", "--until", rule)))
+            self.assertEqual([row["leg"] for row in rows], [str(leg) for leg in range(legs + 1)], rule)
+        self.passes(*self.words("--legs", "6", "--until", f"aeps>={events[2] / 128}", "--keep", "reports", "--into", self.out))
+        self.assertEqual((len(self.rows()), self.passes("sweep", "--audit", self.out)), (3, "yes\n"))
+        self.refused("--until event>3: it has to be Atoms.Element=N", *self.words("--until", "event>3"))
+
+    def test_drift(self) -> None:
+        """With --drift the rows have how far tiles were apart in each leg; a single tile isn't apart."""
+        words = ["--legs", "2", "--drift", "--set", "tiles=2x1,1x1", "--with", "size=8x8,16x8"]
+        rows = self.rows(self.passes(*self.words(*words)))
+        self.assertEqual([row["drift"] == "0.0000" for row in rows], [True, False, False, True, True, True])
+        self.assertEqual(list(rows[0])[5:9], ["events", "abandoned", "aeps", "drift"])
+        self.passes(*self.words(*words, "--keep", "reports", "--into", self.out))
+        self.assertEqual([row["drift"] for row in self.rows()], [row["drift"] for row in rows])
+        for leg in (1, 2):
+            path = self.out / "runs" / "00001" / f"{leg:04}"
+            tiles = self.rows(self.passes("rates", "--by", "tile", path.with_suffix(".world"), path.with_suffix(".kept.gz")))
+            self.assertEqual(rows[leg]["drift"], max(row["drift"] for row in tiles))
+        self.assertEqual(self.passes("sweep", "--audit", self.out), "yes\n")
+        self.assertNotIn("drift", self.rows(self.passes(*self.words("--legs", "2")))[0])
+
+    def test_progress(self) -> None:
+        """Reading the combinations of a plan, and the runs of its table, says how far it is."""
+        errors = io.StringIO()
+        with redirect_stderr(errors), redirect_stdout(io.StringIO()), mock.patch("lab.base.progress.LINE_EVERY", 0.0):
+            self.assertEqual(main([str(it) for it in self.words(BIRTH, "--repeat", "2", "--plan", self.out)]), 0)
+            self.assertEqual(errors.getvalue(), "reading combination 1 of 2: 0 % done\nreading combination 2 of 2: 50 % done, 0 s left\n")
+            for number in ("1", "3"):
+                self.assertEqual(main(["sweep", "--task", str(self.out), number]), 0)
+            self.assertEqual(main(["sweep", "--gather", str(self.out)]), 1)
+        self.assertEqual(errors.getvalue().splitlines()[2:], ["reading run 1 of 2: 0 % done", "reading run 2 of 2: 50 % done, 0 s left"])
 
     def test_fill(self) -> None:
         """A density fills the empty sites of each run by its own seed."""

@@ -132,13 +132,14 @@ class Tasks(FolderCase):
         self.refused("expected 2 arguments", "sweep", "--task", self.out)
         kept = contents(self.out)
         for name, old, new, says in [
-            ("sweep.json", "feast sweep 1", "feast sweep 2", "the plan has the form 'feast sweep 2', and this lab makes those of"),
+            ("sweep.json", "feast sweep 2", "feast sweep 1", "the plan has the form 'feast sweep 1', and this lab makes those of"),
             ("sweep.json", "{", "", "sweep.json: no plan of a sweep"),
             ("sweep.json", '"form"', '"from"', "sweep.json: no plan of a sweep"),
             ("sweep.json", '"repeat"', '"repeats"', "sweep.json: not as the lab wrote it"),
             ("sweep.json", '"repeat": 3', '"repeat":  3', "sweep.json: not as the lab wrote it"),
             ("sweep.json", '"repeat": 3', '"repeat": "3"', "sweep.json: not as the lab wrote it"),
             ("sweep.json", '"step": true', '"step": 1', "sweep.json: not as the lab wrote it"),
+            ("sweep.json", '      "Regulator.regulator_birth"', '      "Regulator.birth"', "sweep.json: not as the lab wrote it"),
             ("start.world", "400", "401", "start.world: not as it was when the sweep was planned"),
             ("elements/00-regulator.ulam", "40", "41", "00-regulator.ulam: not as it was when the sweep was planned"),
         ]:

@@ -40,7 +40,7 @@ class Chain:
     def course(self) -> Any:
         """The rows of `course.csv`: an array with leg, attempts, events, abandoned, aeps, the elements and what is measured.
 
-        If the chain looks for failed events, `failed` stands before aeps.
+        If the chain looks for failed events, `failed` stands before aeps, and if it looks for the drift, `drift` behind it.
         Without NumPy it is a list of dicts. A measure that a leg has no number for is NaN, or None in a dict.
         """
         elements, sites = self.source.layout.elements, self.source.world.sites
@@ -52,10 +52,11 @@ class Chain:
             own: arrays.Row = {"leg": leg.number, "attempts": leg.attempts, "events": leg.events, "abandoned": leg.abandoned}
             own |= {"failed": leg.failed} if course.has_failures else {}
             own["aeps"] = events / sites
+            own |= {"drift": float(leg.drift)} if leg.drift is not None else {}
             measured = [number_of(text) if text else None for text in leg.measured]
             rows.append(own | dict(zip(elements, leg.counts, strict=True)) | dict(zip(course.measures, measured, strict=True)))
         of_measures = [kind_of(measure, sites) for measure in measures_of(course.measures, self.source.layout)]
-        kinds = [*["u8"] * (3 + course.has_failures), "f8", *["u4"] * len(elements), *of_measures]
+        kinds = [*["u8"] * (3 + course.has_failures), *["f8"] * (1 + course.has_drift), *["u4"] * len(elements), *of_measures]
         return arrays.columns(rows, course.head, ["u4", *kinds])
 
     def frame(self) -> Any:

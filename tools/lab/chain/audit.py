@@ -17,7 +17,7 @@ from ..machine.windows import Disagreement
 from ..measure.measures import Measure, measured, measures_of
 from ..worlds.starting import drawn_world, first_atoms
 from .folder import Begun, Course, Folder, Leg
-from .rule import ChainRule, by_legs
+from .rule import NO_DRIFT, ChainRule, by_legs
 
 
 def first_fault(folder: Folder, leg: int | None, progress: Progress) -> str | None:
@@ -68,7 +68,9 @@ class AuditedChain:
     def start_faults(self) -> Iterator[str]:
         """What is wrong with the start."""
         atoms = first_atoms(self.program, self.folder.start, self.folder.files)
-        yield from self.leaves(Leg(0, 0, 0, 0, counts(atoms, self.course.elements), failed=0 if self.finder else None), atoms)
+        leg = Leg(0, 0, 0, 0, counts(atoms, self.course.elements), failed=0 if self.finder else None,
+                  drift=NO_DRIFT if self.course.has_drift else None)
+        yield from self.leaves(leg, atoms)
 
     def leg_faults(self, number: int) -> Iterator[str]:
         """What is wrong with a leg, if the files of what the leg before left are right."""
@@ -82,7 +84,8 @@ class AuditedChain:
         yield from self.verdict(number, report)
         outcome = Outcome.of(report)
         left = counts(outcome.atoms, self.course.elements)
-        leg = Leg(number, self.rule.attempts(number), outcome.events, outcome.abandoned, left)
+        leg = Leg(number, self.rule.attempts(number), outcome.events, outcome.abandoned, left,
+                  drift=self.rule.drift(number, report) if self.course.has_drift else None)
         try:
             yield from self.leaves(replace(leg, failed=self.failed(number, report)), outcome.atoms)
         except Disagreement as fault:

@@ -34,5 +34,6 @@ def copy_chain(old: Folder, new: Folder, begun: Begun, course: Course, last: int
 
 
 def bare(legs: Sequence[Leg]) -> list[Leg]:
-    """Legs without what a chain may be asked for later: what is measured of them, and how many of their events failed."""
-    return [replace(leg, measured=[], failed=None) for leg in legs]
+    """Legs without what a chain may be asked for later: what is measured of them, how many of their events failed, and how far
+    tiles were apart."""
+    return [replace(leg, measured=[], failed=None, drift=None) for leg in legs]

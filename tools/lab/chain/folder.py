@@ -24,6 +24,7 @@ ACTS = "acts.txt"
 KINDS = [str, list, bool, int, str, list]
 COLUMNS = ["leg", "attempts", "events", "abandoned", "aeps"]
 FAILED = "failed"  # the column before aeps, if failed events are looked for
+DRIFT = "drift"  # the column behind aeps, if it is looked how far tiles were apart
 
 
 @dataclass(frozen=True)
@@ -42,7 +43,7 @@ class Begun:
 class Leg:
     """A row of the course: a leg, the atoms of each element at its end, and what is measured of them. Leg 0 is the start.
 
-    `failed` is how many of its events failed, if that is looked for.
+    `failed` is how many of its events failed, and `drift` how far its tiles were apart, if that is looked for.
     """
 
     number: int
@@ -52,13 +53,14 @@ class Leg:
     counts: list[int]
     measured: list[str] = field(default_factory=list)
     failed: int | None = None
+    drift: str | None = None
 
 
 @dataclass
 class Course:
     """The legs so far; `sites` is how many live sites the plane has, `measures` are the columns of what is measured.
 
-    `has_failures` says whether there is a column of the events that failed.
+    `has_failures` says whether there is a column of the events that failed, `has_drift` whether there is one of the drift.
     """
 
     elements: list[str]
@@ -66,6 +68,7 @@ class Course:
     legs: list[Leg] = field(default_factory=list)
     measures: list[str] = field(default_factory=list)
     has_failures: bool = False
+    has_drift: bool = False
     rows: list[str] = field(default_factory=list, repr=False)  # the text of the head and of the legs before
     written_events: int = 0  # how many events these legs have
 
@@ -82,7 +85,8 @@ class Course:
             self.written_events += leg.events
             aeps = f"{self.written_events / self.sites:.4f}"
             failed = [leg.failed] if self.has_failures else []
-            own = [leg.number, leg.attempts, leg.events, leg.abandoned, *failed, aeps]
+            drift = [leg.drift] if self.has_drift else []
+            own = [leg.number, leg.attempts, leg.events, leg.abandoned, *failed, aeps, *drift]
             self.rows.append(row_of([*own, *leg.counts, *leg.measured]))
         return "".join(self.rows)
 
@@ -90,7 +94,8 @@ class Course:
     def head(self) -> list[str]:
         """The columns."""
         failed = [FAILED] if self.has_failures else []
-        return [*COLUMNS[:-1], *failed, COLUMNS[-1], *self.elements, *self.measures]
+        drift = [DRIFT] if self.has_drift else []
+        return [*COLUMNS[:-1], *failed, COLUMNS[-1], *drift, *self.elements, *self.measures]
 
     def changed(self) -> None:
         """Has the text made anew, since there are other columns."""
@@ -99,7 +104,7 @@ class Course:
 
     def upto(self, leg: int) -> "Course":
         """The course up to a leg."""
-        return Course(self.elements, self.sites, self.legs[:leg + 1], self.measures, self.has_failures)
+        return Course(self.elements, self.sites, self.legs[:leg + 1], self.measures, self.has_failures, self.has_drift)
 
     def summary(self, path: Path) -> str:
         """What the chain has come to, in a line."""
@@ -231,7 +236,8 @@ class Folder(Inputs):
         path = self.path / COURSE
         header, *rows = read_rows(path)
         has_failures = FAILED in header[:len(COLUMNS)]
-        course = Course(elements, sites, has_failures=has_failures)
+        has_drift = header[len(COLUMNS) + has_failures:][:1] == [DRIFT]
+        course = Course(elements, sites, has_failures=has_failures, has_drift=has_drift)
         first = len(course.head)
         if header[:first] != course.head:
             raise LabError(f"{path}:1: its columns are not those of this chain")
@@ -253,15 +259,17 @@ def row_of(cells: Sequence[object]) -> str:
 def leg_of(row: list[str], number: int, course: Course, path: Path) -> Leg:
     """The leg of a row."""
     before = len(COLUMNS) - 1 + course.has_failures
-    first = before + 1 + len(course.elements)
+    behind = before + 1 + course.has_drift
+    first = behind + len(course.elements)
     try:
         leg, attempts, events, abandoned, *failed = map(int, row[:before])
-        counts = list(map(int, row[before + 1:first]))
+        counts = list(map(int, row[behind:first]))
     except ValueError as error:
         raise LabError(f"{path}:{number + 2}: no row of a course") from error
     if leg != number or len(row) != len(course.head):
         raise LabError(f"{path}:{number + 2}: the row of leg {number} should stand here")
-    return Leg(leg, attempts, events, abandoned, counts, row[first:], failed[0] if failed else None)
+    return Leg(leg, attempts, events, abandoned, counts, row[first:], failed[0] if failed else None,
+               row[before + 1] if course.has_drift else None)
 
 
 def refuse_other(folder: Folder, was: Begun, now: Begun, world: Path) -> None:

@@ -15,7 +15,8 @@ from .rule import ChainRule
 
 @dataclass(frozen=True)
 class LegMaker:
-    """Makes the legs of a chain, and measures what they leave. With a finder it looks for events that failed."""
+    """Makes the legs of a chain, and measures what they leave. With a finder it looks for events that failed, with `has_drift`
+    for how far the tiles were apart."""
 
     program: Program
     folder: Folder
@@ -24,6 +25,7 @@ class LegMaker:
     layout: Layout
     measures: Sequence[Measure] = ()
     finder: Finder | None = None
+    has_drift: bool = False
 
     def atoms_before(self, number: int) -> Sequence[str]:
         """The lines of the atoms with which a leg begins."""
@@ -50,4 +52,4 @@ class LegMaker:
         self.folder.write(self.folder.atoms(number), outcome.atoms)
         return Leg(number, self.rule.attempts(number), outcome.events, outcome.abandoned,
                    counts(outcome.atoms, self.layout.elements), measured(self.measures, outcome.atoms),
-                   None if failed is None else failed.total())
+                   None if failed is None else failed.total(), self.rule.drift(number, report) if self.has_drift else None)

@@ -4,13 +4,12 @@ from dataclasses import dataclass
 from pathlib import Path
 
 from ..base.errors import LabError
-from ..base.files import read_text
 from ..base.program import Program
 from ..base.progress import Progress, Stop
 from ..formats.layout import Layout
 from ..measure.measures import measures_of
-from ..measure.until import Until
-from .columns import with_failures, with_measures
+from ..measure.until import LegEnd, Until
+from .columns import with_drift, with_failures, with_measures
 from .folder import Course, Folder
 from .keeper import Keeper
 from .legs import LegMaker
@@ -22,7 +21,7 @@ class WantedChain:
     """What a chain is to be: its folder, what it begins with, and how many legs it has in all.
 
     `at` are the acts, as --at has them, `until` is the rule of --until, and `measures` are columns of the course. With
-    `failures` the course has a column of the events that failed.
+    `failures` the course has a column of the events that failed, with `drift` one of how far the tiles were apart.
     """
 
     folder: Path
@@ -36,6 +35,7 @@ class WantedChain:
     until: str | None = None
     measures: Sequence[str] = ()
     failures: bool = False
+    drift: bool = False
 
 
 def made(wanted: WantedChain, progress: Progress, stop: Stop, is_lasting: bool) -> Course:
@@ -54,6 +54,8 @@ def made(wanted: WantedChain, progress: Progress, stop: Stop, is_lasting: bool) 
         maker = with_measures(maker, course, wanted.measures)
         if wanted.failures:
             maker = with_failures(maker, course, progress)
+        if wanted.drift:
+            maker = with_drift(maker, course, progress)
         go(maker, course, wanted.legs, until, progress, stop)
     return course
 
@@ -61,16 +63,18 @@ def made(wanted: WantedChain, progress: Progress, stop: Stop, is_lasting: bool) 
 def go(maker: LegMaker, course: Course, legs: int, until: Until | None, progress: Progress, stop: Stop) -> None:
     """Makes the legs that are still to be made, or those up to the first at whose end the rule holds."""
     progress.begin(legs, len(course.legs) - 1)
+    events = course.events
     with Keeper(maker.folder, maker.rule.world) as keeper:
         keeper.keep_all(len(course.legs) - 1)
         for number in range(len(course.legs), legs + 1):
-            if until is not None and until.holds(read_text(maker.folder.atoms(number - 1))):
+            if until is not None and until.holds(LegEnd(maker.folder.atoms(number - 1), events, course.sites)):
                 break
             stop.heed()
             progress.at(number - 1, f"leg {number} of {legs}")
             atoms = maker.atoms_before(number)
             report = maker.report(number, atoms)
             course.legs.append(maker.written(number, report, maker.failed(atoms, report)))
+            events += course.legs[-1].events
             maker.folder.write_course(course)
             keeper.keep(number)
     progress.end()

@@ -3,9 +3,12 @@ from collections.abc import Iterable, Sequence
 from dataclasses import dataclass, replace
 
 from ..base.seeds import nth, of_order
-from ..formats.outcome import atom_lines
+from ..formats.outcome import atom_lines, journal_lines
 from ..formats.world import World
+from ..measure.drift import greatest, plans, tiles_of
 from .acts import Act, Pace
+
+NO_DRIFT = "0.0000"  # of the start, and of a single tile
 
 
 @dataclass(frozen=True)
@@ -34,6 +37,13 @@ class ChainRule:
         for act in self.acts.get(number, ()):
             atoms = act.applied(atoms)
         return atoms
+
+    def drift(self, number: int, report: bytes) -> str:
+        """How far the tiles were apart at the worst moment of a leg, with four places."""
+        if self.world.tiles == 1:
+            return NO_DRIFT
+        planned = plans(replace(self.world, attempts=self.attempts_each(number)))
+        return f"{greatest(planned, tiles_of(journal_lines(report))):.4f}"
 
     def leg(self, number: int, atoms: str) -> str:
         """The world of a leg, from the atoms that the leg before left."""

@@ -71,7 +71,8 @@ def going_on(program: Program, folder: Folder) -> tuple[LegMaker, Course]:
         raise LabError(f"{folder.atoms(last.number)}: it has other atoms than {COURSE} says")
     rule = ChainRule(world, begun.seed, begun.step, by_legs(folder.acts(begun, world, layout)))
     finder = Finder(program, folder.files, world) if course.has_failures else None
-    return LegMaker(program, folder, begun, rule, layout, measures_of(course.measures, layout), finder), course
+    maker = LegMaker(program, folder, begun, rule, layout, measures_of(course.measures, layout), finder, course.has_drift)
+    return maker, course
 
 
 def acts_of(texts: Sequence[str], world: World, layout: Layout, seed: int) -> list[Act]:

@@ -37,7 +37,8 @@ leg, or from one that the act has (LEG:flip:0.1:0,0,8,8:seed=7). Acts of one leg
 With --failures each event is made again in Python, which takes much longer than the run, and the course has a column
 `failed`: how many events of each leg did (`./lab failures DIR` says which, and why). Once it is there it is filled for
 further legs too. Of legs that are done it takes the reports. If the program makes an event otherwise than the lab, the
-status is 1.
+status is 1. With --drift the course has a column `drift`: how far a tile was ahead of the slowest at the worst moment of the
+leg, as a part of its events. Of legs that are done this takes the reports, too.
 
 --audit audits the report of each leg, and tests that each leg begins with exactly what the acts before it make of
 what the one before left. It writes `yes` or `no` with the first leg at fault, and ends with 0 or 1.
@@ -80,6 +81,7 @@ def add_arguments(parser: argparse.ArgumentParser) -> None:
     parser.add_argument("--until", metavar="RULE", help=f"stop after the first leg at whose end this holds: {FORM}")
     add_measure_options(parser)
     parser.add_argument("--failures", action="store_true", help="find the events that failed, for a column of the course")
+    parser.add_argument("--drift", action="store_true", help="find how far tiles were apart, for a column of the course")
     inputs = [parser.add_argument("world", metavar="WORLD", type=Path, help="the world to begin with"),
               parser.add_argument("files", metavar="FILE", type=Path, nargs="+", help="the element files")]
     setattr(auditing, "needless", [folder, legs, *inputs])
@@ -101,7 +103,7 @@ def run(arguments: argparse.Namespace) -> int:
 def wanted_chain(arguments: argparse.Namespace) -> WantedChain:
     """What the words say of the chain."""
     return WantedChain(arguments.folder, arguments.world, arguments.files, arguments.legs, arguments.step, arguments.seed,
-                       arguments.keep, arguments.at, arguments.until, arguments.measures, arguments.failures)
+                       arguments.keep, arguments.at, arguments.until, arguments.measures, arguments.failures, arguments.drift)
 
 
 def branch(arguments: argparse.Namespace, wanted: WantedChain) -> WantedChain:

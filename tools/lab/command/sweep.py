@@ -6,14 +6,17 @@ Each --set names what is set, and its values, such as A,B,C or a range FIRST:LAS
                     the numbers of the world's lines of these names; sizes are written as 16x16
   fill.Element      a density: an empty site gets an atom of the element with this probability
   NAME              if an act of --at has it in braces, as in --at '5:erase:{p}:0,0,8,8' --set p=0.1,0.2
+After a --set, --with names something else that is set, with as many values: these go together, one by one, as in
+--set tiles=1x1,2x2 --with size=32x32,16x16, which makes two runs of one plane.
 Every combination of the values is run R times, with the same seeds: S, S + L * (tiles + 1),
 S + 2 * L * (tiles + 1) .. modulo 2^64, where S is that of --seed or else of WORLD, and L is the number of legs.
 So no two tiles of two repetitions share a seed.
 
-A run is a single call, or with --legs a chain of that many, to which --at, --until and the measures belong as
-they do for the verb chain. A row has the values, the seed, with --legs the leg, the events and the abandoned
-attempts, aeps (the events per live site), how many atoms of each element there are at the end, and the
-measures. The rows come in the order of the values; with --legs each leg has one, and leg 0 is the start.
+A run is a single call, or with --legs a chain of that many, to which --at, --until, --drift and the measures belong
+as they do for the verb chain. A row has the values, the seed, with --legs the leg and its seed, the events and the
+abandoned attempts, aeps (the events per live site), with --drift how far the tiles were apart, how many atoms of each
+element there are at the end, and the measures. The rows come in the order of the values; with --legs each leg has
+one, and leg 0 is the start.
 
 Without a folder the rows go to standard output. --into DIR keeps the runs in a folder instead: sweep.json says
 how they are made, sweep.csv has the rows of all, and runs/NNNNN what each came to; with --keep reports that
@@ -32,6 +35,7 @@ import csv
 import os
 import sys
 import tempfile
+from functools import partial
 from pathlib import Path
 
 from ..base.errors import LabError
@@ -42,6 +46,7 @@ from ..sweep.gather import first_fault, gather, spans
 from ..sweep.making import WantedSweep, made
 from ..sweep.plan import TABLE, Sweep, write_plan
 from ..sweep.run import make_run, rows_of
+from ..sweep.values import Setting
 from .alone import Alone
 from .options import add_measure_options
 from .verdicts import verdict
@@ -57,8 +62,10 @@ def add_arguments(parser: argparse.ArgumentParser) -> None:
         where.add_argument("--gather", metavar="DIR", type=Path, action=Alone, help="write sweep.csv, and name the runs that are missing"),
         where.add_argument("--audit", metavar="DIR", type=Path, action=Alone, help="audit the runs of a sweep"),
     ]
-    parser.add_argument("--set", metavar="NAME=A,B,..", dest="sets", action="append", default=[],
+    parser.add_argument("--set", metavar="NAME=A,B,..", dest="sets", action="append", default=[], type=partial(Setting, "--set"),
                         help="values of what is set; may be given for several names")
+    parser.add_argument("--with", metavar="NAME=A,B,..", dest="sets", action="append", type=partial(Setting, "--with"),
+                        help="values that go with those of the --set before it, one by one")
     parser.add_argument("--repeat", metavar="R", type=int, default=1, help="how many runs each combination has")
     parser.add_argument("--legs", metavar="N", type=int, help="chains of N legs, with a row for each leg")
     parser.add_argument("--step", action="store_true", help="stepped runs, on one thread; else each tile has a thread")
@@ -68,6 +75,7 @@ def add_arguments(parser: argparse.ArgumentParser) -> None:
     parser.add_argument("--keep", choices=["none", "reports"], default="none", help="keep each run as a chain with its reports")
     parser.add_argument("--jobs", metavar="N", type=int, help="how many runs are made side by side")
     add_measure_options(parser)
+    parser.add_argument("--drift", action="store_true", help="find how far tiles were apart, for a column of the rows")
     needless = [parser.add_argument("world", metavar="WORLD", type=Path, help="a world that draws its attempts"),
                 parser.add_argument("files", metavar="FILE", type=Path, nargs="+", help="the element files")]
     for action in alone:
@@ -91,7 +99,7 @@ def run(arguments: argparse.Namespace) -> int:
     with tempfile.TemporaryDirectory() as room:
         sweep = Sweep(folder or Path(room) / "sweep", is_lasting=folder is not None)
         if not sweep.is_planned:
-            check_runs(plan, arguments.world, arguments.files)
+            check_runs(plan, arguments.world, arguments.files, ProgressLine())
         write_plan(sweep, plan, arguments.world, arguments.files)
         if arguments.plan is not None:
             print(f"{sweep.path}: {plan.runs} runs, 1-{plan.runs}")
@@ -108,12 +116,12 @@ def run(arguments: argparse.Namespace) -> int:
 def wanted_sweep(arguments: argparse.Namespace) -> WantedSweep:
     """What the words say of a sweep."""
     return WantedSweep(arguments.world, arguments.files, arguments.sets, arguments.repeat, arguments.legs, arguments.step,
-                       arguments.seed, arguments.at, arguments.until, arguments.keep, arguments.measures)
+                       arguments.seed, arguments.at, arguments.until, arguments.keep, arguments.measures, arguments.drift)
 
 
 def gathered(sweep: Sweep) -> int:
     """Has the table written, and names the runs that are missing; gives back 1 if there are some."""
-    missing, runs = gather(sweep), sweep.plan.runs
+    missing, runs = gather(sweep, ProgressLine()), sweep.plan.runs
     print(f"{sweep.path / TABLE}: {runs - len(missing)} of {runs} runs")
     if missing:
         print(f"missing: {spans(missing)}", flush=True)

@@ -41,3 +41,8 @@ def atoms_of(lines: Sequence[str]) -> str:
 def counts(atoms: str, elements: Iterable[str]) -> list[int]:
     """How many atoms each of the elements has."""
     return [atoms.count(f" {element} ") for element in elements]
+
+
+def journal_lines(report: bytes) -> list[str]:
+    """The lines of the events of a report."""
+    return report[report.index(JOURNAL) + 1:report.rindex(ABANDONED)].decode().splitlines()[1:]

@@ -4,7 +4,7 @@ from collections.abc import Sequence
 from pathlib import Path
 
 from ..base.program import Program
-from ..formats.outcome import ABANDONED, JOURNAL, Outcome, atom_lines
+from ..formats.outcome import Outcome, atom_lines, journal_lines
 from ..formats.report import JournalRecord
 from ..formats.world import World
 from .code import element_codes
@@ -32,8 +32,3 @@ class Finder:
         if self.maker.lines() != atom_lines(Outcome.of(report).atoms):
             raise Disagreement("the lab comes to other atoms than the program, so it can't tell which events of the leg failed")
         return found
-
-
-def journal_lines(report: bytes) -> list[str]:
-    """The lines of the events of a report."""
-    return report[report.index(JOURNAL) + 1:report.rindex(ABANDONED)].decode().splitlines()[1:]

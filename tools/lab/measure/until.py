@@ -2,25 +2,37 @@
 import re
 from collections.abc import Callable
 from dataclasses import dataclass
-from decimal import Decimal
+from fractions import Fraction
+from pathlib import Path
 
 from ..base.errors import LabError
+from ..base.files import read_text
 from ..formats.layout import Layout
 from ..formats.outcome import counts
 from .measures import SIGNS, Measure, measured
 
-RULE = re.compile(r"(?P<term>Atoms\.\w+|\w+\(.*\))(?P<sign>!=|<=|>=|=|<|>)(?P<number>-?\d+(?:\.\d+)?)")
-FORM = "Atoms.Element=N, or a measure in place of Atoms.Element, as in mean(Field.dist)>3.5"
+RULE = re.compile(r"(?P<term>Atoms\.\w+|events|aeps|\w+\(.*\))(?P<sign>!=|<=|>=|=|<|>)(?P<number>-?\d+(?:\.\d+)?)")
+FORM = "Atoms.Element=N, or in place of Atoms.Element a measure, events or aeps, as in mean(Field.dist)>3.5 or aeps>=100"
+
+
+@dataclass(frozen=True)
+class LegEnd:
+    """What a chain has come to at the end of a leg: a file with its atoms, as `replay` writes them, the events of all legs so
+    far, and the live sites of the plane."""
+
+    atoms: Path
+    events: int
+    sites: int
 
 
 @dataclass(frozen=True)
 class Until:
-    """A rule such as `Atoms.Ant=0`: a number that the atoms come to, and what it is compared with."""
+    """A rule such as `Atoms.Ant=0`: a number that a chain comes to, and what it is compared with."""
 
     text: str
-    number: Callable[[str], str]
+    number: Callable[[LegEnd], Fraction | None]
     sign: str
-    limit: Decimal
+    limit: Fraction
 
     @staticmethod
     def of(text: str, layout: Layout) -> "Until":
@@ -28,26 +40,40 @@ class Until:
         match = RULE.fullmatch("".join(text.split()))
         if match is None:
             raise LabError(f"--until {text}: it has to be {FORM}")
-        term = match["term"]
         try:
-            number = of_element(term.removeprefix("Atoms."), layout) if "(" not in term else of_measure(term, layout)
+            number = number_of(match["term"], layout)
         except LabError as error:
             raise LabError(f"--until {text}: {error}") from error
-        return Until(text, number, match["sign"], Decimal(match["number"]))
+        return Until(text, number, match["sign"], Fraction(match["number"]))
 
-    def holds(self, atoms: str) -> bool:
-        """Whether it holds of atoms, as `replay` writes them. A mean, a least or a greatest of no atom never does."""
-        number = self.number(atoms)
-        return number != "" and SIGNS[self.sign](Decimal(number), self.limit)
+    def holds(self, end: LegEnd) -> bool:
+        """Whether it holds at the end of a leg. A mean, a least or a greatest of no atom never does."""
+        number = self.number(end)
+        return number is not None and SIGNS[self.sign](number, self.limit)
 
 
-def of_element(name: str, layout: Layout) -> Callable[[str], str]:
+def number_of(term: str, layout: Layout) -> Callable[[LegEnd], Fraction | None]:
+    """What the term of a rule comes to."""
+    if term == "events":
+        return lambda end: Fraction(end.events)
+    if term == "aeps":
+        return lambda end: Fraction(end.events, max(end.sites, 1))
+    return of_measure(term, layout) if "(" in term else of_element(term.removeprefix("Atoms."), layout)
+
+
+def of_element(name: str, layout: Layout) -> Callable[[LegEnd], Fraction | None]:
     """The number of atoms of an element."""
     layout.numbers(name)
-    return lambda atoms: str(counts(atoms, [name])[0])
+    return lambda end: Fraction(counts(read_text(end.atoms), [name])[0])
 
 
-def of_measure(name: str, layout: Layout) -> Callable[[str], str]:
-    """What a measure comes to."""
+def of_measure(name: str, layout: Layout) -> Callable[[LegEnd], Fraction | None]:
+    """What a measure comes to, which of no atom may be nothing."""
     measure = Measure.of(name, layout)
-    return lambda atoms: measured([measure], atoms)[0]
+
+    def number(end: LegEnd) -> Fraction | None:
+        """What it comes to at the end of a leg."""
+        text = measured([measure], read_text(end.atoms))[0]
+        return Fraction(text) if text else None
+
+    return number

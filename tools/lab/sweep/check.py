@@ -6,6 +6,7 @@ from pathlib import Path
 from ..base.errors import LabError
 from ..base.files import write_new
 from ..base.program import Program, Refusal
+from ..base.progress import Progress
 from ..chain.start import acts_of
 from ..formats.layout import Layout
 from ..formats.world import World
@@ -13,7 +14,7 @@ from ..worlds.starting import first_atoms
 from .plan import Plan, Sweep, write_plan
 
 
-def check_runs(plan: Plan, world: Path, files: Sequence[Path]) -> None:
+def check_runs(plan: Plan, world: Path, files: Sequence[Path], progress: Progress) -> None:
     """Has the program read the files as they are, and those of each combination. What it refuses is raised with
     the values that led to it, and with the name of the file as it was given."""
     program = Program.find()
@@ -23,8 +24,12 @@ def check_runs(plan: Plan, world: Path, files: Sequence[Path]) -> None:
         sweep = Sweep(room / "sweep")
         write_plan(sweep, plan, world, files)
         copies = {"start.world": str(world)} | {f"{number:02}": str(file) for number, file in enumerate(files)}
-        for number in range(1, plan.runs + 1, plan.repeat):
-            check(program, sweep, number, room, copies)
+        combinations = plan.runs // plan.repeat
+        progress.begin(combinations)
+        for done in range(combinations):
+            progress.at(done, f"reading combination {done + 1} of {combinations}")
+            check(program, sweep, done * plan.repeat + 1, room, copies)
+        progress.end()
 
 
 def check(program: Program, sweep: Sweep, number: int, room: Path, copies: dict[str, str]) -> None:

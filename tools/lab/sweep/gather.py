@@ -2,6 +2,7 @@
 import csv
 import io
 from collections.abc import Iterator, Sequence
+from itertools import accumulate
 
 from ..base.errors import LabError
 from ..base.files import read_text, write_inside
@@ -11,27 +12,30 @@ from ..base.progress import Progress
 from ..chain.audit import AuditedChain
 from ..chain.folder import Folder
 from ..formats.layout import Layout
-from ..measure.until import Until
+from ..measure.until import LegEnd, Until
 from .plan import TABLE, PlannedRun, Sweep
 from .run import again, rows_of
 
 
-def gather(sweep: Sweep) -> list[int]:
+def gather(sweep: Sweep, progress: Progress) -> list[int]:
     """Writes the table of the runs that are over; gives back the numbers of those that are missing."""
     runs = sweep.plan.runs
     with held(sweep.path, "gathering this sweep"):
         missing = sweep.missing()
-        write_inside(sweep.path / TABLE, table(sweep, sorted({*range(1, runs + 1)} - {*missing})))
+        write_inside(sweep.path / TABLE, table(sweep, sorted({*range(1, runs + 1)} - {*missing}), progress))
     return missing
 
 
-def table(sweep: Sweep, numbers: Sequence[int]) -> str:
+def table(sweep: Sweep, numbers: Sequence[int], progress: Progress) -> str:
     """The rows of these runs as CSV, with the number of each run before them."""
     text = io.StringIO()
     out = csv.writer(text, lineterminator="\n")
     out.writerow(["run", *sweep.plan.head])
-    for number in numbers:
+    progress.begin(len(numbers))
+    for done, number in enumerate(numbers):
+        progress.at(done, f"reading run {done + 1} of {len(numbers)}")
         out.writerows([number, *row] for row in rows_of(sweep, sweep.run(number)))
+    progress.end()
     return text.getvalue()
 
 
@@ -64,7 +68,7 @@ def faults(sweep: Sweep, progress: Progress) -> Iterator[str]:
         progress.at(number - 1, f"run {number} of {runs}")
         yield from (f"run {number}: {fault}" for fault in faults_of(program, sweep, sweep.run(number)))
     progress.end()
-    if read_text(sweep.path / TABLE) != table(sweep, range(1, runs + 1)):
+    if read_text(sweep.path / TABLE) != table(sweep, range(1, runs + 1), progress):
         yield f"{TABLE}: its rows are not those of the runs"
 
 
@@ -90,5 +94,6 @@ def ends_as_planned(sweep: Sweep, folder: Folder, chain: AuditedChain) -> bool:
     if sweep.plan.until is None:
         return last == legs
     until = Until.of(sweep.plan.until, Layout.of(chain.program, folder.files))
-    holds = [leg for leg in range(last + 1) if until.holds(read_text(folder.atoms(leg)))]
+    ends = accumulate(leg.events for leg in chain.course.legs)
+    holds = [leg for leg, events in enumerate(ends) if until.holds(LegEnd(folder.atoms(leg), events, chain.course.sites))]
     return holds == [last] or (last == legs and not holds)

@@ -15,16 +15,17 @@ from ..measure.until import Until
 from ..worlds.starting import drawn_world, first_seed
 from .plan import FORM, MOST_RUNS, Plan, PlannedRun, Sweep
 from .run import make_run
-from .values import settings
+from .values import Setting, settings
 
 
 @dataclass(frozen=True)
 class WantedSweep:
-    """What a sweep is to be; `sets`, `at` and `until` are as the options have them, `measures` are columns."""
+    """What a sweep is to be; `sets`, `at` and `until` are as the options have them, `measures` are columns. With `drift` the
+    rows have how far the tiles were apart."""
 
     world: Path
     files: Sequence[Path]
-    sets: Sequence[str]
+    sets: Sequence[Setting]
     repeat: int
     legs: int | None
     step: bool
@@ -33,6 +34,7 @@ class WantedSweep:
     until: str | None
     keep: str
     measures: Sequence[str]
+    drift: bool
 
     def plan(self) -> Plan:
         """The plan. Refuses what no run could do."""
@@ -45,10 +47,10 @@ class WantedSweep:
         if self.until is not None:
             Until.of(self.until, layout)
         texts = [read_byte_text(file) for file in self.files]
-        sets = settings(self.sets, texts, layout.elements, self.at)
-        plan = Plan(FORM, digest(read_bytes(self.world)), [digest(text.encode("latin-1")) for text in texts], sets, self.repeat,
-                    first_seed(world, self.seed), self.legs, self.step, self.keep, list(self.at), self.until,
-                    measures, [*layout.elements, *measures])
+        found = settings(self.sets, texts, layout.elements, self.at)
+        plan = Plan(FORM, digest(read_bytes(self.world)), [digest(text.encode("latin-1")) for text in texts],
+                    found.sets, found.together, self.repeat, first_seed(world, self.seed), self.legs, self.step, self.keep,
+                    list(self.at), self.until, self.drift, measures, [*layout.elements, *measures])
         if plan.runs > MOST_RUNS:
             raise LabError(f"the sweep would have {plan.runs} runs, at most {MOST_RUNS}")
         return plan

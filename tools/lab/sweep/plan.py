@@ -18,19 +18,20 @@ from ..base.errors import LabError
 from ..base.files import PART, cause, read_byte_text, read_bytes, read_text
 from ..base.inputs import ELEMENTS, START, Inputs
 from ..base.seeds import nth
+from ..chain.folder import DRIFT
 from ..formats.constants import with_values
 from ..formats.world import World
 from .values import OF_WORLD, FILL, set_world
 
-FORM = "feast sweep 1"
+FORM = "feast sweep 2"
 PLAN = "sweep.json"
 RUNS = "runs"
 TABLE = "sweep.csv"
 MOST_RUNS = 1_000_000
 NONE: type = type(None)
 KINDS: dict[str, list[type]] = {
-    "form": [str], "world": [str], "elements": [list], "sets": [dict], "repeat": [int], "seed": [int], "legs": [int, NONE],
-    "step": [bool], "keep": [str], "at": [list], "until": [str, NONE], "measures": [list], "columns": [list]}
+    "form": [str], "world": [str], "elements": [list], "sets": [dict], "together": [list], "repeat": [int], "seed": [int], "legs": [int, NONE],
+    "step": [bool], "keep": [str], "at": [list], "until": [str, NONE], "drift": [bool], "measures": [list], "columns": [list]}
 
 
 @dataclass(frozen=True)
@@ -41,6 +42,7 @@ class Plan:
     world: str  # the SHA-256 of the copy
     elements: list[str]  # those of the copies
     sets: dict[str, list[str]]
+    together: list[list[str]]  # the names whose values go together
     repeat: int
     seed: int
     legs: int | None
@@ -48,13 +50,14 @@ class Plan:
     keep: str
     at: list[str]
     until: str | None
+    drift: bool
     measures: list[str]
     columns: list[str]  # the elements, whose numbers of atoms a row has, and the measures
 
     @property
     def runs(self) -> int:
         """How many runs there are."""
-        return prod(map(len, self.sets.values())) * self.repeat
+        return prod(len(self.sets[names[0]]) for names in self.together) * self.repeat
 
     def text(self) -> str:
         """The plan as its file has it."""
@@ -63,8 +66,13 @@ class Plan:
     @property
     def head(self) -> list[str]:
         """The columns of a row, but for the number of the run."""
-        leg = ["leg"] if self.legs is not None else []
-        return [*self.sets, "seed", *leg, "events", "abandoned", "aeps", *self.columns]
+        leg = ["leg", "leg_seed"] if self.legs is not None else []
+        return [*self.sets, "seed", *leg, "events", "abandoned", *self.of_course]
+
+    @property
+    def of_course(self) -> list[str]:
+        """The columns of a run's course behind the abandoned attempts."""
+        return ["aeps", *([DRIFT] if self.drift else []), *self.columns]
 
 
 @dataclass(frozen=True)
@@ -118,17 +126,21 @@ class Sweep(Inputs):
         if not 1 <= number <= self.plan.runs:
             raise LabError(f"{self.path}: the sweep has the runs 1 to {self.plan.runs}, and no run {number}")
         place, turn = divmod(number - 1, self.plan.repeat)
-        found = []
-        for name, values in reversed(self.plan.sets.items()):
-            place, at = divmod(place, len(values))
-            found.append((name, values[at]))
-        return PlannedRun(number, dict(reversed(found)), nth(self.plan.seed, self.most_tiles, turn * (self.plan.legs or 1)))
+        chosen: dict[str, str] = {}
+        for names in reversed(self.plan.together):
+            place, at = divmod(place, len(self.plan.sets[names[0]]))
+            chosen |= {name: self.plan.sets[name][at] for name in names}
+        values = {name: chosen[name] for name in self.plan.sets}
+        return PlannedRun(number, values, nth(self.plan.seed, self.most_tiles, turn * (self.plan.legs or 1)))
 
     @property
     def most_tiles(self) -> int:
         """The greatest number of tiles of a run. Seeds are so far apart that no two runs or legs share one."""
-        sizes = [size.split("x") for size in self.plan.sets.get("tiles", [])]
-        return max([self.world.tiles, *(int(across) * int(down) for across, down in sizes)])
+        return max([self.world.tiles, *map(product, self.plan.sets.get("tiles", []))])
+
+    def seed_of(self, run: PlannedRun, leg: int) -> int:
+        """The seed of a leg of a run."""
+        return nth(run.seed, product(run.values["tiles"]) if "tiles" in run.values else self.world.tiles, leg - 1)
 
     def world_of(self, run: PlannedRun) -> bytes:
         """The world of a run, as a file has it: the copy, if nothing of it is set."""
@@ -149,6 +161,12 @@ class Sweep(Inputs):
         return [number for number in range(1, self.plan.runs + 1) if not self.folder(number).is_dir()]
 
 
+def product(size: str) -> int:
+    """How many tiles a size has, such as 2x3."""
+    across, down = size.split("x")
+    return int(across) * int(down)
+
+
 def in_braces(text: str, values: Mapping[str, str]) -> str:
     """A text with the values of the names that it has in braces."""
     for name, value in values.items():
@@ -167,7 +185,17 @@ def plan_of(path: Path, text: str) -> Plan:
         raise LabError(f"{path}: the plan has the form {form!r}, and this lab makes those of the form {FORM!r}")
     if list(found) != list(KINDS) or any(type(found[name]) not in kinds for name, kinds in KINDS.items()):
         raise LabError(f"{path}: not as the lab wrote it")
-    return Plan(**found)
+    plan = Plan(**found)
+    if not goes_together(plan):
+        raise LabError(f"{path}: not as the lab wrote it")
+    return plan
+
+
+def goes_together(plan: Plan) -> bool:
+    """Whether the groups of a plan have each name that is set once, in their order, with as many values as the others of its group."""
+    groups = [names for names in plan.together if isinstance(names, list) and names]
+    return len(groups) == len(plan.together) and [name for names in groups for name in names] == list(plan.sets) \
+        and all(len({len(plan.sets[name]) for name in names}) == 1 for names in groups)
 
 
 def write_plan(sweep: Sweep, plan: Plan, world: Path, files: Sequence[Path]) -> None:

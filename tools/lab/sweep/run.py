@@ -50,7 +50,8 @@ def inputs(sweep: Sweep, run: PlannedRun) -> Iterator[tuple[Path, Path, list[Pat
 def wanted_chain(sweep: Sweep, run: PlannedRun, folder: Path, world: Path, files: Sequence[Path]) -> WantedChain:
     """The chain that a run is."""
     plan = sweep.plan
-    return WantedChain(folder, world, files, plan.legs or 1, plan.step, run.seed, plan.keep, sweep.acts_of(run), plan.until, plan.measures)
+    return WantedChain(folder, world, files, plan.legs or 1, plan.step, run.seed, plan.keep, sweep.acts_of(run), plan.until, plan.measures,
+                       drift=plan.drift)
 
 
 def label(plan: Plan, run: PlannedRun) -> str:
@@ -100,10 +101,10 @@ def rows_of(sweep: Sweep, run: PlannedRun) -> list[list[str]]:
         raise LabError(f"{folder / LABEL}: the run was made for another plan, or for another number")
     path = folder / COURSE
     head, *legs = read_rows(path)
-    columns = [*COLUMNS, *plan.columns]
+    columns = [*COLUMNS[:-1], *plan.of_course]
     if head != columns or any(len(leg) != len(columns) for leg in legs) or len(legs) < 2 - (plan.legs is not None):
         raise LabError(f"{path}: not the course of a run of this sweep")
     front = [*run.values.values(), str(run.seed)]
     if plan.legs is None:
         return [[*front, *legs[-1][2:]]]
-    return [[*front, leg, *rest] for leg, _, *rest in legs]
+    return [[*front, leg, str(sweep.seed_of(run, int(leg))) if int(leg) else "", *rest] for leg, _, *rest in legs]

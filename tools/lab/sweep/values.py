@@ -1,7 +1,7 @@
 """What a sweep sets, and to which values."""
 import re
 from collections.abc import Mapping, Sequence
-from dataclasses import replace
+from dataclasses import dataclass, replace
 from decimal import Decimal
 from fractions import Fraction
 
@@ -23,8 +23,27 @@ MOST_VALUES = 100_000
 FORM = "it has to be Element.constant=A,B,.. or =FIRST:LAST:STEP, with numbers or truth values"
 
 
-def settings(options: Sequence[str], texts: Sequence[str], elements: Sequence[str], acts: Sequence[str]) -> dict[str, list[str]]:
-    """What the options `--set` name, and the values of each, for element files with these texts.
+@dataclass(frozen=True)
+class Setting:
+    """An option --set with its text, or --with: its values go with those of the --set before it, one by one."""
+
+    option: str
+    text: str
+
+    def __str__(self) -> str:
+        return f"{self.option} {self.text}"
+
+
+@dataclass(frozen=True)
+class Settings:
+    """What is set, to which values, and the names whose values go together; every combination of these groups is run."""
+
+    sets: dict[str, list[str]]
+    together: list[list[str]]
+
+
+def settings(options: Sequence[Setting], texts: Sequence[str], elements: Sequence[str], acts: Sequence[str]) -> Settings:
+    """What the options name, and the values of each, for element files with these texts.
 
     A name is that of a constant, Element.constant; of a number of the world, `attempts`, `size` or `tiles`; of
     a density, fill.Element; or one that stands in braces in an act of `--at`.
@@ -32,20 +51,35 @@ def settings(options: Sequence[str], texts: Sequence[str], elements: Sequence[st
     own = [constant.name for text in texts for constant in constants(text)]
     in_acts = {name for act in acts for name in IN_BRACES.findall(act)}
     known = {*own, *OF_WORLD, *in_acts, *(FILL + element for element in elements)}
-    found: dict[str, list[str]] = {}
+    found = Settings({}, [])
     for option in options:
-        match = SETTING.fullmatch(option)
+        match = SETTING.fullmatch(option.text)
         if match is None:
-            raise LabError(f"--set {option}: {FORM}")
+            raise LabError(f"{option}: {FORM}")
         name = match["name"]
         if name not in known:
-            raise LabError(f"--set {option}: the files have no constant {name}; they have {', '.join(own) or 'none'}; "
+            raise LabError(f"{option}: the files have no constant {name}; they have {', '.join(own) or 'none'}; "
                            f"of the world there are {', '.join(OF_WORLD)} and {FILL}Element")
-        if name in found:
-            raise LabError(f"--set {name}: it is given twice")
-        found[name] = [value for part in match["values"].split(",") for value in values_of(option, part)]
-    refuse_open(acts, found)
+        if name in found.sets:
+            raise LabError(f"{option.option} {name}: it is given twice")
+        put(found, option, name, [value for part in match["values"].split(",") for value in values_of(option, part)])
+    refuse_open(acts, found.sets)
     return found
+
+
+def put(found: Settings, option: Setting, name: str, values: list[str]) -> None:
+    """Puts the values of an option to the others. Refuses --with if it has no --set before it, or another number of values."""
+    if option.option == "--set":
+        found.together.append([name])
+    elif not found.together:
+        raise LabError(f"{option}: its values go with those of a --set before it, and there is none")
+    else:
+        first = found.together[-1][0]
+        if len(found.sets[first]) != len(values):
+            raise LabError(f"{option}: values: {len(values)}, and of --set {first} there are {len(found.sets[first])}; "
+                           "they go together, one by one")
+        found.together[-1].append(name)
+    found.sets[name] = values
 
 
 def refuse_open(acts: Sequence[str], sets: Mapping[str, object]) -> None:
@@ -56,19 +90,19 @@ def refuse_open(acts: Sequence[str], sets: Mapping[str, object]) -> None:
                 raise LabError(f"--at {act}: {name} has no values; give them by --set {name}=A,B,..")
 
 
-def values_of(option: str, part: str) -> list[str]:
+def values_of(option: Setting, part: str) -> list[str]:
     """The values that a part of an option stands for: itself, or those of a range, both ends among them."""
     match = RANGE.fullmatch(part)
     if match is None:
         if WORD.fullmatch(part) is None:
-            raise LabError(f"--set {option}: {FORM}")
+            raise LabError(f"{option}: {FORM}")
         return [part]
     first, last, step = Decimal(match["first"]), Decimal(match["last"]), Decimal(match["step"] or 1)
     if step == 0 or (last - first) / step < 0:
-        raise LabError(f"--set {option}: by steps of {step} {first} never comes to {last}")
+        raise LabError(f"{option}: by steps of {step} {first} never comes to {last}")
     count = int((last - first) / step) + 1
     if count > MOST_VALUES:
-        raise LabError(f"--set {option}: {count} values, at most {MOST_VALUES}")
+        raise LabError(f"{option}: {count} values, at most {MOST_VALUES}")
     return [f"{first + step * turn:f}" for turn in range(count)]
 
 
