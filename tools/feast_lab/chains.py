@@ -12,7 +12,7 @@ from lab.film.recording import Recording, recording_of_chain
 from lab.formats.kept import read_report
 from lab.measure.measures import Measure, measures_of
 
-from feast_lab import arrays, sources
+from feast_lab import arrays, recordings
 from feast_lab.films import Film
 from feast_lab.runs import Run, found
 
@@ -26,7 +26,7 @@ class Chain:
         self.program = found(program)
 
     @cached_property
-    def source(self) -> Recording:
+    def recording(self) -> Recording:
         """Its legs, as a film takes them."""
         return recording_of_chain(self.program, self.folder.path, [])
 
@@ -34,7 +34,7 @@ class Chain:
         return f"<Chain {self.folder.path}: {self.folder.done()} legs>"
 
     def __len__(self) -> int:
-        return len(self.source.legs)
+        return len(self.recording.legs)
 
     @cached_property
     def course(self) -> Any:
@@ -43,7 +43,7 @@ class Chain:
         If the chain looks for failed events, `failed` stands before aeps, and if it looks for the drift, `drift` behind it.
         Without NumPy it is a list of dicts. A measure that a leg has no number for is NaN, or None in a dict.
         """
-        elements, sites = self.source.layout.elements, self.source.world.sites
+        elements, sites = self.recording.layout.elements, self.recording.world.sites
         course = self.folder.course(elements, sites)
         rows: list[arrays.Row] = []
         events = 0
@@ -55,7 +55,7 @@ class Chain:
             own |= {"drift": float(leg.drift)} if leg.drift is not None else {}
             measured = [number_of(text) if text else None for text in leg.measured]
             rows.append(own | dict(zip(elements, leg.counts, strict=True)) | dict(zip(course.measures, measured, strict=True)))
-        of_measures = [kind_of(measure, sites) for measure in measures_of(course.measures, self.source.layout)]
+        of_measures = [kind_of(measure, sites) for measure in measures_of(course.measures, self.recording.layout)]
         kinds = [*["u8"] * (3 + course.has_failures), *["f8"] * (1 + course.has_drift), *["u4"] * len(elements), *of_measures]
         return arrays.columns(rows, course.head, ["u4", *kinds])
 
@@ -75,7 +75,7 @@ class Chain:
 
     def counts(self, every: int) -> Any:
         """How many atoms each element had after every so many events of all legs; see `Run.counts`."""
-        return sources.counts(self.program, self.source, every)
+        return recordings.counts(self.program, self.recording, every)
 
     def audit(self) -> str:
         """`yes`, or `no` with the first leg at fault, as `./lab chain --audit` says."""
@@ -87,7 +87,7 @@ class Chain:
 
     def film(self, frames: int = 400) -> Film:
         """The film of the chain."""
-        return sources.film(self.program, self.source, frames)
+        return recordings.film(self.program, self.recording, frames)
 
 
 def number_of(text: str) -> int | float:

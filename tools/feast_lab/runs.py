@@ -22,7 +22,7 @@ from lab.formats.world import World
 from lab.measure.drift import greatest, plans, tiles_of
 from lab.worlds.starting import drawn_world
 
-from feast_lab import arrays, sources
+from feast_lab import arrays, recordings
 from feast_lab.films import Film
 from feast_lab.moments import Moment
 
@@ -113,7 +113,7 @@ class Run:
 
     def counts(self, every: int) -> Any:
         """How many atoms each element had after every so many events; a row has events, abandoned, aeps and the elements."""
-        return sources.counts(self.program, self._source(), every)
+        return recordings.counts(self.program, self._recording(), every)
 
     def audit(self) -> str:
         """What the program's audit says of the report: `yes`, or `no` and why."""
@@ -121,7 +121,7 @@ class Run:
 
     def film(self, frames: int = 400) -> Film:
         """The film of the run."""
-        return sources.film(self.program, self._source(), frames)
+        return recordings.film(self.program, self._recording(), frames)
 
     def save(self, path: str | Path) -> None:
         """Writes the report to a file, whole or not at all."""
@@ -136,7 +136,7 @@ class Run:
             write_new(path, self.bytes)
         return path
 
-    def _source(self) -> Recording:
+    def _recording(self) -> Recording:
         """What films are made of."""
         leg = Reported(self.path, self.outcome.events, self._report())
         return Recording(self.path.name, self.world, self.layout, self.files, [leg])

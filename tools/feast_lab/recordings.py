@@ -17,36 +17,36 @@ from feast_lab import arrays
 from feast_lab.films import Film
 
 
-def played(program: Program, source: Recording, moments: set[int]) -> Iterator[Frame]:
+def played(program: Program, recording: Recording, moments: set[int]) -> Iterator[Frame]:
     """The frames of some moments, counted in events."""
     with TemporaryDirectory() as room:
-        yield from frames(Plane(program, source.files, Path(room)), source.legs, moments)
+        yield from frames(Plane(program, recording.files, Path(room)), recording.legs, moments)
 
 
-def counts(program: Program, source: Recording, every: int) -> Any:
+def counts(program: Program, recording: Recording, every: int) -> Any:
     """The atoms of each element at the start and after every so many events, and at the end, as an array or a list.
 
     A row has `events`, `abandoned` and `aeps` so far, and a number for each element.
     """
     if every < 1:
         raise LabError(f"counts(every={every}): the distance is at least one event")
-    last, elements = source.ends[-1], source.layout.elements
+    last, elements = recording.ends[-1], recording.layout.elements
     now: Counter[str] = Counter()
     cells: dict[int, str] = {}
     rows, abandoned = [], 0
-    for frame in played(program, source, {*range(0, last, every), last}):
+    for frame in played(program, recording, {*range(0, last, every), last}):
         now.subtract(cells.get(site, "").partition(" ")[0] for site in frame.changes)
         now.update(atom.partition(" ")[0] for atom in frame.changes.values())
         cells |= frame.changes
         abandoned += frame.abandoned
-        rows.append({"events": frame.events, "abandoned": abandoned, "aeps": frame.events / source.world.sites,
+        rows.append({"events": frame.events, "abandoned": abandoned, "aeps": frame.events / recording.world.sites,
                      **{element: now[element] for element in elements}})
     return arrays.columns(rows, ["events", "abandoned", "aeps", *elements], ["u8", "u8", "f8", *["u4"] * len(elements)])
 
 
-def film(program: Program, source: Recording, count: int) -> Film:
+def film(program: Program, recording: Recording, count: int) -> Film:
     """The film of so many frames behind the first."""
     refuse_frames(f"film({count})", count)
     with TemporaryDirectory() as room:
-        filming = Filming.of(program, source, WantedFilm(count), Path(room), Progress())
-        return Film(filming.page(), source.title)
+        filming = Filming.of(program, recording, WantedFilm(count), Path(room), Progress())
+        return Film(filming.page(), recording.title)
