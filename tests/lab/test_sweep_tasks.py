@@ -140,6 +140,7 @@ class Tasks(FolderCase):
             ("sweep.json", '"repeat": 3', '"repeat": "3"', "sweep.json: not as the lab wrote it"),
             ("sweep.json", '"step": true', '"step": 1', "sweep.json: not as the lab wrote it"),
             ("sweep.json", '      "Regulator.regulator_birth"', '      "Regulator.birth"', "sweep.json: not as the lab wrote it"),
+            ("sweep.json", '"sets": {', '"sets": {\n    "p": 5,', "sweep.json: not as the lab wrote it"),
             ("start.world", "400", "401", "start.world: not as it was when the sweep was planned"),
             ("elements/00-regulator.ulam", "40", "41", "00-regulator.ulam: not as it was when the sweep was planned"),
         ]:

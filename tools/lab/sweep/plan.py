@@ -193,8 +193,10 @@ def plan_of(path: Path, text: str) -> Plan:
 
 def goes_together(plan: Plan) -> bool:
     """Whether the groups of a plan have each name that is set once, in their order, with as many values as the others of its group."""
-    groups = [names for names in plan.together if isinstance(names, list) and names]
-    return len(groups) == len(plan.together) and [name for names in groups for name in names] == list(plan.sets) \
+    groups, values = plan.together, plan.sets.values()
+    if not all(isinstance(it, list) and it for it in [*groups, *values]):
+        return False
+    return [name for names in groups for name in names] == list(plan.sets) \
         and all(len({len(plan.sets[name]) for name in names}) == 1 for names in groups)
 
 
