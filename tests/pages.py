@@ -3,7 +3,8 @@
 
 Of each page (*.md): a link leads to a file; a path in backquotes that begins with a folder of the
 repository is there. A block of text after a paragraph that ends with a path in backquotes and a colon is
-that file, or its first lines if the paragraph says so. A block of classes is a file that `check` accepts.
+that file, or its first lines if the paragraph says so. A block of classes is a file that `check` accepts, beside
+files of which the paragraph before says that it is used with them.
 A block of commands is run by a shell, in a folder that tools/work has made, one block of a page after another, and
 writes nothing to standard error but how far it has come and whether tiles kept pace; a block after a paragraph that
 ends with `writes` has what the last one wrote, and one after `begins with` the first lines of it. The map of crates
@@ -72,10 +73,11 @@ def call(program: str, commands: str, folder: pathlib.Path) -> subprocess.Comple
     return subprocess.run(words, cwd=folder, env=around, capture_output=True, text=True, timeout=600, check=False)
 
 
-def refusal(program: str, classes: str, folder: pathlib.Path) -> str:
-    """The line with which a text of classes is refused; empty if it isn't."""
+def refusal(program: str, classes: str, before: str, folder: pathlib.Path) -> str:
+    """The line with which a text of classes is refused, beside the files that it is used with; empty if it isn't."""
     (folder / "listing.ulam").write_text(classes)
-    checked = call(program, "./feast check listing.ulam", folder)
+    others = re.findall(r"[Uu]sed with `(examples/\S+)`", before)
+    checked = call(program, " ".join(["./feast check listing.ulam", *others]), folder)
     return checked.stdout if checked.returncode else ""
 
 
@@ -94,7 +96,7 @@ def wrong_blocks(program: str, page: str, folder: pathlib.Path) -> Iterator[str]
                 yield f"the commands behind '{before[-60:]}' fail: {done.stdout[-200:]}{errors[-200:]}"
             continue
         if CLASSES.match(block) and "{ .. }" not in block:
-            refused = refusal(program, block, folder)
+            refused = refusal(program, block, before, folder)
             if refused:
                 yield f"the classes behind '{before[-60:]}' are refused: {refused}"
         if file:
