@@ -9,10 +9,11 @@ A block of commands is run by a shell, in a folder that tools/work has made, one
 writes nothing to standard error but how far it has come and whether tiles kept pace; a block after a paragraph that
 ends with `writes` has what the last one wrote, and one after `begins with` the first lines of it. The map of crates
 has a row for each crate of crates.txt. tools/work makes no folder where one is, or inside the clone. A page has at
-most 200 lines, and the README names each page of docs.
+most 200 lines, and the README names each page of docs. The tables that examples/figures makes anew stand in their pages.
 """
 from __future__ import annotations
 
+import importlib.util
 import os
 import pathlib
 import re
@@ -158,15 +159,40 @@ def faults(program: str, path: pathlib.Path) -> list[str]:
         return [*too_long, *lost_paths(page, path.parent), *wrong_blocks(program, page, folder)]
 
 
+def figure_pages() -> dict[str, str]:
+    """The names that examples/figures takes, with the pages of their tables."""
+    spec = importlib.util.spec_from_file_location("figures_main", TOP / "examples/figures/__main__.py")
+    assert spec is not None and spec.loader is not None
+    module = importlib.util.module_from_spec(spec)
+    spec.loader.exec_module(module)
+    return dict(module.PAGES)
+
+
+def figure_faults(program: str, name: str, page: str) -> list[str]:
+    """The tables of a page that are made anew and don't stand there."""
+    text = (TOP / page).read_text()
+    done = call(program, f"python3 examples/figures {name}", TOP)
+    if done.returncode:
+        return [f"python3 examples/figures {name} fails: {done.stderr[-300:]}"]
+    return [f"{page} lacks the table\n{table}" for table in done.stdout.split("\n\n") if table.rstrip("\n") not in text]
+
+
+def figure_fault(program: str, name: str, page: str) -> Optional[str]:
+    """The tables of a page that are made anew and don't stand there, as one text."""
+    return said(figure_faults(program, name, page))
+
+
 def said(found: list[str]) -> Optional[str]:
     """Faults as one text; None if there are none."""
     return "\n".join(found) or None
 
 
 def checks(program: pathlib.Path) -> Iterator[Check]:
-    """A check for each page, and those of the map of crates, the walks and the list of pages."""
+    """A check for each page, for the tables of some, and those of the map of crates, the walks and the list of pages."""
     for page in (name for name in files() if name.endswith(".md")):
         yield Check(page, partial(page_fault, str(program), TOP / page))
+    for name, page in figure_pages().items():
+        yield Check(f"figures/{name}", partial(figure_fault, str(program), name, page))
     yield Check("the map of crates", lambda: said(map_faults()))
     yield Check("the walk to a new operator", lambda: said(walk_faults()))
     yield Check("the list of pages", lambda: said(list_faults()))
