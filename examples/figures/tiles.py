@@ -10,7 +10,6 @@ SIZES = ((8, 20_000, "all"), (16, 80_000, "3 of 4"), (64, 250_000, "15 of 64"))
 SEEDS = (5000, 15000, 25000)
 MORE = tuple(range(1000, 11000, 1000))
 CORNERS = ("north-west", "north-east", "south-west", "south-east")
-SIDE, BLOCK = 32, 4
 
 
 def made(side: int, attempts: int, seed: int = 5000) -> Report:
@@ -39,21 +38,11 @@ def corners() -> Iterator[list[object]]:
         yield [f"{tile} ({corner})", sum(own), min(own), f"{mean(own):.0f}", max(own)]
 
 
-def blocks() -> Iterator[list[object]]:
-    """The rows of the map: the mean number of events at a site of each block."""
-    counts = Counter((x // BLOCK, y // BLOCK) for _, x, y in made(16, 80_000).centres())
-    for row in range(SIDE // BLOCK):
-        name = f"{BLOCK * row}-{BLOCK * row + BLOCK - 1}"
-        yield [f"rows {name}" if row == 0 else name, *(f"{counts[column, row] / BLOCK ** 2:.0f}" for column in range(SIDE // BLOCK))]
-
-
 def tables() -> list[str]:
     """All tables of the page that runs of this program make the same each time."""
-    spans = [f"{BLOCK * column}-{BLOCK * column + BLOCK - 1}" for column in range(SIDE // BLOCK)]
     ends = [knowing(it) for it in each(lambda seed: made(8, 20_000, seed), MORE)]
     return [
         table(("`size`", "Sites that need an edge", "`attempts` for each tile", "Events, % of attempts"), [rate(*it) for it in SIZES]),
         table(("Tile", "Events", "Fewest at a site", "Mean", "Most"), corners()),
-        table(("", *spans), blocks()).replace("|  |", "| |", 1),
         table(("Stepped runs", "Fewest who know", "Mean", "Most"), [(len(ends), min(ends), f"{mean(ends):.1f}", max(ends))]),
     ]
