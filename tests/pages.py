@@ -67,11 +67,11 @@ def make_folder(folder: pathlib.Path) -> None:
     (folder / "docs" / "pictures").mkdir(parents=True)
 
 
-def call(program: str, commands: str, folder: pathlib.Path) -> subprocess.CompletedProcess[str]:
-    """What a shell does with commands."""
+def call(program: str, commands: str, folder: pathlib.Path, seconds: int = 600) -> subprocess.CompletedProcess[str]:
+    """What a shell does with commands, in so many seconds at most."""
     around = {**os.environ, "FEAST_PROGRAM": program}
     words = ["sh", "-e", "-c", commands]
-    return subprocess.run(words, cwd=folder, env=around, capture_output=True, text=True, timeout=600, check=False)
+    return subprocess.run(words, cwd=folder, env=around, capture_output=True, text=True, timeout=seconds, check=False)
 
 
 def refusal(program: str, classes: str, before: str, folder: pathlib.Path) -> str:
@@ -171,7 +171,7 @@ def figure_pages() -> dict[str, str]:
 def figure_faults(program: str, name: str, page: str) -> list[str]:
     """The tables of a page that are made anew and don't stand there."""
     text = (TOP / page).read_text()
-    done = call(program, f"python3 examples/figures {name}", TOP)
+    done = call(program, f"python3 examples/figures {name}", TOP, seconds=1800)
     if done.returncode:
         return [f"python3 examples/figures {name} fails: {done.stderr[-300:]}"]
     return [f"{page} lacks the table\n{table}" for table in done.stdout.split("\n\n") if table.rstrip("\n") not in text]
