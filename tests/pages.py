@@ -3,15 +3,17 @@
 
 Of each page (*.md): a link leads to a file; a path in backquotes that begins with a folder of the
 repository is there. A block of text after a paragraph that ends with a path in backquotes and a colon is
-that file, or its first lines if the paragraph says so. A block of classes is a file that `check` accepts.
+that file, or its first lines if the paragraph says so. A block of classes is a file that `check` accepts, beside
+files of which the paragraph before says that it is used with them.
 A block of commands is run by a shell, in a folder that tools/work has made, one block of a page after another, and
 writes nothing to standard error but how far it has come and whether tiles kept pace; a block after a paragraph that
 ends with `writes` has what the last one wrote, and one after `begins with` the first lines of it. The map of crates
 has a row for each crate of crates.txt. tools/work makes no folder where one is, or inside the clone. A page has at
-most 200 lines, and the README names each page of docs.
+most 200 lines, and the README names each page of docs. The tables that examples/figures makes anew stand in their pages.
 """
 from __future__ import annotations
 
+import importlib.util
 import os
 import pathlib
 import re
@@ -65,17 +67,18 @@ def make_folder(folder: pathlib.Path) -> None:
     (folder / "docs" / "pictures").mkdir(parents=True)
 
 
-def call(program: str, commands: str, folder: pathlib.Path) -> subprocess.CompletedProcess[str]:
-    """What a shell does with commands."""
+def call(program: str, commands: str, folder: pathlib.Path, seconds: int = 600) -> subprocess.CompletedProcess[str]:
+    """What a shell does with commands, in so many seconds at most."""
     around = {**os.environ, "FEAST_PROGRAM": program}
     words = ["sh", "-e", "-c", commands]
-    return subprocess.run(words, cwd=folder, env=around, capture_output=True, text=True, timeout=600, check=False)
+    return subprocess.run(words, cwd=folder, env=around, capture_output=True, text=True, timeout=seconds, check=False)
 
 
-def refusal(program: str, classes: str, folder: pathlib.Path) -> str:
-    """The line with which a text of classes is refused; empty if it isn't."""
+def refusal(program: str, classes: str, before: str, folder: pathlib.Path) -> str:
+    """The line with which a text of classes is refused, beside the files that it is used with; empty if it isn't."""
     (folder / "listing.ulam").write_text(classes)
-    checked = call(program, "./feast check listing.ulam", folder)
+    others = re.findall(r"[Uu]sed with `(examples/\S+)`", before)
+    checked = call(program, " ".join(["./feast check listing.ulam", *others]), folder)
     return checked.stdout if checked.returncode else ""
 
 
@@ -94,7 +97,7 @@ def wrong_blocks(program: str, page: str, folder: pathlib.Path) -> Iterator[str]
                 yield f"the commands behind '{before[-60:]}' fail: {done.stdout[-200:]}{errors[-200:]}"
             continue
         if CLASSES.match(block) and "{ .. }" not in block:
-            refused = refusal(program, block, folder)
+            refused = refusal(program, block, before, folder)
             if refused:
                 yield f"the classes behind '{before[-60:]}' are refused: {refused}"
         if file:
@@ -156,15 +159,40 @@ def faults(program: str, path: pathlib.Path) -> list[str]:
         return [*too_long, *lost_paths(page, path.parent), *wrong_blocks(program, page, folder)]
 
 
+def figure_pages() -> dict[str, str]:
+    """The names that examples/figures takes, with the pages of their tables."""
+    spec = importlib.util.spec_from_file_location("figures_main", TOP / "examples/figures/__main__.py")
+    assert spec is not None and spec.loader is not None
+    module = importlib.util.module_from_spec(spec)
+    spec.loader.exec_module(module)
+    return dict(module.PAGES)
+
+
+def figure_faults(program: str, name: str, page: str) -> list[str]:
+    """The tables of a page that are made anew and don't stand there."""
+    text = (TOP / page).read_text()
+    done = call(program, f"python3 examples/figures {name}", TOP, seconds=1800)
+    if done.returncode:
+        return [f"python3 examples/figures {name} fails: {done.stderr[-300:]}"]
+    return [f"{page} lacks the table\n{table}" for table in done.stdout.split("\n\n") if table.rstrip("\n") not in text]
+
+
+def figure_fault(program: str, name: str, page: str) -> Optional[str]:
+    """The tables of a page that are made anew and don't stand there, as one text."""
+    return said(figure_faults(program, name, page))
+
+
 def said(found: list[str]) -> Optional[str]:
     """Faults as one text; None if there are none."""
     return "\n".join(found) or None
 
 
 def checks(program: pathlib.Path) -> Iterator[Check]:
-    """A check for each page, and those of the map of crates, the walks and the list of pages."""
+    """A check for each page, for the tables of some, and those of the map of crates, the walks and the list of pages."""
     for page in (name for name in files() if name.endswith(".md")):
         yield Check(page, partial(page_fault, str(program), TOP / page))
+    for name, page in figure_pages().items():
+        yield Check(f"figures/{name}", partial(figure_fault, str(program), name, page))
     yield Check("the map of crates", lambda: said(map_faults()))
     yield Check("the walk to a new operator", lambda: said(walk_faults()))
     yield Check("the list of pages", lambda: said(list_faults()))

@@ -24,6 +24,7 @@ TOP = Path(__file__).resolve().parent.parent
 # tools, each of which is checked whole.
 TYPED: dict[str, list[str]] = {
     "tools/pictures": ["tools"],
+    "examples/figures": [],
     "tests/lab": ["tools", "tests"],
     "tests": ["tools", "tests/tables", "tests/hostile", "tests/drawn"],
     "tests/tables": ["tools", "tests"],
@@ -76,7 +77,7 @@ def checks(_: object) -> Iterator[Check]:
 def lint_faults() -> Optional[str]:
     """What flake8 finds."""
     scripts = [script for script in SCRIPTS if (TOP / script).is_file() and is_python(TOP / script)]
-    return said_by([program("flake8"), "tools", "tests", "bench", "editors", *scripts])
+    return said_by([program("flake8"), "tools", "tests", "bench", "editors", "examples", *scripts])
 
 
 def is_python(path: Path) -> bool:

@@ -183,11 +183,12 @@ class Lint(LabCase):
         """Nor are the classes that the pages show, but for the lost pacer."""
         count = 0
         for page in [*(TOP / "docs").glob("*.md"), *EXAMPLES.glob("*.md")]:
-            for block in re.findall(r"\n\n((?:    .*\n|\n)+)", page.read_text()):
+            for before, block in re.findall(r"([^\n]*)\n\n((?:    .*\n|\n)+)", page.read_text()):
                 text = re.sub(r"^    ", "", block, flags=re.MULTILINE)
                 if re.match(r"(element|quark) [^\n]*\{|/\*\* ", text) and "{ .. }" not in text:
                     count += 1
-                    found = here("check", self.file("a.ulam", text)).wrote
+                    beside = [TOP / file for file in re.findall(r"[Uu]sed with `(examples/\S+)`", before)]
+                    found = here("check", self.file("a.ulam", text), *beside).wrote
                     self.assertTrue(found == "accepted\n" or "steps++" in text or "unused" in found, found)
         self.assertGreater(count, 10)
 

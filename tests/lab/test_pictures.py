@@ -19,11 +19,20 @@ class Pictures(LabCase):
         made = self.room / "docs" / "pictures"
         made.mkdir(parents=True)
         lines = (PICTURES / "README.md").read_text().splitlines()
-        for command in (line.strip() for line in lines if line.startswith(("    ./", "    python3 "))):
+        for command in (line.strip() for line in lines if line.startswith(("    ./", "    python3 ", "    sed "))):
             done = subprocess.run(command, shell=True, cwd=self.room, env=around(), capture_output=True, text=True, check=False)
             self.assertEqual(done.returncode, 0, f"{command}: {done.stderr}")
         self.assertEqual({path.name: path.read_bytes() for path in made.iterdir()},
                          {path.name: path.read_bytes() for path in PICTURES.glob("*.svg")})
+
+    def test_edges(self) -> None:
+        """In the picture of edges, the sites that need none are those with eight columns and rows between them and a border."""
+        free = re.search(r'<path d="([^"]*)" fill="#fff"/>', (PICTURES / "border.svg").read_text())
+        assert free is not None
+        runs = [[int(number) // 15 for number in run] for run in re.findall(r"M(\d+) (\d+)h(\d+)", free[1])]
+        outer = [*range(8), *range(24, 32)]
+        self.assertEqual({(x + step, y) for x, y, length in runs for step in range(length)},
+                         {(x, y) for x in outer for y in outer})
 
     def test_window(self) -> None:
         """Each site of the window is drawn at the offset that docs/machine.md gives its number, and in no other place."""

@@ -1,0 +1,27 @@
+#!/usr/bin/env python3
+"""Prints the tables of a page, made anew: python3 examples/figures NAME.
+
+It makes the runs of each table with the seeds that the page names, which takes from a second to a minute. The names
+are those of PAGES, with the page that has the tables.
+"""
+import argparse
+import importlib
+import sys
+
+sys.dont_write_bytecode = True
+
+EXAMPLES = ("forkbomb", "horde", "life", "membrane", "regulator", "sorter", "swapline", "wator", "wire")
+PAGES = {**{name: f"examples/{name}.md" for name in EXAMPLES}, "tiles": "docs/tutorial-tiles.md"}
+
+
+def main() -> int:
+    """The command."""
+    parser = argparse.ArgumentParser(prog="examples/figures", description="Prints the tables of a page, made anew.")
+    parser.add_argument("page", choices=PAGES)
+    words = parser.parse_args()
+    print("\n".join(importlib.import_module(words.page).tables()), end="")
+    return 0
+
+
+if __name__ == "__main__":
+    sys.exit(main())
