@@ -1,36 +1,27 @@
-"""The package for Python: on the standard library alone, with NumPy and pandas where they are, and its page."""
+"""The package for Python: runs and chains, what a call may be given, exact numbers, and its page."""
 import gzip
 import json
 import os
 import re
 import shutil
 import subprocess
-import sys
 import unittest
-from functools import cache
 from html import unescape
 from pathlib import Path
 
-from calls import EXAMPLES, PROGRESS, TOP, LabCase, feast, program
+from calls import EXAMPLES, TOP, LabCase, feast, program
+from packaged import ELEMENTS, WORLD, PackageCase, with_extras, without_extras
 from pages import pieces
 
 PAGE = TOP / "docs" / "python.md"
-EXTRAS = "import numpy, pandas, matplotlib"
-WORLD = "feast 1\ntiles 2 1\nsize 8 8\nseed 3\nattempts 60\natom 1 1 Cell\natom 9 5 Wall\norder seed 500\n"
-ELEMENTS = """element Cell { EventWindow ew; Random random; constant Unsigned odds = 2; Unsigned(7) age; Int(3) list[2];
-  Void behave() { age += 1; list[1] = -2; if (random.oneIn(odds) && ew.isEmpty(4)) ew[4] = self; } }
-element Wall { Void behave() { } }
-"""
-# what both kinds of Python have to say of the run, each as JSON
+# what Python has to say of the run, as JSON
 SCRIPT = """
 import json, sys
 import feast_lab
 run = feast_lab.run(sys.argv[1], [sys.argv[2]], step=True, set=json.loads(sys.argv[3]))
-plain = lambda rows: [list(row.values()) if isinstance(row, dict) else row.tolist() for row in rows]
-none = lambda value: None if value != value else value
-grid = [[none(value) for value in row] for row in (run.at(40).grid("Cell.age"))]
+plain = lambda rows: [list(row) for row in rows.tolist()]
 told = dict(events=plain(run.events), abandoned=plain(run.abandoned),
-            atoms=[[none(it) for it in row] for row in plain(run.atoms)], grid=grid,
+            atoms=plain(run.atoms), grid=run.at(40).grid("Cell.age").tolist(),
             counts=plain(run.counts(every=30)), audit=run.audit(), drift=run.drift,
             film=run.film(3).html, shown=run.film(3)._repr_html_(), svg=run.at(40)._repr_svg_(), at=run.at(40).counts(),
             reprs=list(map(repr, [run, run.at(40), run.film(3)])))
@@ -38,36 +29,12 @@ print(json.dumps(told))
 """
 
 
-@cache
-def with_extras() -> str | None:
-    """A Python that has NumPy, pandas and Matplotlib."""
-    for path in (sys.executable, "/usr/bin/python3"):
-        if subprocess.run([path, "-c", EXTRAS], capture_output=True, check=False).returncode == 0:
-            return path
-    return None
-
-
-@cache
-def without_extras() -> list[str]:
-    """A Python that has none of them: its own site packages are left out."""
-    return [sys.executable, "-B", "-I", "-S", "-c", f"import sys; sys.path.insert(0, {str(TOP / 'tools')!r}); exec(sys.stdin.read())"]
-
-
-class Package(LabCase):
+class Package(PackageCase):
     """Runs, against what the verbs and the program say."""
 
-    def setUp(self) -> None:
-        super().setUp()
-        self.world = self.file("w.world", WORLD)
-        self.elements = self.file("e.ulam", ELEMENTS)
-
-    def told(self, python: list[str], values: str = "{}") -> dict[str, object]:
-        """What the script says in a Python."""
-        around = os.environ | {"PYTHONPATH": str(TOP / "tools"), "PYTHONDONTWRITEBYTECODE": "1"}
-        done = subprocess.run([*python, self.world, self.elements, values], input=SCRIPT, capture_output=True, text=True,
-                              env=around, check=False)
-        self.assertEqual((done.returncode, PROGRESS.sub("", done.stderr)), (0, ""))
-        found: dict[str, object] = json.loads(done.stdout)
+    def told(self, values: str = "{}") -> dict[str, object]:
+        """What the script says."""
+        found: dict[str, object] = json.loads(self.says(SCRIPT, str(self.world), str(self.elements), values)[0])
         return found
 
     def check(self, told: dict[str, object]) -> None:
@@ -113,20 +80,18 @@ class Package(LabCase):
             f"<Moment of w.world after 40 events: {there} atoms>", f"<Film of w.world, a page of {len(film):,} letters>"])
 
     def test_plain(self) -> None:
-        """On the standard library alone."""
-        self.check(self.told(without_extras()))
+        """Without NumPy the package says what it needs."""
+        done = subprocess.run(without_extras(), input="import feast_lab", capture_output=True, text=True, check=False)
+        self.assertIn("ImportError: feast_lab needs the package numpy, which is not installed", done.stderr)
 
-    def test_extras(self) -> None:
-        """With NumPy, and with another value of a constant."""
-        python = with_extras()
-        if python is None:
-            self.skipTest("no Python has NumPy, pandas and Matplotlib")
-        self.check(self.told([python, "-"]))
+    def test_run(self) -> None:
+        """A run, and one with another value of a constant."""
+        self.check(self.told())
         self.elements.write_text(ELEMENTS.replace("odds = 2", "odds = 5"))
-        other = self.told([python, "-"])
+        other = self.told()
         self.elements.write_text(ELEMENTS)
-        self.assertEqual(self.told([python, "-"], '{"Cell.odds": 5}')["events"], other["events"])
-        self.assertEqual(self.told([python, "-"], '{"Cell.odds": 5}')["atoms"], other["atoms"])
+        self.assertEqual(self.told('{"Cell.odds": 5}')["events"], other["events"])
+        self.assertEqual(self.told('{"Cell.odds": 5}')["atoms"], other["atoms"])
 
     def test_chain(self) -> None:
         """A chain's course, its legs and its audit; and a report that is read again."""
@@ -136,34 +101,31 @@ class Package(LabCase):
         packed.write_bytes(gzip.compress(feast("step", self.world, self.elements).encode()))
         script = ("import feast_lab\n"
                   f"chain = feast_lab.Chain({str(chain)!r})\n"
-                  "print(len(chain), chain.audit(), [row['leg'] for row in chain.course], len(chain.leg(2).events))\n"
+                  "print(len(chain), chain.audit(), chain.course['leg'].tolist(), len(chain.leg(2).events))\n"
                   f"print(len(feast_lab.read({str(self.world)!r}, {str(packed)!r}, [{str(self.elements)!r}]).events))\n"
                   "for wrong in (lambda: chain.leg(3), lambda: chain.counts(0), lambda: chain.film(0), lambda: chain.leg(1).at(-1),"
-                  " lambda: chain.leg(1).grid('Cell.size'), lambda: chain.leg(1).frame('x'), lambda: feast_lab.Chain('/nowhere'),"
+                  " lambda: chain.leg(1).grid('Cell.size'), lambda: chain.leg(1).to_pandas('x'), lambda: feast_lab.Chain('/nowhere'),"
                   f" lambda: feast_lab.run({str(self.world)!r}, [{str(self.elements)!r}], set={{'Cell.no': 1}}),"
                   f" lambda: feast_lab.read({str(self.world)!r}, {str(self.world)!r}, [{str(self.elements)!r}])):\n"
                   "    try: wrong()\n"
                   "    except feast_lab.LabError as error: assert str(error) and '\\n' not in str(error); print('refused')\n")
-        done = subprocess.run(without_extras(), input=script, capture_output=True, text=True, check=False)
-        self.assertEqual(done.stderr, "")
+        said = self.says(script)
         course = (chain / "course.csv").read_text().splitlines()
         events = len(re.findall(r"(?m)^\d+ \d+ \d+ \d+ \d+ [0-9a-f]{16}$", gzip.decompress(packed.read_bytes()).decode()))
-        self.assertEqual(done.stdout.splitlines(), [f"2 yes [0, 1, 2] {course[3].split(',')[2]}", str(events), *["refused"] * 9])
+        self.assertEqual(said, [f"2 yes [0, 1, 2] {course[3].split(',')[2]}", str(events), *["refused"] * 9])
 
     def test_failed(self) -> None:
         """The course of a chain that looks for failed events, and for the drift, has them in the places where its file has them."""
         chain = self.room / "failing"
         self.passes("chain", chain, "--legs", "2", "--failures", "--drift", self.world, self.elements)
-        script = f"import feast_lab\nfor row in feast_lab.Chain({str(chain)!r}).course: print(*row); print(row['failed'])\n"
-        done = subprocess.run(without_extras(), input=script, capture_output=True, text=True, check=False)
+        script = (f"import feast_lab\ncourse = feast_lab.Chain({str(chain)!r}).course\nprint(*course.dtype.names)\n"
+                  "print(*course['failed'])\n")
         head, *rows = (line.split(",") for line in (chain / "course.csv").read_text().splitlines())
-        self.assertEqual(done.stdout.splitlines(), [line for row in rows for line in (" ".join(head), row[4])])
+        self.assertEqual(self.says(script), [" ".join(head), " ".join(row[4] for row in rows)])
 
     def test_version(self) -> None:
         """The package has the version of the repository."""
-        script = "import feast_lab; print(feast_lab.__version__)"
-        done = subprocess.run(without_extras(), input=script, capture_output=True, text=True, check=False)
-        self.assertEqual(done.stdout, (TOP / "VERSION").read_text())
+        self.assertEqual(self.says("import feast_lab; print(feast_lab.__version__)"), [(TOP / "VERSION").read_text().strip()])
 
     def test_names(self) -> None:
         """Another package of the name of the lab's own modules is not taken for it."""
@@ -173,22 +135,8 @@ class Package(LabCase):
         self.assertIn("ImportError: feast_lab: another package lab is imported already", done.stderr)
 
 
-class Calls(LabCase):
+class Calls(PackageCase):
     """What a call may be given, and what it leaves."""
-
-    def setUp(self) -> None:
-        super().setUp()
-        self.world = self.file("w.world", WORLD)
-        self.elements = self.file("e.ulam", ELEMENTS)
-
-    def says(self, script: str, *words: str, python: list[str] | None = None, **more: str) -> list[str]:
-        """The lines that a script says, of a world and element files, in a Python."""
-        around = os.environ | {"PYTHONPATH": str(TOP / "tools"), "PYTHONDONTWRITEBYTECODE": "1"} | more
-        front = f"world, elements = {str(self.world)!r}, {str(self.elements)!r}\nimport sys\nsys.argv[1:] = {words!r}\n"
-        done = subprocess.run(python or without_extras(), input=front + script, capture_output=True, text=True,
-                              cwd=self.room, env={name: value for name, value in around.items() if value}, check=False)
-        self.assertEqual((done.returncode, PROGRESS.sub("", done.stderr)), (0, ""))
-        return done.stdout.splitlines()
 
     def test_files_gone(self) -> None:
         """A plane is shown when the run and its files are gone, or the element files are others by then."""
@@ -257,12 +205,11 @@ class Calls(LabCase):
                   "        try: call(world, elements, program=program)\n"
                   "        except feast_lab.LabError as error: print(str(error).partition(': ')[2])\n")
         self.file("report", feast("step", self.world, self.elements))
-        python = [sys.executable, "-B", "-I", "-S", "-c", f"import sys; sys.path.insert(0, {str(site)!r}); exec(sys.stdin.read())"]
         said = "there is no program to call; name the built one by program= or in the variable FEAST_PROGRAM"
-        self.assertEqual(self.says(script, python=python, FEAST_PROGRAM=""), [said] * 6)
+        self.assertEqual(self.says(script, site=site, FEAST_PROGRAM=""), [said] * 6)
 
 
-class Wide(LabCase):
+class Wide(PackageCase):
     """Whole numbers beyond 2^53, of which a float loses the last digits."""
 
     ELEMENTS = """element Cell { EventWindow ew; Unsigned(60) big; Unsigned(5) small; Void behave() { } }
@@ -274,11 +221,10 @@ element Third { EventWindow ew; Unsigned(64) high; Void behave() { } }
     SCRIPT = """
 import feast_lab
 run = feast_lab.run(sys.argv[1], sys.argv[2])
-none = lambda value: None if value != value else value
-for row in run.atoms:
-    print([str(none(row[name])) for name in ("big", "small", "deep", "high")])
+for row in run.atoms[["big", "small", "deep", "high"]].tolist():
+    print(list(map(str, row)))
 for name, x in (("Cell.big", 1), ("Other.deep", 2), ("Third.high", 3), ("Cell.small", 1), ("Cell", 1)):
-    print(name, run.grid(name)[1][x], none(run.grid(name)[0][0]))
+    print(name, run.grid(name).tolist()[1][x], run.grid(name).tolist()[0][0], run.grid(name).dtype)
 """
 
     def setUp(self) -> None:
@@ -289,45 +235,25 @@ for name, x in (("Cell.big", 1), ("Other.deep", 2), ("Third.high", 3), ("Cell.sm
             zip(("Cell", "Other", "Third"), states, strict=True), 1))
         self.world = self.file("wide.world", f"feast 1\ntiles 1 1\nsize 8 8\nseed 3\nattempts 2\n{atoms}")
 
-    def says(self, python: list[str], script: str) -> list[str]:
-        """The lines that a script says in a Python."""
-        around = os.environ | {"PYTHONPATH": str(TOP / "tools"), "PYTHONDONTWRITEBYTECODE": "1"}
-        front = f"import sys\nsys.argv[1:] = {[str(self.world), str(self.elements), str(self.room / 'chain')]!r}\n"
-        done = subprocess.run(python, input=front + script, capture_output=True, text=True, env=around, check=False)
-        self.assertEqual((done.returncode, done.stderr), (0, ""))
-        return done.stdout.splitlines()
-
-    def wanted(self, small: str, one: str) -> list[str]:
-        """What the script is to say, with the words for the numbers that are floats."""
+    def test_arrays(self) -> None:
+        """In arrays all members are whole numbers, and masked where an element has none; in frames there is a type for them."""
         big, deep, high = map(str, (self.BIG, self.DEEP, self.HIGH))
-        rows = [[big, small, "None", "None"], ["None", "None", deep, "None"], ["None", "None", "None", high]]
-        return [*map(str, rows), f"Cell.big {big} None", f"Other.deep {deep} None", f"Third.high {high} None",
-                f"Cell.small {small} None", f"Cell {one} None"]
-
-    def test_plain(self) -> None:
-        """In lists all numbers are whole."""
-        self.assertEqual(self.says(without_extras(), self.SCRIPT), self.wanted("3", "1"))
-
-    def test_extras(self) -> None:
-        """In arrays members that are wide are Python's numbers, and others floats as before; in frames there is a type for them."""
-        python = with_extras()
-        if python is None:
-            self.skipTest("no Python has NumPy, pandas and Matplotlib")
-        self.assertEqual(self.says([python, "-"], self.SCRIPT), self.wanted("3.0", "1.0"))
-        script = ("import feast_lab\nframe = feast_lab.run(sys.argv[1], sys.argv[2]).frame('atoms')\n"
-                  "print([str(frame.dtypes[name]) for name in ('big', 'small', 'deep', 'high')])\n"
+        rows = [[big, "3", "None", "None"], ["None", "None", deep, "None"], ["None", "None", "None", high]]
+        self.assertEqual(self.says(self.SCRIPT, str(self.world), str(self.elements)), [
+            *map(str, rows), f"Cell.big {big} None int64", f"Other.deep {deep} None int64", f"Third.high {high} None uint64",
+            "Cell.small 3 None int64", "Cell 1 None int64"])
+        script = ("import feast_lab\nframe = feast_lab.run(world, elements).to_pandas('atoms')\n"
+                  "print([str(frame.dtypes[name]) for name in ('x', 'big', 'small', 'deep', 'high')])\n"
                   "print(frame['big'][0], frame['deep'][1], frame['high'][2], int(frame['big'].isna().sum()))\n")
-        self.assertEqual(self.says([python, "-"], script), [
-            "['UInt64', 'float64', 'Int64', 'UInt64']", f"{self.BIG} {self.DEEP} {self.HIGH} 2"])
+        self.assertEqual(self.says(script), ["['uint16', 'Int64', 'Int64', 'Int64', 'UInt64']", f"{self.BIG} {self.DEEP} {self.HIGH} 2"])
 
     def test_course(self) -> None:
         """What is measured of wide members has all digits in a chain's course; a mean is a float."""
         measures = ["--sum", "Cell.big", "--min", "Other.deep", "--max", "Third.high", "--mean", "Cell.small", "--count", "Cell.small=3"]
         self.passes("chain", self.room / "chain", "--legs", "1", *measures, self.world, self.elements)
-        script = ("import feast_lab\nrow = feast_lab.Chain(sys.argv[3]).course[1]\n"
+        script = ("import feast_lab\nrow = feast_lab.Chain('chain').course[1]\n"
                   "print(row['sum(Cell.big)'], row['min(Other.deep)'], row['max(Third.high)'], row['mean(Cell.small)'])\n")
-        for python in filter(None, (without_extras(), [with_extras() or "", "-"] if with_extras() else None)):
-            self.assertEqual(self.says(python, script), [f"{self.BIG} {self.DEEP} {self.HIGH} 3.0"])
+        self.assertEqual(self.says(script), [f"{self.BIG} {self.DEEP} {self.HIGH} 3.0"])
 
 
 class Page(LabCase):

@@ -1,11 +1,11 @@
-"""Runs of feast in Python: their events, atoms and counts as arrays, planes at any moment, chains, and films.
+"""Runs of feast in Python: worlds as data, events, atoms and counts as arrays, planes at any moment, chains, and films.
 
     import feast_lab
-    run = feast_lab.run("examples/wator.world", ["examples/wator.ulam"], set={"Shark.starving": 5})
-    run.counts(every=20_000)
+    world = feast_lab.World("examples/wator.ulam", size=(48, 32)).fill("Fish", 0.3, seed=1).fill("Shark", 0.05, seed=2)
+    feast_lab.run(world, attempts=100_000, set={"Shark.starving": 5}).counts(every=20_000)
 
-Arrays are NumPy's and tables are pandas' where these are installed; without them both are plain lists. Bad input
-raises LabError, whose text is one line that names the file and what is wrong.
+Arrays are NumPy's, which the package needs; `to_pandas` gives frames where pandas is installed. Bad input raises
+LabError, whose text is one line that names the file and what is wrong.
 """
 from feast_lab import parts  # finds the lab's modules, so it comes first
 
@@ -14,6 +14,7 @@ from feast_lab.chains import Chain
 from feast_lab.films import Film
 from feast_lab.moments import Moment
 from feast_lab.runs import Run, read, run
+from feast_lab.worlds import World
 from feast_lab.version import VERSION as __version__
 
-__all__ = ["Chain", "Film", "LabError", "Moment", "Run", "__version__", "parts", "read", "run"]
+__all__ = ["Chain", "Film", "LabError", "Moment", "Run", "World", "__version__", "parts", "read", "run"]

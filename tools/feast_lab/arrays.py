@@ -1,93 +1,101 @@
-"""Lists of entries as NumPy's structured arrays and pandas' frames, where these packages are installed."""
+"""Lists of entries as NumPy's structured arrays, and as frames of pandas where that is installed."""
 import importlib
-import math
-from collections.abc import Mapping, Sequence
-from types import MappingProxyType
+from collections.abc import Collection, Mapping, Sequence
 from typing import Any
 
 from lab.base.errors import LabError
 
+try:
+    import numpy
+    from numpy.typing import NDArray
+except ImportError as error:
+    raise ImportError("feast_lab needs the package numpy, which is not installed (./lab needs no package)") from error
 
-def extra(name: str) -> Any:
-    """A package that need not be installed, or None."""
-    try:
-        return importlib.import_module(name)
-    except ImportError:
-        return None
-
-
-numpy, pandas = extra("numpy"), extra("pandas")
-
+Array = NDArray[Any]
+masked: Any = numpy.ma  # its stubs have no types
 Row = dict[str, Any]
-EXACT = 1 << 53  # a float has all whole numbers up to here
 HEX = 16  # the digits of a seed, which end each line of a journal
 EVENT = (("stamp", "u8"), ("tile", "u1"), ("attempt", "u8"), ("x", "u2"), ("y", "u2"), ("seed", "u8"))
 ABANDONED = (("tile", "u1"), ("attempt", "u8"), ("x", "u2"), ("y", "u2"), ("edge", "u2"), ("holder", "u1"),
              ("holder_attempt", "u8"))
+NULLABLE = {"i": "Int64", "u": "UInt64"}  # pandas' types of whole numbers that may be missing, by NumPy's kinds
 
 
-def events(journal: bytes) -> Any:
-    """The events of the lines of a journal: an array with the fields of EVENT, or a list of dicts."""
-    if numpy is None:
-        return [row(EVENT, [*map(int, line.split()[:5]), int(line[-HEX:], 16)]) for line in journal.decode().splitlines()]
+def extra(name: str, what: str) -> Any:
+    """A package that need not be installed. Raises LabError, which says what for, if it isn't."""
+    try:
+        return importlib.import_module(name)
+    except ImportError:
+        raise LabError(f"{what} needs the package {name.partition('.')[0]}, which is not installed") from None
+
+
+def events(journal: bytes) -> Array:
+    """The events of the lines of a journal, with the fields of EVENT."""
     letters = numpy.frombuffer(journal, "u1").copy()
     ends = numpy.flatnonzero(letters == ord("\n"))
-    seeds = (ends[:, None] + numpy.arange(-HEX, 0)).ravel()
     found = numpy.empty(len(ends), list(EVENT))
-    found["seed"] = numpy.frombuffer(bytes.fromhex(letters[seeds].tobytes().decode()), ">u8")
-    letters[seeds] = ord(" ")
+    digits = letters[ends[:, None] + numpy.arange(-HEX, 0)]
+    found["seed"] = numpy.frombuffer(bytes.fromhex(digits.tobytes().decode()), ">u8")
+    for back in range(1, HEX + 1):
+        letters[ends - back] = ord(" ")
     fill(found, [name for name, _ in EVENT[:-1]], letters.tobytes())
     return found
 
 
-def abandoned(lines: bytes) -> Any:
-    """The abandoned attempts of their lines in a report: an array with the fields of ABANDONED, or a list of dicts."""
-    if numpy is None:
-        return [row(ABANDONED, list(map(int, line.split()))) for line in lines.decode().splitlines()]
+def abandoned(lines: bytes) -> Array:
+    """The abandoned attempts of their lines in a report, with the fields of ABANDONED."""
     found = numpy.empty(lines.count(b"\n"), list(ABANDONED))
     fill(found, [name for name, _ in ABANDONED], lines)
     return found
 
 
-def fill(array: Any, names: Sequence[str], text: bytes) -> None:
+def fill(array: Array, names: Sequence[str], text: bytes) -> None:
     """Fills fields of an array with the numbers of a text, row by row."""
     numbers = numpy.fromstring(text.decode(), "u8", sep=" ").reshape(len(array), len(names))
     for column, name in enumerate(names):
         array[name] = numbers[:, column]
 
 
-def row(fields: Sequence[tuple[str, str]], values: Sequence[int]) -> Row:
-    """An entry as a dict."""
-    return {name: value for (name, _), value in zip(fields, values, strict=True)}
-
-
 def kind_of(least: int, greatest: int) -> str:
-    """NumPy's kind of a column that has numbers of a range, or none in a row: Python's own if a float can't have all of them."""
-    return "f8" if -EXACT <= least and greatest <= EXACT else "O"
+    """NumPy's kind of whole numbers of a range, all of which it has exactly; beyond 64 bits they are Python's own."""
+    if least >= -(1 << 63) and greatest < 1 << 63:
+        return "i8"
+    return "u8" if least >= 0 and greatest < 1 << 64 else "O"
 
 
-def columns(rows: Sequence[Row], names: Sequence[str], kinds: Sequence[str]) -> Any:
-    """Rows as a structured array whose fields have these names and NumPy's kinds; without NumPy the rows themselves."""
-    if numpy is None:
-        return list(rows)
-    own = dict(zip(names, kinds, strict=True))
-    return numpy.array([tuple(math.nan if it[name] is None else it[name] for name in names) for it in rows], list(own.items()))
+def columns(rows: Sequence[Row], kinds: Mapping[str, str]) -> Array:
+    """Rows as a masked structured array, whose fields have these names and NumPy's kinds. What is None in a row is masked."""
+    data = [tuple(0 if row[name] is None else row[name] for name in kinds) for row in rows]
+    lacks = [tuple(row[name] is None for name in kinds) for row in rows]
+    found: Array = masked.array(numpy.array(data, list(kinds.items())), mask=numpy.array(lacks, [(name, "?") for name in kinds]))
+    return found
 
 
-def frame(data: Any, wide: Mapping[str, str] = MappingProxyType({})) -> Any:
-    """An array or a list of dicts as a frame of pandas. `wide` are columns for which floats are too short, with pandas' types."""
-    if pandas is None:
-        raise LabError("a frame needs the package pandas, which is not installed")
-    own = {name: pandas.array([it[name] for it in data], dtype=kind) for name, kind in wide.items()}
-    found = pandas.DataFrame(data)
-    return found.assign(**own) if own and len(found) else found
+def table(rows: Sequence[Row], kinds: Mapping[str, str]) -> Array:
+    """Rows as a structured array, whose fields have these names and NumPy's kinds; no value is missing."""
+    return numpy.array([tuple(row[name] for name in kinds) for row in rows], list(kinds.items()))
 
 
-def grid(width: int, height: int, values: Mapping[int, int], kind: str) -> Any:
-    """Values of sites, numbered row by row, as an array by row and column: NaN where there is none, or None in a list."""
-    if numpy is None:
-        return [[values.get(y * width + x) for x in range(width)] for y in range(height)]
-    found = numpy.full(width * height, math.nan, kind)
-    for site, value in values.items():
-        found[site] = value
-    return found.reshape(height, width)
+def frame(data: Array, optional: Collection[str] = ()) -> Any:
+    """A structured array as a frame of pandas. Columns that may lack values, the optional ones, have pandas' types for that."""
+    pandas = extra("pandas", "a frame")
+    return pandas.DataFrame({name: series(pandas, data[name], name in optional) for name in data.dtype.names or ()})
+
+
+def series(pandas: Any, column: Array, is_optional: bool) -> Any:
+    """The values of a column for pandas."""
+    lacks = masked.getmaskarray(column)
+    if is_optional and column.dtype.kind in NULLABLE:
+        return pandas.arrays.IntegerArray(numpy.array(masked.getdata(column)), lacks)
+    if is_optional and column.dtype.kind == "f":
+        return masked.filled(column, numpy.nan)
+    return [None if lack else value for value, lack in zip(column, lacks)] if is_optional else numpy.array(masked.getdata(column))
+
+
+def grid(width: int, height: int, values: Mapping[int, int], kind: str) -> Array:
+    """Values of sites, numbered row by row, as a masked array by row and column; sites that have none are masked."""
+    found = masked.array(numpy.zeros(width * height, kind), mask=True)
+    sites = list(values)
+    found[sites] = list(values.values())
+    shaped: Array = found.reshape(height, width)
+    return shaped

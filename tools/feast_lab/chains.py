@@ -1,5 +1,4 @@
 """Chains, as `./lab chain` makes them."""
-from functools import cached_property
 from pathlib import Path
 from tempfile import TemporaryDirectory
 from typing import Any
@@ -7,14 +6,17 @@ from typing import Any
 from lab.base.errors import LabError
 from lab.base.progress import ProgressLine
 from lab.chain.audit import AuditedChain
-from lab.chain.folder import Folder
+from lab.chain.folder import Course, Folder
 from lab.film.recording import Recording, recording_of_chain
 from lab.formats.kept import read_report
+from lab.formats.layout import Layout
 from lab.measure.measures import Measure, measures_of
 
 from feast_lab import arrays, recordings
+from feast_lab.arrays import Array
 from feast_lab.films import Film
-from feast_lab.runs import Run, found
+from feast_lab.programs import found
+from feast_lab.runs import Run
 
 
 class Chain:
@@ -25,7 +27,7 @@ class Chain:
         self.begun = self.folder.begun()
         self.program = found(program)
 
-    @cached_property
+    @property
     def recording(self) -> Recording:
         """Its legs, as a film takes them."""
         return recording_of_chain(self.program, self.folder.path, [])
@@ -34,34 +36,21 @@ class Chain:
         return f"<Chain {self.folder.path}: {self.folder.done()} legs>"
 
     def __len__(self) -> int:
-        return len(self.recording.legs)
+        return self.folder.done()
 
-    @cached_property
-    def course(self) -> Any:
-        """The rows of `course.csv`: an array with leg, attempts, events, abandoned, aeps, the elements and what is measured.
+    @property
+    def course(self) -> Array:
+        """The rows of `course.csv`: a masked array with leg, attempts, events, abandoned, aeps, the elements and what is measured.
 
         If the chain looks for failed events, `failed` stands before aeps, and if it looks for the drift, `drift` behind it.
-        Without NumPy it is a list of dicts. A measure that a leg has no number for is NaN, or None in a dict.
+        A measure that a leg has no number for is masked.
         """
-        elements, sites = self.recording.layout.elements, self.recording.world.sites
-        course = self.folder.course(elements, sites)
-        rows: list[arrays.Row] = []
-        events = 0
-        for leg in course.legs:
-            events += leg.events
-            own: arrays.Row = {"leg": leg.number, "attempts": leg.attempts, "events": leg.events, "abandoned": leg.abandoned}
-            own |= {"failed": leg.failed} if course.has_failures else {}
-            own["aeps"] = events / sites
-            own |= {"drift": float(leg.drift)} if leg.drift is not None else {}
-            measured = [number_of(text) if text else None for text in leg.measured]
-            rows.append(own | dict(zip(elements, leg.counts, strict=True)) | dict(zip(course.measures, measured, strict=True)))
-        of_measures = [kind_of(measure, sites) for measure in measures_of(course.measures, self.recording.layout)]
-        kinds = [*["u8"] * (3 + course.has_failures), *["f8"] * (1 + course.has_drift), *["u4"] * len(elements), *of_measures]
-        return arrays.columns(rows, course.head, ["u4", *kinds])
+        recording = self.recording
+        return course_of(self.folder.course(recording.layout.elements, recording.world.sites), recording.layout)
 
-    def frame(self) -> Any:
+    def to_pandas(self) -> Any:
         """The course as a frame of pandas."""
-        return arrays.frame(self.course)
+        return arrays.frame(self.course, self.recording.measures)
 
     def leg(self, number: int) -> Run:
         """The run of a leg, counted from 1, if the chain keeps reports."""
@@ -73,7 +62,7 @@ class Chain:
         world = self.folder.world(number).resolve()
         return Run(self.program, world, [file.resolve() for file in self.folder.files], report, TemporaryDirectory())
 
-    def counts(self, every: int) -> Any:
+    def counts(self, every: int) -> Array:
         """How many atoms each element had after every so many events of all legs; see `Run.counts`."""
         return recordings.counts(self.program, self.recording, every)
 
@@ -90,14 +79,31 @@ class Chain:
         return recordings.film(self.program, self.recording, frames)
 
 
-def number_of(text: str) -> int | float:
-    """What a cell of a measure has: a whole number, or a mean."""
+def course_of(course: Course, layout: Layout) -> Array:
+    """The legs of a course as an array."""
+    rows: list[arrays.Row] = []
+    events = 0
+    for leg in course.legs:
+        events += leg.events
+        own: arrays.Row = {"leg": leg.number, "attempts": leg.attempts, "events": leg.events, "abandoned": leg.abandoned}
+        own |= {"aeps": events / course.sites, "failed": leg.failed, "drift": float(leg.drift or 0)}
+        own |= dict(zip(course.elements, leg.counts, strict=True))
+        rows.append(own | {name: number_of(text) for name, text in zip(course.measures, leg.measured, strict=True)})
+    kinds = dict.fromkeys(course.head, "i8") | {"aeps": "f8"} | ({"drift": "f8"} if course.has_drift else {})
+    kinds |= {measure.name: kind_of(measure, course.sites) for measure in measures_of(course.measures, layout)}
+    return arrays.columns(rows, kinds)
+
+
+def number_of(text: str) -> int | float | None:
+    """What a cell of a measure has: a whole number, a mean, or nothing."""
+    if not text:
+        return None
     return float(text) if "." in text else int(text)
 
 
 def kind_of(measure: Measure, sites: int) -> str:
     """NumPy's kind of the column of a measure on a plane of so many sites."""
-    if measure.leaf is None or measure.kind == "mean":
+    if measure.kind == "mean":
         return "f8"
     most = sites if measure.kind == "sum" else 1
-    return arrays.kind_of(measure.leaf.least * most, measure.leaf.greatest * most)
+    return arrays.kind_of(measure.leaf.least * most, measure.leaf.greatest * most) if measure.leaf is not None else "i8"

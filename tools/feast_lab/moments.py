@@ -14,6 +14,7 @@ from lab.pictures.marks import marks_in
 from lab.pictures.tints import by_sources, tints
 
 from feast_lab import arrays
+from feast_lab.arrays import Array
 
 
 @dataclass(frozen=True, repr=False)
@@ -61,34 +62,31 @@ class Moment:
         return found
 
     @property
-    def atoms(self) -> Any:
-        """The atoms as an array with x, y, element, state and a number for each member, NaN where an element lacks it.
-
-        Members that go beyond 2^53 are Python's whole numbers, so that no digit is lost; all others are floats.
-        """
-        names, kinds = ["x", "y", "element", "state", *self.members], [arrays.kind_of(*ends) for ends in self.ranges.values()]
+    def atoms(self) -> Array:
+        """The atoms as a masked array with x, y, element, state and a whole number for each member, masked where an element lacks it."""
         wide = max(map(len, self.layout.elements), default=1)
-        return arrays.columns(self.rows, names, ["u2", "u2", f"U{wide}", "U18", *kinds])
+        own = {"x": "u2", "y": "u2", "element": f"U{wide}", "state": "U18"}
+        return arrays.columns(self.rows, own | {name: arrays.kind_of(*ends) for name, ends in self.ranges.items()})
 
-    def frame(self) -> Any:
-        """The atoms as a frame of pandas, in which members that go beyond 2^53 are Int64 or UInt64, or objects if neither fits."""
-        wide = {name: pandas_kind(*ends) for name, ends in self.ranges.items() if arrays.kind_of(*ends) == "O"}
-        return arrays.frame(self.rows, wide)
+    def to_pandas(self) -> Any:
+        """The atoms as a frame of pandas; members are Int64 or UInt64, or objects if neither fits."""
+        return arrays.frame(self.atoms, self.members)
 
     def counts(self) -> dict[str, int]:
         """How many atoms each element has."""
         found = Counter(line.split(" ")[2] for line in self.lines)
         return {element: found[element] for element in self.layout.elements}
 
-    def grid(self, name: str) -> Any:
-        """The values of a member, `Element.member`, by row and column; of an element, `Element`, 1 where it is."""
+    def grid(self, name: str) -> Array:
+        """The values of a member, `Element.member`, by row and column, masked where there is no such atom; of an element,
+        `Element`, 1 where it is."""
         element, _, member = name.partition(".")
         leaves = {leaf.name: leaf for leaf in self.layout.numbers(element)}
         if member and member not in leaves:
             raise LabError(f"{element} has no member {member}; it has {', '.join(leaves) or 'none'}")
         values = {atom.y * self.world.columns + atom.x: leaves[member].value(atom.state) if member else 1
                   for atom in self.placed if atom.name == element}
-        kind = arrays.kind_of(leaves[member].least, leaves[member].greatest) if member else "f8"
+        kind = arrays.kind_of(leaves[member].least, leaves[member].greatest) if member else "i8"
         return arrays.grid(self.world.columns, self.world.rows, values, kind)
 
     def svg(self) -> str:
@@ -100,10 +98,3 @@ class Moment:
 
     def _repr_svg_(self) -> str:
         return self.svg()
-
-
-def pandas_kind(least: int, greatest: int) -> str:
-    """The type of pandas that has the whole numbers of a range, and a mark for none."""
-    if least < 0:
-        return "Int64" if greatest < 1 << 63 and least >= -(1 << 63) else "object"
-    return "UInt64" if greatest < 1 << 64 else "object"

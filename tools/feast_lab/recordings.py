@@ -3,7 +3,6 @@ from collections import Counter
 from collections.abc import Iterator
 from pathlib import Path
 from tempfile import TemporaryDirectory
-from typing import Any
 
 from lab.base.errors import LabError
 from lab.base.program import Program
@@ -14,6 +13,7 @@ from lab.film.recording import Recording
 from lab.film.replays import Plane
 
 from feast_lab import arrays
+from feast_lab.arrays import Array
 from feast_lab.films import Film
 
 
@@ -23,8 +23,8 @@ def played(program: Program, recording: Recording, moments: set[int]) -> Iterato
         yield from frames(Plane(program, recording.files, Path(room)), recording.legs, moments)
 
 
-def counts(program: Program, recording: Recording, every: int) -> Any:
-    """The atoms of each element at the start and after every so many events, and at the end, as an array or a list.
+def counts(program: Program, recording: Recording, every: int) -> Array:
+    """The atoms of each element at the start and after every so many events, and at the end, as an array.
 
     A row has `events`, `abandoned` and `aeps` so far, and a number for each element.
     """
@@ -41,7 +41,8 @@ def counts(program: Program, recording: Recording, every: int) -> Any:
         abandoned += frame.abandoned
         rows.append({"events": frame.events, "abandoned": abandoned, "aeps": frame.events / recording.world.sites,
                      **{element: now[element] for element in elements}})
-    return arrays.columns(rows, ["events", "abandoned", "aeps", *elements], ["u8", "u8", "f8", *["u4"] * len(elements)])
+    kinds = {"events": "i8", "abandoned": "i8", "aeps": "f8"}
+    return arrays.table(rows, kinds | dict.fromkeys(elements, "i8"))
 
 
 def film(program: Program, recording: Recording, count: int) -> Film:

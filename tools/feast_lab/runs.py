@@ -1,6 +1,6 @@
 """Runs: made here, or read from a report."""
-import os
 from collections.abc import Mapping, Sequence
+from dataclasses import replace
 from functools import cached_property
 from pathlib import Path
 from tempfile import TemporaryDirectory
@@ -8,7 +8,8 @@ from typing import Any
 
 from lab.base.errors import LabError
 from lab.base.files import read_byte_text, read_comments, write_new, write_whole
-from lab.base.program import INSTEAD, Program
+from lab.base.limits import MOST_ATTEMPTS
+from lab.base.program import Program
 from lab.base.seeds import MODULUS
 from lab.chain.rule import ChainRule
 from lab.film.frames import Reported
@@ -23,10 +24,11 @@ from lab.measure.drift import greatest, plans, tiles_of
 from lab.worlds.starting import drawn_world
 
 from feast_lab import arrays, recordings
+from feast_lab.arrays import Array
 from feast_lab.films import Film
 from feast_lab.moments import Moment
-
-Paths = str | Path | Sequence[str | Path]
+from feast_lab.programs import Paths, files_of, found
+from feast_lab.worlds import World as OwnWorld
 
 
 class Run:
@@ -69,18 +71,18 @@ class Run:
         return self.bytes[first:until]
 
     @cached_property
-    def events(self) -> Any:
-        """The events: an array with the fields stamp, tile, attempt, x, y and seed, or a list of dicts."""
+    def events(self) -> Array:
+        """The events: an array with the fields stamp, tile, attempt, x, y and seed."""
         return arrays.events(self.part(JOURNAL, self.bytes.rindex(ABANDONED) + 1))
 
     @cached_property
-    def abandoned(self) -> Any:
-        """The abandoned attempts: an array with tile, attempt, x, y, edge, holder and holder_attempt, or a list of dicts."""
+    def abandoned(self) -> Array:
+        """The abandoned attempts: an array with tile, attempt, x, y, edge, holder and holder_attempt."""
         return arrays.abandoned(self.part(ABANDONED))
 
     @property
-    def atoms(self) -> Any:
-        """The atoms at the end: an array with x, y, element, state and the members, or a list of dicts."""
+    def atoms(self) -> Array:
+        """The atoms at the end: a masked array with x, y, element, state and the members."""
         return self.at(self.outcome.events).atoms
 
     @cached_property
@@ -89,11 +91,11 @@ class Run:
         journal = self.part(JOURNAL, self.bytes.rindex(ABANDONED) + 1).decode().splitlines()
         return greatest(plans(self.world), tiles_of(journal))
 
-    def frame(self, name: str) -> Any:
+    def to_pandas(self, name: str = "events") -> Any:
         """`events`, `abandoned` or `atoms` as a frame of pandas."""
         if name not in ("events", "abandoned", "atoms"):
             raise LabError(f"a run has no {name}; it has events, abandoned and atoms")
-        return self.at(self.outcome.events).frame() if name == "atoms" else arrays.frame(getattr(self, name))
+        return self.at(self.outcome.events).to_pandas() if name == "atoms" else arrays.frame(getattr(self, name))
 
     def at(self, events: int) -> Moment:
         """The plane after so many events."""
@@ -107,11 +109,11 @@ class Run:
             lines = self.program.call(words).text.splitlines()[2:]
         return Moment(self.path.name, self.world, self.layout, self.texts, events, lines)
 
-    def grid(self, name: str) -> Any:
+    def grid(self, name: str) -> Array:
         """The values of a member `Element.member` at the end, by row and column."""
         return self.at(self.outcome.events).grid(name)
 
-    def counts(self, every: int) -> Any:
+    def counts(self, every: int) -> Array:
         """How many atoms each element had after every so many events; a row has events, abandoned, aeps and the elements."""
         return recordings.counts(self.program, self._recording(), every)
 
@@ -142,21 +144,22 @@ class Run:
         return Recording(self.path.name, self.world, self.layout, self.files, [leg])
 
 
-def run(world: str | Path, elements: Paths, *, step: bool = False, seed: int | None = None,
-        set: Mapping[str, object] | None = None, program: str | Path | None = None) -> Run:
+def run(world: str | Path | OwnWorld, elements: Paths | None = None, *, step: bool = False, seed: int | None = None,
+        attempts: int | None = None, set: Mapping[str, object] | None = None, program: str | Path | None = None) -> Run:
     """Makes a run.
 
-    `world` is a file, or the text of one, which has several lines; `elements` is a file or several. With `step` the run is
-    made on one thread, in the order that the world says. With `seed` it is the run that the first leg of
-    `./lab chain --seed` makes: the attempts are drawn from that seed, and the order of a stepped run from the seed plus
-    the number of tiles. `set` gives constants, `Element.constant`, other values. `program` is the built program; without
-    it the one that `./lab` would call.
+    `world` is a `World`, a file, or the text of one, which has several lines; `elements` is a file or several, and a
+    `World` knows its own. With `step` the run is made on one thread, in the order that the world says. With `seed` it is
+    the run that the first leg of `./lab chain --seed` makes: the attempts are drawn from that seed, and the order of a
+    stepped run from the seed plus the number of tiles. `attempts` are those of each tile, in place of the world's.
+    `set` gives constants, `Element.constant`, other values. `program` is the built program; without it the one that
+    `./lab` would call.
     """
-    called, files = found(program), files_of(elements)
+    called, files = found(program), elements_of(world, elements)
     room: TemporaryDirectory[str] = TemporaryDirectory()
     path = world_file(world, Path(room.name))
-    if seed is not None:
-        path = seeded(path, seed, step, Path(room.name))
+    if seed is not None or attempts is not None:
+        path = seeded(path, seed, attempts, step, Path(room.name))
     if set:
         files = with_constants(files, set, Path(room.name))
     report = called.call(["step" if step else "run", path, *files]).output
@@ -176,40 +179,40 @@ def read(world: str | Path, report: str | Path, elements: Paths, *, program: str
     return Run(called, Path(world).resolve(), files, data, TemporaryDirectory())
 
 
-def found(program: str | Path | None) -> Program:
-    """The program that is named, or the one that the lab finds. Refuses a name that is none of a program."""
-    called = Program.find() if program is None else Program(Path(program).resolve())
-    if not (called.path.is_file() and os.access(called.path, os.X_OK)):
-        raise LabError(f"{called.path}: there is no program to call; name the built one by program= or in the variable {INSTEAD}")
-    return called
+def elements_of(world: str | Path | OwnWorld, elements: Paths | None) -> list[Path]:
+    """The element files of a run: those that are named, or else those of a world that knows its own."""
+    if elements is not None:
+        return files_of(elements)
+    if isinstance(world, OwnWorld):
+        return world.files
+    raise LabError("elements: at least one file has to be named")
 
 
-def files_of(elements: Paths) -> list[Path]:
-    """The element files that are named, one or several."""
-    named = [elements] if isinstance(elements, (str, os.PathLike)) else list(elements)
-    if not named:
-        raise LabError("elements: at least one file has to be named")
-    return [Path(file).resolve() for file in named]
-
-
-def seeded(world: Path, seed: int, step: bool, room: Path) -> Path:
-    """A copy of a world, under the same name, that draws its attempts from another seed, as a leg of a chain has it."""
+def seeded(world: Path, seed: int | None, attempts: int | None, step: bool, room: Path) -> Path:
+    """A copy of a world, under the same name, that draws its attempts from another seed, as a leg of a chain has it, or makes
+    another number of them."""
     was = drawn_world(world)
-    if not 0 <= seed < MODULUS:
+    if seed is not None and not 0 <= seed < MODULUS:
         raise LabError(f"seed={seed}: a seed is from 0 to {MODULUS - 1}")
+    if attempts is not None:
+        most = MOST_ATTEMPTS // max(was.tiles - len(was.off), 1)
+        if not 0 <= attempts <= most:
+            raise LabError(f"attempts={attempts}: each tile may make from 0 to {most}; a chain makes more")
+        was = replace(was, attempts=int(attempts))
     path = room / "seeded" / world.name
     path.parent.mkdir()
-    write_new(path, ChainRule(was, int(seed), step, {}).world_of(1, [atom.text() for atom in was.atoms]))
+    write_new(path, was.text() if seed is None else ChainRule(was, int(seed), step, {}).world_of(1, [atom.text() for atom in was.atoms]))
     return path
 
 
-def world_file(world: str | Path, room: Path) -> Path:
+def world_file(world: str | Path | OwnWorld, room: Path) -> Path:
     """The file of a world, which may be given as its text."""
-    if isinstance(world, str) and "\n" in world:
+    text = world.text if isinstance(world, OwnWorld) else world
+    if isinstance(text, str) and "\n" in text:
         path = room / "world"
-        write_new(path, world)
+        write_new(path, text)
         return path
-    return Path(world).resolve()
+    return Path(text).resolve()
 
 
 def with_constants(files: Sequence[Path], values: Mapping[str, object], room: Path) -> list[Path]:
