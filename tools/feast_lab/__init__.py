@@ -10,11 +10,14 @@ LabError, whose text is one line that names the file and what is wrong.
 from feast_lab import parts  # finds the lab's modules, so it comes first
 
 from lab.base.errors import LabError
+from feast_lab import statistics
+from feast_lab.arrays import frame
 from feast_lab.chains import Chain
 from feast_lab.films import Film
 from feast_lab.moments import Moment
 from feast_lab.runs import Run, read, run
+from feast_lab.sweeps import Sweep, sweep
 from feast_lab.worlds import World
 from feast_lab.version import VERSION as __version__
 
-__all__ = ["Chain", "Film", "LabError", "Moment", "Run", "World", "__version__", "parts", "read", "run"]
+__all__ = ["Chain", "Film", "LabError", "Moment", "Run", "Sweep", "World", "__version__", "frame", "parts", "read", "run", "statistics", "sweep"]

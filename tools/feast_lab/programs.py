@@ -1,6 +1,7 @@
 """The program that is called, and the files that it is given."""
 import os
-from collections.abc import Sequence
+from collections.abc import Iterator, Sequence
+from contextlib import contextmanager
 from pathlib import Path
 
 from lab.base.errors import LabError
@@ -23,3 +24,13 @@ def files_of(elements: Paths) -> list[Path]:
     if not named:
         raise LabError("elements: at least one file has to be named")
     return [Path(file).resolve() for file in named]
+
+
+@contextmanager
+def plain_names() -> Iterator[None]:
+    """Has what the lab refuses name the parameters of a call in place of the options of a command."""
+    try:
+        yield
+    except LabError as error:
+        text = str(error)
+        raise (LabError(text.removeprefix("--")) if text.startswith("--") else error) from None

@@ -17,7 +17,7 @@ from lab.worlds.stamps import marks_of
 
 from feast_lab.arrays import Array
 from feast_lab.moments import Moment
-from feast_lab.programs import Paths, files_of, found
+from feast_lab.programs import Paths, files_of, found, plain_names
 
 Numbers = Any  # a whole number, or an array or a list of them
 
@@ -34,10 +34,8 @@ class World:
         `attempts` attempts. `order` is the seed of the order of a stepped run, and `off` are tiles that make none."""
         self.files = files_of(elements)
         self.layout = Layout.of(found(program), self.files)
-        try:
+        with plain_names():
             self._frame = WantedFrame(size, tiles, seed, attempts, order).world()
-        except LabError as error:
-            raise LabError(str(error).removeprefix("--")) from None
         self._frame.off = sorted(set(map(int, off)))
         self._frame.version = 2 if off else 1
         for tile in self._frame.off:
