@@ -13,11 +13,14 @@ from lab.base.errors import LabError
 from feast_lab import statistics
 from feast_lab.arrays import frame
 from feast_lab.chains import Chain
+from feast_lab.clusters import clusters
 from feast_lab.films import Film
+from feast_lab.making import chain, fork, go_on, walk
 from feast_lab.moments import Moment
 from feast_lab.runs import Run, read, run
 from feast_lab.sweeps import Sweep, sweep
 from feast_lab.worlds import World
 from feast_lab.version import VERSION as __version__
 
-__all__ = ["Chain", "Film", "LabError", "Moment", "Run", "Sweep", "World", "__version__", "frame", "parts", "read", "run", "statistics", "sweep"]
+__all__ = ["Chain", "Film", "LabError", "Moment", "Run", "Sweep", "World", "__version__", "chain", "clusters", "fork", "frame",
+           "go_on", "parts", "read", "run", "statistics", "sweep", "walk"]

@@ -1,20 +1,27 @@
 """Chains, as `./lab chain` makes them."""
+from collections.abc import Callable, Iterator
 from pathlib import Path
 from tempfile import TemporaryDirectory
 from typing import Any
 
+import numpy
+
 from lab.base.errors import LabError
+from lab.base.files import read_comments, read_text
 from lab.base.progress import ProgressLine
 from lab.chain.audit import AuditedChain
 from lab.chain.folder import Course, Folder
 from lab.film.recording import Recording, recording_of_chain
 from lab.formats.kept import read_report
 from lab.formats.layout import Layout
+from lab.formats.outcome import atom_lines
+from lab.formats.world import World
 from lab.measure.measures import Measure, measures_of
 
 from feast_lab import arrays, recordings
 from feast_lab.arrays import Array
 from feast_lab.films import Film
+from feast_lab.moments import Moment
 from feast_lab.programs import found
 from feast_lab.runs import Run
 
@@ -22,10 +29,30 @@ from feast_lab.runs import Run
 class Chain:
     """The chain of a folder, as far as it is made."""
 
-    def __init__(self, folder: str | Path, *, program: str | Path | None = None) -> None:
+    def __init__(self, folder: str | Path, *, program: str | Path | None = None, room: TemporaryDirectory[str] | None = None) -> None:
+        """The chain that was begun in a folder. `room` is what the folder lies in if it goes away with this object."""
         self.folder = Folder(Path(folder))
         self.begun = self.folder.begun()
         self.program = found(program)
+        self.layout = Layout.of(self.program, self.folder.files)
+        self.texts = [(file, read_comments(file)) for file in self.folder.files]
+        self._room = room
+
+    def __enter__(self) -> "Chain":
+        return self
+
+    def __exit__(self, *_error: object) -> None:
+        self.close()
+
+    def close(self) -> None:
+        """Takes the chain's folder away, if it has none of its own."""
+        if self._room is not None:
+            self._room.cleanup()
+
+    @property
+    def is_passing(self) -> bool:
+        """Whether its folder goes away with it."""
+        return self._room is not None
 
     @property
     def recording(self) -> Recording:
@@ -51,6 +78,23 @@ class Chain:
     def to_pandas(self) -> Any:
         """The course as a frame of pandas."""
         return arrays.frame(self.course, self.recording.measures)
+
+    def plane(self, leg: int) -> Moment:
+        """The plane at the end of a leg, counted from 1; that of 0 is the start."""
+        course = self.folder.course(self.layout.elements, World.read(self.folder.start).sites)
+        if not 0 <= leg < len(course.legs):
+            raise LabError(f"plane({leg}): the chain has the legs 0 to {len(course.legs) - 1}")
+        events = course.upto(leg).events
+        lines = atom_lines(read_text(self.folder.atoms(leg)))
+        return Moment(f"leg {leg} of {self.folder.path.name}", World.read(self.folder.start), self.layout, self.texts, events, lines)
+
+    def measure(self, of: Callable[[Moment], Any]) -> Array:
+        """What a function says of the plane at the end of each leg, from the start on: a row of an array for each."""
+        return numpy.array([of(self.plane(leg)) for leg in range(len(self) + 1)])
+
+    def frames(self, every: int) -> Iterator[Moment]:
+        """The plane at the start, after every so many events of all legs, and at the end."""
+        return recordings.planes(self.program, self.recording, every, self.texts)
 
     def leg(self, number: int) -> Run:
         """The run of a leg, counted from 1, if the chain keeps reports."""

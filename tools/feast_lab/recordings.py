@@ -1,13 +1,14 @@
 """What runs and chains have in common: counts over the events, and films."""
 from collections import Counter
-from collections.abc import Iterator
+from collections.abc import Iterator, Sequence
 from pathlib import Path
 from tempfile import TemporaryDirectory
 
 from lab.base.errors import LabError
 from lab.base.program import Program
 from lab.base.progress import Progress
-from lab.film.frames import Frame, frames
+from lab.film.batches import put, side_by_side
+from lab.film.frames import Frame
 from lab.film.making import Filming, WantedFilm, refuse_frames
 from lab.film.recording import Recording
 from lab.film.replays import Plane
@@ -15,12 +16,34 @@ from lab.film.replays import Plane
 from feast_lab import arrays
 from feast_lab.arrays import Array
 from feast_lab.films import Film
+from feast_lab.moments import Moment
 
 
 def played(program: Program, recording: Recording, moments: set[int]) -> Iterator[Frame]:
     """The frames of some moments, counted in events."""
     with TemporaryDirectory() as room:
-        yield from frames(Plane(program, recording.files, Path(room)), recording.legs, moments)
+        yield from side_by_side(Plane(program, recording.files, Path(room)), recording.legs, moments)
+
+
+def moments(recording: Recording, every: int) -> set[int]:
+    """The start, every so many events, and the end. Refuses a chain whose events aren't known."""
+    if every < 1:
+        raise LabError(f"every={every}: the distance is at least one event")
+    recording.reported()
+    last = recording.ends[-1]
+    return {*range(0, last, every), last}
+
+
+def planes(program: Program, recording: Recording, every: int, texts: Sequence[tuple[Path, str]]) -> Iterator[Moment]:
+    """The plane at the start, after every so many events, and at the end."""
+    cells: dict[int, str] = {}
+    wide = recording.world.columns
+    wanted = moments(recording, every)
+    for frame in played(program, recording, wanted):
+        put(cells, frame)
+        if frame.events in wanted:
+            lines = [f"{site % wide} {site // wide} {cells[site]}" for site in sorted(cells)]
+            yield Moment(recording.title, recording.world, recording.layout, texts, frame.events, lines)
 
 
 def counts(program: Program, recording: Recording, every: int) -> Array:

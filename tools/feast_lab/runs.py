@@ -1,5 +1,5 @@
 """Runs: made here, or read from a report."""
-from collections.abc import Mapping, Sequence
+from collections.abc import Iterator, Mapping, Sequence
 from dataclasses import replace
 from functools import cached_property
 from pathlib import Path
@@ -116,6 +116,10 @@ class Run:
     def counts(self, every: int) -> Array:
         """How many atoms each element had after every so many events; a row has events, abandoned, aeps and the elements."""
         return recordings.counts(self.program, self._recording(), every)
+
+    def frames(self, every: int) -> Iterator[Moment]:
+        """The plane at the start, after every so many events, and at the end."""
+        return recordings.planes(self.program, self._recording(), every, self.texts)
 
     def audit(self) -> str:
         """What the program's audit says of the report: `yes`, or `no` and why."""
