@@ -10,7 +10,7 @@ LabError, whose text is one line that names the file and what is wrong.
 from feast_lab import parts  # finds the lab's modules, so it comes first
 
 from lab.base.errors import LabError
-from feast_lab import statistics
+from feast_lab import plots, statistics
 from feast_lab.arrays import frame
 from feast_lab.chains import Chain
 from feast_lab.clusters import clusters
@@ -23,4 +23,4 @@ from feast_lab.worlds import World
 from feast_lab.version import VERSION as __version__
 
 __all__ = ["Chain", "Film", "LabError", "Moment", "Run", "Sweep", "World", "__version__", "chain", "clusters", "fork", "frame",
-           "go_on", "parts", "read", "run", "statistics", "sweep", "walk"]
+           "go_on", "parts", "plots", "read", "run", "statistics", "sweep", "walk"]
