@@ -10,8 +10,8 @@ LabError, whose text is one line that names the file and what is wrong.
 from feast_lab import parts  # finds the lab's modules, so it comes first
 
 from lab.base.errors import LabError
+from feast_lab.arrays import frame  # says what to do without NumPy, so it comes before what needs that
 from feast_lab import plots, statistics
-from feast_lab.arrays import frame
 from feast_lab.chains import Chain
 from feast_lab.clusters import clusters
 from feast_lab.films import Film
