@@ -39,10 +39,12 @@ class Bodies:
         if self.gives.result == "Void":
             return ""
         value = self.number(self.gives.gives.family(), scope) if self.gives.gives else self.formulas.atom(scope).text
-        return f"return {value};"
+        return f"return {value};" if not self.chance.slipped() else ""
 
     def statement(self, scope: Scope, depth: int, in_loop: bool) -> str:
         """A statement; a declaration adds to the scope."""
+        if self.chance.slipped():
+            return self.misfit(scope)
         drawn = self.chance.below(100)
         if drawn < 36:
             return self.assignment(scope) + ";"
@@ -62,6 +64,19 @@ class Bodies:
         if drawn < 82:
             return f"if ({self.number('Bool', scope)}) {self.ending(scope) or 'return;'}"
         return self.deed(scope) + ";"
+
+    def misfit(self, scope: Scope) -> str:
+        """A statement that breaks a rule, in most places."""
+        value, atom = self.formulas.misfit(scope, 1), self.formulas.atom(scope).text
+        left = self.formulas.any_name(scope)
+        name = next(self.names)
+        of = self.chance.one_of(["Void", "Random", "Int(1)", "Bits(65)", "Unary(0)", "Bool(2)", "E1", "E9", "Q1", "Empty", "Int(31)"])
+        return self.chance.one_of([
+            "break;", "break;", "continue;", "continue;", "return;", f"return {value};", f"{of} {name};", f"{of} {name} = {value};", f"Int {name}; Int {name};",
+            f"self = {atom};", f"{left}++;", f"if ({value}) ;", f"while ({value}) ;", f"{left}[{value}] = {value};",
+            f"if ({left} as {of}) ;", f"if ({(scope.atoms or ['self'])[-1]} as {of}) ;", f"{left} {self.chance.one_of(['+=', '<<=', '&=', '/='])} {value};",
+            f"{self.of.window or 'self'}.swap({value}, {value});", f"{self.of.draws or 'self'}.create({value});",
+        ]) if self.chance.happens(0.6) else f"{left} = {value};"
 
     def block(self, scope: Scope, depth: int, in_loop: bool) -> str:
         """A block with a scope of its own."""
@@ -143,6 +158,11 @@ class Bodies:
         if not signs or self.chance.happens(0.6):
             return f"{place} = {self.number(of.family(), scope)}"
         sign = self.chance.one_of(signs)
+        changing = [it for it in self.formulas.callable if it.gives and it.gives.family() == of.family()]
+        if changing and sign not in "/% << >>" and self.chance.happens(0.5):
+            return f"{place} {sign}= {self.formulas.call(self.chance.one_of(changing), scope, 1)}"
+        if of.width > 32 and sign in "+-*" and self.chance.happens(0.2):
+            return f"{place} {sign}= {self.formulas.digits(self.chance.near_end(31))}"
         if sign in "/%" and not self.chance.happens(self.risk):
             return f"{place} {sign}= {self.chance.one_of([1, 2, 3, 7, 1000])}"
         if sign in ("<<", ">>"):

@@ -12,7 +12,7 @@ OTHERS = (
     "element quark ulam use typedef constant if else while for return break continue is as self true false instanceof "
     "virtual Int Unsigned Bits Bool Unary Atom Void EventWindow Random Empty Int(1) Int(65) Unsigned(0) Bits(64) Bool(1) "
     "Unary(64) swap isLive isEmpty create oneIn behave x X 0 1 2 3u 41 64 65 72 2147483648 4294967295 4294967296 0x 0b 1x "
-    "/* // @ # \" \\ \x80 \x00"
+    "/* // @ # \" \\ \x80 \x00 8589934591 0x1FFFFFFFF 0xFFFFFFFF 0x100000000 5000000000u 0b2 0xg 1_0 12a 00 0x0F /**/ /*/ **/"
 ).split(" ")
 NUMBERS = "0 1 2 3 7 8 9 16 63 64 65 255 256 1000000 1000001 4294967295 4294967296 18446744073709551615 18446744073709551616 " \
     "99999999999999999999 100000000000000000000 01 -1 +1 1.0 a x ffffffffffffffff 0000000000000000 000000000000000000 " \
@@ -80,7 +80,7 @@ def broken_lines(chance: Chance, text: str) -> str:
     elif drawn < 15:
         lines.insert(place, lines[place])
     elif drawn < 17:
-        other = chance.below(len(lines))
+        other = chance.one_of(places) if chance.happens(0.6) else chance.below(len(lines))
         lines[place], lines[other] = lines[other], lines[place]
     elif drawn < 18:
         del lines[place:]

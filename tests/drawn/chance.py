@@ -12,6 +12,12 @@ class Chance:
 
     def __init__(self, seed: int) -> None:
         self.random = random.Random(f"drawn case {seed}")
+        # the share of choices that break a rule of names or types; most cases have none
+        self.slips = 0.0
+
+    def slipped(self) -> bool:
+        """Whether a rule is to be broken here."""
+        return self.slips > 0 and self.happens(self.slips)
 
     def below(self, bound: int) -> int:
         """A number from 0 on, below a bound."""

@@ -141,7 +141,7 @@ class Classes:
     def parameter(self) -> Number:
         """A type of a parameter."""
         name = self.chance.one_of(BUILT_IN)
-        return Number(name, 1 if name == "Bool" else self.chance.one_of([2, 3, 8, 32, 33, 64]))
+        return Number(name, 1 if name == "Bool" else self.chance.one_of([2, 3, 8, 32, 33, 33, 40, 63, 64]))
 
     def written(self, shape: Shape, it: Function) -> str:
         """The text of a function with a drawn body."""

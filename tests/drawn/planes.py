@@ -54,7 +54,7 @@ def sizes(chance: Chance, tiles: int) -> World:
     if across * down == 1 and chance.happens(0.05):
         world.width, world.height = chance.one_of([(64, 8), (8, 64), (64, 64)])
     if across * down > 1 and chance.happens(0.3):
-        count = chance.between(1, max(across * down // 3, 1))
+        count = chance.between(1, max(across * down // 2, 1))
         world.off = sorted({chance.below(across * down) for _ in range(count)})
     return world
 

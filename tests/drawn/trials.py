@@ -10,6 +10,7 @@ from typing import Optional, Union
 from breaks import broken_element, broken_lines
 from chance import Chance
 from drawn_classes import element_files
+from edges import edge_text
 from planes import world_of
 from program import call
 from recheck.main import answer
@@ -31,6 +32,10 @@ class Case:
     def __init__(self, program: Path, seed: int) -> None:
         self.program = program
         self.chance = Chance(seed)
+        self.draw_elements()
+
+    def draw_elements(self) -> None:
+        """Element files, and the names of their elements."""
         texts, self.names = element_files(self.chance)
         self.files = [f"e{number}" for number in range(len(texts))]
         for name, text in zip(self.files, texts):
@@ -47,13 +52,17 @@ class Case:
     def trial(self) -> None:
         """Asks all of the case."""
         drawn = self.chance.below(100)
-        if drawn < 50:
+        if drawn < 42:
             self.whole()
-        elif drawn < 75:
+        elif drawn < 55:
             self.broken_elements()
-        elif drawn < 83:
+        elif drawn < 67:
+            self.slipped_elements()
+        elif drawn < 75:
+            self.edges()
+        elif drawn < 84:
             self.broken_world()
-        elif drawn < 95:
+        elif drawn < 96:
             self.broken_report()
         else:
             self.threads()
@@ -94,6 +103,22 @@ class Case:
             name = self.chance.one_of(self.files)
             Path(name).write_bytes(broken_element(self.chance, texts[name]).encode("latin-1"))
             self.asked("check", *self.files)
+
+    def slipped_elements(self) -> None:
+        """Element files that break a rule of names or types, most often."""
+        self.chance.slips = self.chance.one_of([0.01, 0.03, 0.1])
+        for _ in range(2):
+            self.draw_elements()
+            self.asked("check", *self.files)
+
+    def edges(self) -> None:
+        """Element files near the limits, and a few events of those that are no refusal."""
+        self.files, self.names = ["e0"], ["E1"]
+        for _ in range(2):
+            put("e0", edge_text(self.chance))
+            if self.asked("check", "e0")[0] == 0:
+                put("w", "feast 1\ntiles 1 1\nsize 8 8\nseed 5\nattempts 90\n" + "".join(f"atom {x} 3 E1\n" for x in range(8)))
+                self.asked("run", "w", "e0")
 
     def broken_world(self) -> None:
         """A world with something broken."""
