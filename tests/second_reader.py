@@ -63,6 +63,13 @@ FIELDS = {
     "journal": ("stamp", "tile", "attempt", "x", "y", "seed"),
     "abandoned": ("tile", "attempt", "x", "y", "edge", "holder", "holder-attempt"),
 }
+# What is planted in a field beside that: words that are near the ends of a field's form.
+ODD = {
+    ("atoms", 3): ("8" + "0" * 17, "f" * 18, "7" + "f" * 17, "0" * 17, "0" * 19, "0" * 17 + "A"),
+    ("journal", 0): ("4294967295", "4294967296", "9" * 5000),
+    ("journal", 2): ("18446744073709551615", "18446744073709551616", "9" * 5000),
+    ("abandoned", 1): ("18446744073709551615", "18446744073709551616", "9" * 5000),
+}
 
 
 def answered(words: Sequence[bytes], files: Mapping[str, File]) -> tuple[int, bytes]:
@@ -205,6 +212,14 @@ def named_fault(program: Path) -> Optional[str]:
         return next((fault for fault in faults if fault), None)
 
 
+def odd_fault(program: Path, part: str, field: int, words: Sequence[str]) -> Optional[str]:
+    """What differs in the judgements of a report with one of some words in a field: of the form of a line, or not."""
+    with tempfile.TemporaryDirectory() as folder, contextlib.chdir(folder):
+        planted = Planted(program)
+        line = planted.some_of(part).start
+        return next((fault for fault in (planted.fault(line, field, word, False) for word in words) if fault), None)
+
+
 def other_end(word: str, more: int) -> str:
     """A word with another last letter or digit."""
     return word[:-1] + (str((int(word[-1]) + more) % 10) if word[-1].isdigit() else "b" if word[-1] == "a" else "a")
@@ -225,6 +240,8 @@ def checks(program: Path) -> Iterator[Check]:
         for field, name in enumerate(names):
             yield Check(f"planted/{part}-{name}", partial(planted_fault, program, part, field))
     yield Check("planted/another-attempt", partial(named_fault, program))
+    for (part, field), words in ODD.items():
+        yield Check(f"planted/odd-{part}-{FIELDS[part][field]}", partial(odd_fault, program, part, field, words))
 
 
 if __name__ == "__main__":

@@ -17,7 +17,7 @@ from .order import replay, wrong_in
 from .report import Journal, atoms_text, counts_text, read_reports, report_text
 from .stepped import Machine, flat_run
 from .windows import Event, Grid
-from .world import World, start_of
+from .world import Text, start_of
 
 USAGE = (
     b"E00 usage: feast check|code|pack FILE.. | step|run WORLD FILE.. | steppack|runpack WORLD CODE | replay WORLD JOURNAL "
@@ -85,7 +85,7 @@ class Job:
 
     def __init__(self, world: bytes, files: Sequence[bytes]) -> None:
         data = load(world, WORLD_LIMIT)
-        self.world: World = at_lines_of(5, world, lambda: read_world(data))
+        self.world: Text = at_lines_of(5, world, lambda: read_world(data))
         classes = elements_in(files)
         self.names = [it.word.text for it in elements_of(classes)]
         numbers = {name: number for number, name in enumerate(self.names, 1)}

@@ -12,7 +12,7 @@ from .windows import Grid, kind_of, state_of
 
 Plan = Sequence[Sequence[Attempt]]
 NUMBER = rb"(0|[1-9][0-9]{0,19})"
-ATOM = re.compile(NUMBER + b" " + NUMBER + rb" [A-Z][A-Za-z0-9_]{0,254} [0-7][0-9a-f]{17}")
+ATOM = re.compile(NUMBER + b" " + NUMBER + rb" [A-Z][A-Za-z0-9_]{0,254} [0-9a-f]{18}")
 RECORD = re.compile(b" ".join([NUMBER] * 5) + rb" ([0-9a-f]{16})")
 ABANDONED = re.compile(b" ".join([NUMBER] * 7))
 # The same in the short reports of a chain, in which sites and seeds are those of the attempts.

@@ -3,6 +3,7 @@ from __future__ import annotations
 
 import re
 from dataclasses import dataclass
+from functools import cached_property
 from typing import Callable, Iterator, Optional, Sequence
 
 from .acts import Act, Leg
@@ -30,25 +31,6 @@ class Placed:
     line: int
 
 
-class World:
-    """What a text says: its plane, its atoms, and its legs, of which a world has one. `acts` are all acts of all legs;
-    `journal` is how reports tell of events, and `print` how many legs have one report where they don't."""
-
-    acts: list[Act] = []
-    journal = "whole"
-    print = last = 1
-
-    def __init__(self, plane: Plane, atoms: list[Placed], leg: Optional[Leg]) -> None:
-        self.plane = plane
-        self.atoms = atoms
-        self.the_leg = leg
-
-    def legs(self) -> Iterator[Leg]:
-        """The legs, one after another."""
-        assert self.the_leg is not None
-        yield self.the_leg
-
-
 def lines_of(data: bytes) -> list[bytes]:
     """The lines of a text, each without its LF and one CR before that."""
     lines = data.split(b"\n")
@@ -56,24 +38,25 @@ def lines_of(data: bytes) -> list[bytes]:
     return [line.removesuffix(b"\r") for line in lines] + (last if last[0] else [])
 
 
-def read_text(data: bytes, draft_of: Callable[[bytes], Optional["Draft"]]) -> World:
-    """What a text says, by the draft that its header asks for."""
-    draft: Optional[Draft] = None
+def read_text(data: bytes, headed: Callable[[bytes], Optional["Text"]]) -> "Text":
+    """What a text says, whose kind is that of its header."""
+    text: Optional[Text] = None
     lines = lines_of(data)
     for number, line in enumerate(lines, 1):
         if not line or line.startswith(b"#"):
             continue
-        if draft is not None:
-            draft.take(line, number)
+        if text is not None:
+            text.take(line, number)
             continue
-        draft = draft_of(line)
-        if draft is None:
+        text = headed(line)
+        if text is None:
             raise RefusedLine(70, number)
-    if draft is None:
+    if text is None:
         raise RefusedLine(70, len(lines) + 1)
-    if draft.before in draft.needed:
+    if text.before in text.needed:
         raise RefusedLine(76, len(lines) + 1)
-    return draft.world()
+    text.end()
+    return text
 
 
 Parts = Sequence[Optional[bytes]]
@@ -90,9 +73,10 @@ def in_range(is_so: bool, line: int) -> None:
         raise RefusedLine(72, line)
 
 
-class Draft:
-    """What the lines have said so far. `forms` are those of lines by their words, `after` says which lines may come behind
-    which, and behind those of `needed` some line has to."""
+class Text:
+    """What the lines of a world or a chain have said so far, and what they say in the end. `forms` are those of lines by
+    their words, `after` says which lines may come behind which, and behind those of `needed` some line has to. `acts` are
+    those of all legs; `journal` is how reports tell of events, and `print` how many legs share one where they only count."""
 
     forms = {
         "tiles": re.compile(rb"tiles " + NUMBER + b" " + NUMBER),
@@ -104,21 +88,22 @@ class Draft:
     }
     after: dict[str, list[str]] = {}
     needed: Sequence[str] = ()
+    journal = "whole"
+    print = last = 1
 
     def __init__(self) -> None:
         self.before = "header"
         self.across = self.down = self.seed = self.count = 0
         self.shape: Optional[Shape] = None
         self.off: list[int] = []
-        self.plane: Optional[Plane] = None
         self.atoms: list[Placed] = []
+        self.acts: list[Act] = []
 
-    def the_plane(self) -> Plane:
-        """The plane, once its last `off` line is read."""
-        if self.plane is None:
-            assert self.shape is not None
-            self.plane = Plane(self.shape, frozenset(self.off))
-        return self.plane
+    @cached_property
+    def plane(self) -> Plane:
+        """The plane, which is asked for once its last `off` line is read."""
+        assert self.shape is not None
+        return Plane(self.shape, frozenset(self.off))
 
     def take(self, line: bytes, number: int) -> None:
         """Takes a line behind the header."""
@@ -129,19 +114,21 @@ class Draft:
         getattr(self, f"take_{word}")(found.groups(), number)
         self.before = word
 
-    def world(self) -> World:
-        """What all lines say."""
+    def end(self) -> None:
+        """What is to be done once all lines are read."""
+
+    def legs(self) -> Iterator[Leg]:
+        """The legs, one after another."""
         raise NotImplementedError
 
     def drawn(self, seed: int, count: int) -> list[list[Attempt]]:
         """What each tile draws."""
-        plane = self.the_plane()
-        sites = plane.shape.width * plane.shape.height
-        return [drawn_attempts(seed, tile, count, sites) if on else [] for tile, on in enumerate(plane.on)]
+        sites = self.plane.shape.width * self.plane.shape.height
+        return [drawn_attempts(seed, tile, count, sites) if on else [] for tile, on in enumerate(self.plane.on)]
 
     def counted(self, count: int, line: int) -> int:
         """A number of attempts of each tile."""
-        if count * sum(self.the_plane().on) > MOST_ATTEMPTS:
+        if count * sum(self.plane.on) > MOST_ATTEMPTS:
             raise RefusedLine(75, line)
         return count
 
@@ -176,15 +163,15 @@ class Draft:
         """`atom X Y NAME` with a state or without"""
         x, y = numbers_in(parts[:2])
         state = int(parts[3] or b"0", 16)
-        in_range(self.the_plane().is_live(x, y) and state < 1 << STATE_BITS, line)
+        in_range(self.plane.is_live(x, y) and state < 1 << STATE_BITS, line)
         self.atoms.append(Placed(x, y, (parts[2] or b"").decode(), state, line))
 
 
-class WorldDraft(Draft):
-    """What the lines of a world have said so far."""
+class World(Text):
+    """A world, which is one leg."""
 
     forms = {
-        **Draft.forms,
+        **Text.forms,
         "try": re.compile(rb"try " + b" ".join([NUMBER] * 3) + rb" ([0-9a-f]{16})"),
         "order": re.compile(rb"order (?:seed " + NUMBER + rb"|([0-9 ]+))"),
     }
@@ -206,7 +193,7 @@ class WorldDraft(Draft):
     def take_try(self, parts: Parts, line: int) -> None:
         """`try T X Y SEED`"""
         tile, x, y = numbers_in(parts[:3])
-        plane = self.the_plane()
+        plane = self.plane
         in_range(plane.is_live(x, y) and plane.owner(x, y) == tile, line)
         if len(self.tries) == MOST_ATTEMPTS:
             raise RefusedLine(75, line)
@@ -224,20 +211,22 @@ class WorldDraft(Draft):
         if not TILES.fullmatch(tiles or b""):
             raise RefusedLine(71, line)
         named = [int(tile) for tile in (tiles or b"").split(b" ")]
-        on = self.the_plane().on
+        on = self.plane.on
         in_range(all(tile < len(on) and on[tile] for tile in named), line)
         self.order += named
 
-    def world(self) -> World:
-        """The world."""
-        plane = self.the_plane()
-        plan = self.drawn(self.seed, self.count)
+    def end(self) -> None:
+        """Draws the attempts, or sorts those of `try` lines by tiles."""
+        self.plan = self.drawn(self.seed, self.count)
         for tile, position, seed in self.tries:
-            plan[tile].append((position, seed))
-        return World(plane, self.atoms, Leg(0, plan, self.order_seed, self.order))
+            self.plan[tile].append((position, seed))
+
+    def legs(self) -> Iterator[Leg]:
+        """The one leg."""
+        yield Leg(0, self.plan, self.order_seed, self.order)
 
 
-def start_of(world: World, numbers: dict[str, int]) -> Grid:
+def start_of(world: Text, numbers: dict[str, int]) -> Grid:
     """The grid with which a run begins, by the numbers of the elements' names; the atoms of acts are noted too. Refused with
     73 and 74."""
     grid = world.plane.grid.copy()
