@@ -2,12 +2,15 @@
 from __future__ import annotations
 
 import contextlib
+import functools
 import os
 import re
+import tempfile
 from pathlib import Path
 from typing import Optional, Union
 
 from breaks import broken_element, broken_lines
+from chains import chain_text
 from chance import Chance
 from drawn_classes import element_files
 from edges import edge_text
@@ -24,6 +27,15 @@ class Differs(Exception):
 
 
 Answer = tuple[int, bytes]
+
+
+@functools.cache
+def takes_chains(program: Path) -> bool:
+    """Whether the program takes chains; until it does, none are drawn."""
+    with tempfile.TemporaryDirectory() as folder:
+        put(f"{folder}/c", "chain 1\ntiles 1 1\nsize 8 8\nseed 1\nattempts 0\nlegs 1\n")
+        put(f"{folder}/e", "element E1 { Void behave() { } }\n")
+        return call(program, ["step", f"{folder}/c", f"{folder}/e"]).returncode == 0
 
 
 class Case:
@@ -52,7 +64,9 @@ class Case:
     def trial(self) -> None:
         """Asks all of the case."""
         drawn = self.chance.below(100)
-        if drawn < 42:
+        if drawn < 8 and takes_chains(self.program):
+            self.chains()
+        elif drawn < 42:
             self.whole()
         elif drawn < 55:
             self.broken_elements()
@@ -86,14 +100,14 @@ class Case:
     def after(self, report: bytes) -> None:
         """What is made or said of a report."""
         drawn = self.chance.below(3)
+        counts = [int(said) for said in re.findall(rb"^journal ([0-9]{1,6})$", report, re.M)] or [1]
         if drawn == 0:
             self.asked("replay", "w", "r", *self.files)
         elif drawn == 1:
             self.asked("audit", "w", "r", *self.files)
         else:
-            said = re.search(rb"^journal ([0-9]{1,6})$", report, re.M)
-            count = int(said[1]) if said else 1
-            first = self.chance.one_of([0, 1, count, count + 1, self.chance.between(0, count + 1)])
+            count = sum(counts)
+            first = self.chance.one_of([0, 1, counts[0], counts[0] + 1, count, count + 1, self.chance.between(0, count + 1)])
             self.asked("rewind", "w", "r", str(first), *self.files)
 
     def broken_elements(self) -> None:
@@ -136,6 +150,18 @@ class Case:
             broken = broken_lines(self.chance, report.decode())
             put("r", broken)
             self.after(broken.encode()) if self.chance.happens(0.2) else self.asked("audit", "w", "r", *self.files)
+
+    def chains(self) -> None:
+        """A chain, or one with something broken, and what is made or said of its reports."""
+        tiles = self.chance.one_of([1, 1, 2, 4, 6])
+        text = chain_text(self.chance, self.names or ["E1"], tiles)
+        put("w", broken_lines(self.chance, text) if self.chance.happens(0.3) else text)
+        is_one = text.split("\n")[1] == "tiles 1 1"
+        status, report = self.asked("run" if is_one and self.chance.happens(0.5) else "step", "w", *self.files)
+        for _ in range(2 if status == 0 else 0):
+            shown = broken_lines(self.chance, report.decode()).encode() if self.chance.happens(0.5) else report
+            put("r", shown)
+            self.after(shown)
 
     def threads(self) -> None:
         """A run with a thread for each of 2 to 64 tiles, judged by both."""
