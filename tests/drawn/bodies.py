@@ -142,7 +142,7 @@ class Bodies:
             scope.acting.append((name, shape))
             return f"{shape.name} {name}{value}"
         of = self.formulas.width(self.formulas.any_family())
-        value = f" = {self.number(of.family(), scope)}" if self.chance.happens(0.85) else ""
+        value = f" = {self.number(of.family(), scope)}" if self.chance.happens(0.7) else ""
         scope.numbers.append((name, of))
         return f"{of.text()} {name}{value}"
 
@@ -201,6 +201,8 @@ class Bodies:
         """The number of a site to be written, which at a risk is that of the acting atom."""
         if self.chance.happens(self.risk):
             return self.formulas.site(scope)
+        if self.chance.happens(0.03):
+            return "0"
         if self.chance.happens(0.2) and self.of.draws:
             return f"{self.of.draws}.create({self.chance.one_of([1, 4, 12, 40])}) + 1"
         return str(self.chance.one_of([1, 2, 3, 4, 12, 24, 37, 40, self.chance.between(1, 40)]))

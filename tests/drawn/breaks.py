@@ -42,8 +42,10 @@ def broken_element(chance: Chance, text: str) -> str:
 
 def like(chance: Chance, word: str) -> str:
     """Another word in place of a field: one near it, or any."""
-    if word.isdigit() and chance.happens(0.6):
-        return str(max(int(word) + chance.one_of([-2, -1, 1, 1, 2]), 0))
+    if len(word) == 18 and chance.happens(0.4):
+        return chance.one_of(["7", "8", "f"]) + word[1:]
+    if word.isdigit() and chance.happens(0.7):
+        return str(max(int(word) + chance.one_of([-5, -3, -2, -1, -1, 1, 1, 2, 3, 5]), 0))
     if word and chance.happens(0.3):
         place = chance.below(len(word))
         return word[:place] + chance.one_of(list("0123456789abcfAZz_ ")) + word[place + 1 :]
@@ -65,13 +67,23 @@ def broken_fields(chance: Chance, line: str) -> str:
     return " ".join(fields)
 
 
+def kinds_of(lines: list[str]) -> list[str]:
+    """The kind of each line: its first word, or that of the part of a report in which it stands."""
+    kinds, part = [], ""
+    for line in lines:
+        word = line.split(" ")[0]
+        part = part if word.isdigit() else word
+        kinds.append(part + "'s" if word.isdigit() else word)
+    return kinds
+
+
 def broken_lines(chance: Chance, text: str) -> str:
     """A world or a report with another line, without one, with one twice, with two changed for one another, or cut short.
     """
     lines = text.split("\n")
-    kinds = sorted({line.split(" ")[0] for line in lines})
-    kind = chance.one_of(kinds)
-    places = [place for place, line in enumerate(lines) if line.split(" ")[0] == kind or chance.happens(0.05)]
+    kinds = kinds_of(lines)
+    kind = chance.one_of(sorted(set(kinds)))
+    places = [place for place, it in enumerate(kinds) if it == kind or chance.happens(0.02)]
     place, drawn = chance.one_of(places), chance.below(20)
     if drawn < 12:
         lines[place] = broken_fields(chance, lines[place])

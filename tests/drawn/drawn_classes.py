@@ -165,7 +165,13 @@ class Classes:
     def overrides(self, shape: Shape, base: Optional[Shape]) -> list[str]:
         """Other bodies for some virtual functions of a base."""
         found = [it for it in (base.functions if base else []) if it.virtual and self.chance.happens(0.6)]
-        return [self.written(shape, Function(it.name, it.result, it.gives, it.takes, self.chance.happens(0.3))) for it in found]
+        return [self.written(shape, Function(it.name, it.result, it.gives, self.taken(it), self.chance.happens(0.3))) for it in found]
+
+    def taken(self, it: Function) -> tuple[Number, ...]:
+        """The parameters of an override, which are those of what it overrides, unless a rule is to be broken."""
+        if not self.chance.slipped():
+            return it.takes
+        return self.chance.one_of([it.takes[:-1], (*it.takes, self.parameter()), tuple(self.parameter() for _ in it.takes)])
 
     def element_head(self) -> tuple[Shape, list[str], Optional[Shape]]:
         """An element with its members, before any body."""

@@ -117,6 +117,8 @@ class Formulas:
 
     def literal(self, family: str, may_be_plain: bool) -> Formula:
         """A number as it is written."""
+        if self.chance.happens(0.06):
+            return Formula(f"({self.large(family)})")
         value = self.chance.near_end(self.chance.one_of([2, 3, 4, 6, 8, 16, 31]))
         if family == "Bool":
             return Formula(f"(Bool) {'- ' if value % 2 else ''}{value}")
@@ -134,7 +136,9 @@ class Formulas:
         return {"d": "", "b": "0b"}.get(form, "0x") + format(value, form)
 
     def large(self, family: str) -> str:
-        """A number of more than 32 bits."""
+        """A number of more than 32 bits, or one at the end of 32."""
+        if family == "Int" and self.chance.happens(0.3):
+            return self.chance.one_of(["- 2147483647 - 1", "- (- 2147483647 - 1)"])
         most = {"Int": "2147483647", "Unsigned": "4294967295u"}.get(family)
         if most is None:
             return f"~(Bits(64)) {self.digits(self.chance.near_end(31))}" if family == "Bits" else "true"

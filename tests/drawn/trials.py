@@ -128,7 +128,7 @@ class Case:
     def edges(self) -> None:
         """Element files near the limits, and a few events of those that are no refusal."""
         self.files, self.names = ["e0"], ["E1"]
-        for _ in range(2):
+        for _ in range(5):
             put("e0", edge_text(self.chance))
             if self.asked("check", "e0")[0] == 0:
                 put("w", "feast 1\ntiles 1 1\nsize 8 8\nseed 5\nattempts 90\n" + "".join(f"atom {x} 3 E1\n" for x in range(8)))
@@ -144,9 +144,9 @@ class Case:
 
     def broken_report(self) -> None:
         """A report with something broken."""
-        self.world(self.chance.one_of([1, 2, 4, 9]))
+        self.world(self.chance.one_of([1, 2, 4, 4, 9, 9]))
         status, report = self.asked("step", "w", *self.files)
-        for _ in range(2 if status == 0 else 0):
+        for _ in range(4 if status == 0 else 0):
             broken = broken_lines(self.chance, report.decode())
             put("r", broken)
             self.after(broken.encode()) if self.chance.happens(0.2) else self.asked("audit", "w", "r", *self.files)
