@@ -71,12 +71,15 @@ class Bodies:
         left = self.formulas.any_name(scope)
         name = next(self.names)
         of = self.chance.one_of(["Void", "Random", "Int(1)", "Bits(65)", "Unary(0)", "Bool(2)", "E1", "E9", "Q1", "Empty", "Int(31)"])
+        if self.chance.happens(0.4):
+            return f"{left} = {value};"
         return self.chance.one_of([
-            "break;", "break;", "continue;", "continue;", "return;", f"return {value};", f"{of} {name};", f"{of} {name} = {value};", f"Int {name}; Int {name};",
-            f"self = {atom};", f"{left}++;", f"if ({value}) ;", f"while ({value}) ;", f"{left}[{value}] = {value};",
-            f"if ({left} as {of}) ;", f"if ({(scope.atoms or ['self'])[-1]} as {of}) ;", f"{left} {self.chance.one_of(['+=', '<<=', '&=', '/='])} {value};",
+            "break;", "break;", "continue;", "continue;", "return;", f"return {value};", f"self = {atom};", f"{left}++;",
+            f"{of} {name};", f"{of} {name} = {value};", f"Int {name}; Int {name};", f"if ({value}) ;", f"while ({value}) ;",
+            f"{left}[{value}] = {value};", f"{left} {self.chance.one_of(['+=', '<<=', '&=', '/='])} {value};",
+            f"if ({left} as {of}) ;", f"if ({(scope.atoms or ['self'])[-1]} as {of}) ;",
             f"{self.of.window or 'self'}.swap({value}, {value});", f"{self.of.draws or 'self'}.create({value});",
-        ]) if self.chance.happens(0.6) else f"{left} = {value};"
+        ])
 
     def block(self, scope: Scope, depth: int, in_loop: bool) -> str:
         """A block with a scope of its own."""

@@ -72,7 +72,7 @@ def wide(chance: Chance) -> str:
 def numbers(chance: Chance) -> str:
     """Numbers and constants at the ends of what they may be."""
     value = chance.one_of([2**31, 2**32, 2**33, 2**63, 2**64]) + chance.one_of([-1, -1, 0, 1])
-    text = chance.one_of([str, hex, bin, "0x{:X}".format])(value) + chance.one_of(["", "", "u"])
+    text = chance.one_of([f"{value}", f"{value:#x}", f"0x{value:X}", f"{value:#b}"]) + chance.one_of(["", "", "u"])
     if chance.happens(0.5):
         return element("", f"{chance.one_of(['Int', 'Unsigned', 'Int(64)', 'Bits(33)'])} l = {text}; n = (Unsigned) (l % 7);")
     name, width = chance.one_of(["Int", "Unsigned", "Bits", "Unary", "Bool"]), chance.one_of([2, 3, 8, 31, 32])

@@ -120,7 +120,7 @@ def read_report(lines: Lines, plane: Plane, plan: Plan, is_short: bool) -> Journ
     journal.record_line = lines.taken + 1
     last: dict[int, tuple[int, int]] = {}
     for _ in range(count):
-        record = Record(*lines.form(SHORT_RECORD), 0, 0, 0) if is_short else Record(*lines.form(RECORD))
+        record = Record(*([*lines.form(SHORT_RECORD), 0, 0, 0] if is_short else lines.form(RECORD)))
         check_record(record, journal.records, last, lines.taken)
         journal.records.append(placed(record, plane, plan, lines.taken, is_short))
         last[record.tile] = record.attempt, lines.taken

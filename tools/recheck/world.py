@@ -4,7 +4,7 @@ from __future__ import annotations
 import re
 from dataclasses import dataclass
 from functools import cached_property
-from typing import Callable, Iterator, Optional, Sequence
+from typing import Callable, Iterator, Optional, Sequence, Union
 
 from .acts import Act, Leg
 from .draws import Attempt, drawn_attempts
@@ -230,7 +230,8 @@ def start_of(world: Text, numbers: dict[str, int]) -> Grid:
     """The grid with which a run begins, by the numbers of the elements' names; the atoms of acts are noted too. Refused with
     73 and 74."""
     grid = world.plane.grid.copy()
-    for it in [*(act for act in world.acts if act.kind == "put"), *world.atoms]:
+    named: list[Union[Act, Placed]] = [*(act for act in world.acts if act.kind == "put"), *world.atoms]
+    for it in named:
         if it.name not in numbers:
             raise RefusedLine(73, it.line)
         made = atom(numbers[it.name], it.state)
