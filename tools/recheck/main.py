@@ -28,7 +28,8 @@ HELP = """usage: recheck WORLD REPORT FILE..
        recheck --call VERB WORD..
 
 Reads the element files FILE.. and the world WORLD, makes the events of the report REPORT by the meaning of the elements,
-and writes `yes`, or the first thing that is wrong with the report: the line that `feast audit` writes.
+and writes `yes`, or the first thing that is wrong with the report: the line that `feast audit` writes. WORLD may be a
+chain of legs (a file that begins with `chain 1`).
 
   --step  writes the stepped report of the world
   --call  does what `feast VERB WORD..` does, where VERB is check, step, run (on one tile), replay, audit or rewind
