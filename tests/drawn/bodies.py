@@ -116,6 +116,14 @@ class Bodies:
             parts.append(f"{self.of.window}[{self.place(outer)}] = {name};")
         return " ".join(["{", *parts, "}"])
 
+    def again(self, scope: Scope) -> str:
+        """A local without a value, which is counted and shown: what goes first in the body of a loop."""
+        target = self.target(scope)
+        if not target or target[1].family() not in ("Int", "Unsigned"):
+            return ""
+        name = next(self.names)
+        return f"{target[1].family()} {name}; {name} += {self.chance.between(1, 9)}; {target[0]} = {name};"
+
     def loop(self, scope: Scope, depth: int) -> str:
         """A loop, most often with an end of its own."""
         name, inner = next(self.names), scope.inner()
@@ -128,8 +136,9 @@ class Bodies:
         step = self.chance.one_of([f"{name}++", f"++{name}", f"{name} += 1", f"{name} = {name} + 1u"])
         if self.chance.happens(0.7):
             return f"for (Unsigned {name} = 0; {name} < {rounds}; {step}) {self.arm(inner, depth, True)}"
+        front = self.again(inner) if self.chance.happens(0.5) else ""
         body = self.block(inner, depth, True)
-        return f"{{ Unsigned {name}; while ({name} < {rounds}) {{ {step}; {body} }} }}"
+        return f"{{ Unsigned {name}; while ({name} < {rounds}) {{ {step}; {front} {body} }} }}"
 
     def declaration(self, scope: Scope) -> str:
         """A local of any type, with a value or without."""
@@ -157,13 +166,16 @@ class Bodies:
         place, of = target
         if of.family() in ("Int", "Unsigned") and self.chance.happens(0.12):
             return self.chance.one_of([f"{place}++", f"{place}--", f"++{place}", f"--{place}"])
+        changing = [it for it in self.formulas.callable if it.changes and it.changes.name == place]
+        if changing and self.chance.happens(0.5):
+            return f"{place} {self.chance.one_of(['+=', '+=', '-=', '*='])} {self.formulas.call(self.chance.one_of(changing), scope, 1)}"
         signs = SIGNS[of.family()].split()
         if not signs or self.chance.happens(0.6):
             return f"{place} = {self.number(of.family(), scope)}"
         sign = self.chance.one_of(signs)
-        changing = [it for it in self.formulas.callable if it.gives and it.gives.family() == of.family()]
-        if changing and sign not in "/% << >>" and self.chance.happens(0.5):
-            return f"{place} {sign}= {self.formulas.call(self.chance.one_of(changing), scope, 1)}"
+        giving = [it for it in self.formulas.callable if it.gives and it.gives.family() == of.family()]
+        if giving and sign not in "/% << >>" and self.chance.happens(0.4):
+            return f"{place} {sign}= {self.formulas.call(self.chance.one_of(giving), scope, 1)}"
         if of.width > 32 and sign in "+-*" and self.chance.happens(0.2):
             return f"{place} {sign}= {self.formulas.digits(self.chance.near_end(31))}"
         if sign in "/%" and not self.chance.happens(self.risk):

@@ -56,6 +56,7 @@ def broken_fields(chance: Chance, line: str) -> str:
     """A line with another field, without one, or with one twice."""
     fields = line.split(" ")
     place, drawn = chance.below(len(fields)), chance.below(10)
+    place = len(fields) - 1 if chance.happens(0.3) else place
     if drawn < 7:
         fields[place] = like(chance, fields[place])
     elif drawn < 8:
@@ -77,11 +78,20 @@ def kinds_of(lines: list[str]) -> list[str]:
     return kinds
 
 
+def not_off(lines: list[str]) -> int:
+    """How many tiles of a world are not off."""
+    across, down = (int(word) for word in next(line for line in lines if line.startswith("tiles ")).split(" ")[1:])
+    return across * down - sum(line.startswith("off ") for line in lines)
+
+
 def broken_lines(chance: Chance, text: str) -> str:
     """A world or a report with another line, without one, with one twice, with two changed for one another, or cut short.
     """
     lines = text.split("\n")
     kinds = kinds_of(lines)
+    if "attempts" in kinds and "tiles 1 1" not in lines and chance.happens(0.1):
+        # (with two tiles or more this is too many, but each tile alone might make them)
+        return re.sub(r"(?m)^attempts .*$", f"attempts {chance.one_of([500001, 1000000])}", text) if not_off(lines) > 1 else text
     kind = chance.one_of(sorted(set(kinds)))
     places = [place for place, it in enumerate(kinds) if it == kind or chance.happens(0.02)]
     place, drawn = chance.one_of(places), chance.below(20)

@@ -139,6 +139,10 @@ class Formulas:
         """A number of more than 32 bits, or one at the end of 32."""
         if family == "Int" and self.chance.happens(0.3):
             return self.chance.one_of(["- 2147483647 - 1", "- (- 2147483647 - 1)"])
+        if family == "Unsigned" and self.chance.happens(0.5):
+            bound = "(Unsigned(64)) 4294967295u * 4294967295u"
+            made = f"{self.of.draws}.create({bound})" if self.of.draws and self.chance.happens(0.7) else "4294967295u * 3u"
+            return f"{made} / {self.chance.one_of([3, 5, 7, 4294967295])}u"
         most = {"Int": "2147483647", "Unsigned": "4294967295u"}.get(family)
         if most is None:
             return f"~(Bits(64)) {self.digits(self.chance.near_end(31))}" if family == "Bits" else "true"
@@ -184,10 +188,10 @@ class Formulas:
     def bound(self, scope: Scope, depth: int) -> str:
         """The bound of a random number."""
         if self.chance.happens(self.risk):
-            return self.of_family("Unsigned", scope, depth, True).text
+            return self.chance.one_of(["0", self.of_family("Unsigned", scope, depth, True).text])
         drawn = self.chance.one_of([1, 2, 3, 4, 7, 41, 256, (1 << 31) - 1, 1 << 31, (1 << 32) - 1])
-        if self.chance.slipped():
-            return self.misfit(scope, depth)
+        if self.chance.slipped(3):
+            return self.leaf(self.chance.one_of(["Int", "Int", "Bits", "Bool"]), scope, False).text
         if self.chance.happens(0.3):
             return f"(Unsigned(64)) {self.chance.one_of([1, 2, 9, 4294967295])}u * {drawn}u"
         return f"{drawn}u" if drawn >> 31 or self.chance.happens(0.3) else str(drawn)
@@ -225,7 +229,9 @@ class Formulas:
             return Formula(f"~{self.of_family('Bits', scope, depth).at_least(OPERAND)}")
         if sign in ("<<", ">>"):
             left = self.of_family("Bits", scope, depth)
-            amount = self.chance.one_of([0, 1, 1, 2, 2, 3, 7, 8, 31, 32, 63, 64, 65])
+            amount = self.chance.one_of([0, 1, 1, 2, 2, 3, 7, 8, 31, 32, 62, 63, 63, 64, 65])
+            if amount >= 62 and self.chance.happens(0.5):
+                left = Formula(f"({self.large('Bits')})")
             right = Formula(str(amount)) if self.chance.happens(0.6) else self.of_family("Unsigned", scope, depth, True)
             return self.joined(sign, left, right)
         left, right = self.two("Bits", scope, depth)

@@ -53,7 +53,7 @@ def sizes(chance: Chance, tiles: int) -> World:
     world = World(across, down, chance.one_of(sides), chance.one_of(sides))
     if across * down == 1 and chance.happens(0.05):
         world.width, world.height = chance.one_of([(64, 8), (8, 64), (64, 64)])
-    if across * down > 1 and chance.happens(0.3):
+    if across * down > 1 and chance.happens(0.4):
         count = chance.between(1, max(across * down // 2, 1))
         world.off = sorted({chance.below(across * down) for _ in range(count)})
     return world

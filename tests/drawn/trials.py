@@ -119,9 +119,10 @@ class Case:
             self.asked("check", *self.files)
 
     def slipped_elements(self) -> None:
-        """Element files that break a rule of names or types, most often."""
-        self.chance.slips = self.chance.one_of([0.01, 0.03, 0.1])
-        for _ in range(2):
+        """Element files that break a rule of names or types in one place, if they have so many places."""
+        for _ in range(3):
+            self.chance.slip = self.chance.one_of([10, 30, 100, 300])
+            self.chance.slip = self.chance.between(1, self.chance.slip)
             self.draw_elements()
             self.asked("check", *self.files)
 
@@ -136,9 +137,9 @@ class Case:
 
     def broken_world(self) -> None:
         """A world with something broken."""
-        self.world(self.chance.one_of([1, 2, 4]))
+        self.world(self.chance.one_of([1, 2, 4, 6]))
         text = Path("w").read_text()
-        for _ in range(2):
+        for _ in range(4):
             put("w", broken_lines(self.chance, text))
             self.asked("step", "w", *self.files)
 
