@@ -93,6 +93,8 @@ def broken_lines(chance: Chance, text: str) -> str:
         # (with two tiles or more this is too many, but each tile alone might make them)
         return re.sub(r"(?m)^attempts .*$", f"attempts {chance.one_of([500001, 1000000])}", text) if not_off(lines) > 1 else text
     kind = chance.one_of(sorted(set(kinds)))
+    if "abandoned's" in kinds and chance.happens(0.3):  # (there are few, and much is judged of each)
+        kind = "abandoned's"
     places = [place for place, it in enumerate(kinds) if it == kind or chance.happens(0.02)]
     place, drawn = chance.one_of(places), chance.below(20)
     if drawn < 12:

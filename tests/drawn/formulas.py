@@ -224,6 +224,8 @@ class Formulas:
 
     def masked(self, _: str, scope: Scope, depth: int) -> Formula:
         """An expression of Bits."""
+        if self.chance.happens(0.12):
+            return self.widths_apart(scope)
         sign = self.chance.one_of("& | ^ << >> << ~".split())
         if sign == "~":
             return Formula(f"~{self.of_family('Bits', scope, depth).at_least(OPERAND)}")
@@ -236,6 +238,16 @@ class Formulas:
             return self.joined(sign, left, right)
         left, right = self.two("Bits", scope, depth)
         return self.joined(sign, left, right)
+
+    def widths_apart(self, scope: Scope) -> Formula:
+        """Bits of two widths, or bits that are moved beyond their width, with what shows the width of the result."""
+        narrow = Formula(f"(Bits({self.chance.one_of([1, 2, 3, 8, 9, 31, 32])})) {self.leaf('Bits', scope, False).at_least(OPERAND)}")
+        if self.chance.happens(0.5):
+            amounts = [self.chance.one_of([1, 2, 5, 8, 31, 40]) for _ in "12"]
+            return Formula(f"({narrow.text} << {amounts[0]}) >> {min(amounts)}", LEVELS[">>"])
+        both = [narrow.text, f"({self.large('Bits')})"]
+        sides = both if self.chance.happens(0.6) else both[::-1]
+        return Formula(f"~({sides[0]} {self.chance.one_of(['&', '|', '^'])} {sides[1]})")
 
     def truth(self, scope: Scope, depth: int) -> Formula:
         """A condition that is more than a name."""
