@@ -92,6 +92,11 @@ def broken_lines(chance: Chance, text: str) -> str:
     if "attempts" in kinds and "tiles 1 1" not in lines and chance.happens(0.1):
         # (with two tiles or more this is too many, but each tile alone might make them)
         return re.sub(r"(?m)^attempts .*$", f"attempts {chance.one_of([500001, 1000000])}", text) if not_off(lines) > 1 else text
+    off = [place for place, it in enumerate(kinds) if it == "off"]
+    if len(off) > 1 and chance.happens(0.3):  # (they are in order, which is seldom broken by a changed field)
+        place, other = off[0], chance.one_of(off[1:])
+        lines[place], lines[other] = lines[other], lines[place]
+        return "\n".join(lines)
     kind = chance.one_of(sorted(set(kinds)))
     if "abandoned's" in kinds and chance.happens(0.3):  # (there are few, and much is judged of each)
         kind = "abandoned's"

@@ -16,8 +16,11 @@ from drawn_classes import element_files
 from edges import edge_text
 from planes import world_of
 from program import call
+from recheck.limits import MOST_ATTEMPTS
 from recheck.main import answer
 
+# So many attempts of each tile are made of a world at most.
+MOST_MADE = 2000
 # How many cases `./test` tries, and how many `./test long`.
 QUICK, LONG = 1000, 100_000
 
@@ -141,7 +144,8 @@ class Case:
         text = Path("w").read_text()
         for _ in range(4):
             put("w", broken_lines(self.chance, text))
-            self.asked("step", "w", *self.files)
+            if not is_long(Path("w").read_text()):
+                self.asked("step", "w", *self.files)
 
     def broken_report(self) -> None:
         """A report with something broken."""
@@ -171,6 +175,12 @@ class Case:
         put("r", done.stdout)
         if done.returncode == 0 and self.asked("audit", "w", "r", *self.files) != (0, b"yes\n"):
             raise Differs("run w: the report is not one of its world")
+
+
+def is_long(world: str) -> bool:
+    """Whether a world may have so many attempts that the second reader takes long for it."""
+    said = re.search(r"^attempts ([0-9]+)$", world, re.M)
+    return said is not None and MOST_MADE < int(said[1]) <= (MOST_ATTEMPTS if "\ntiles 1 1\n" in world else MOST_ATTEMPTS // 2)
 
 
 def put(name: str, text: Union[str, bytes]) -> None:
