@@ -282,8 +282,8 @@ def checks(program: Path) -> Iterator[Check]:
         for field, name in enumerate(names):
             yield Check(f"planted/{part}-{name}", partial(planted_fault, program, part, field))
     yield Check("planted/another-attempt", partial(named_fault, program))
-    for (part, field), words in ODD.items():
-        yield Check(f"planted/odd-{part}-{FIELDS[part][field]}", partial(odd_fault, program, part, field, words))
+    for (part, field), texts in ODD.items():
+        yield Check(f"planted/odd-{part}-{FIELDS[part][field]}", partial(odd_fault, program, part, field, texts))
 
 
 if __name__ == "__main__":
