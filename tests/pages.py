@@ -9,7 +9,8 @@ A block of commands is run by a shell, in a folder that tools/work has made, one
 writes nothing to standard error but how far it has come and whether tiles kept pace; a block after a paragraph that
 ends with `writes` has what the last one wrote, and one after `begins with` the first lines of it. The map of crates
 has a row for each crate of crates.txt. tools/work makes no folder where one is, or inside the clone. A page has at
-most 200 lines, and the README names each page of docs. The tables that examples/figures makes anew stand in their pages.
+most 200 lines. docs/README.md, which the README names, leads to each page of docs, and each of these says below its
+title, in a line, whom it is for. The tables that examples/figures makes anew stand in their pages.
 """
 from __future__ import annotations
 
@@ -34,6 +35,8 @@ MOST_LINES = 200
 # block that `check` writes begins like a class, but without a brace.
 COMMANDS = ("./feast ", "./lab ", "grep ", "sed ", "for ", "python3 examples/")
 CLASSES = re.compile(r"(element|quark) [^\n]*\{|/\*\* ")
+# The top of a page of docs: its title, and in one line whom it is for.
+FOR_WHOM = re.compile(r"# .+\n\n\*For [^*\n]{10,100}\.\*\n")
 # The lines in which the lab says how far it has come, and that the threads of a run were apart, which they may be.
 PROGRESS = re.compile(r"^(.*: \d+ % done.*|lab: warning: .*: the tiles did not keep pace: .*)\n", re.MULTILINE)
 
@@ -118,11 +121,16 @@ def map_faults() -> list[str]:
     return [f"docs/crates.md: {crate} is not in both" for crate in sorted((crates - {"feast"}) ^ rows)]
 
 
-def list_faults() -> list[str]:
-    """The pages of docs that the README does not name."""
-    readme = (TOP / "README.md").read_text()
-    pages = [f"docs/{path.name}" for path in sorted((TOP / "docs").glob("*.md"))]
-    return [f"README.md: {page} is not named" for page in pages if f"`{page}`" not in readme]
+def list_faults(folder: pathlib.Path = TOP / "docs") -> list[str]:
+    """The pages of docs that their list doesn't lead to, and those that don't say whom they are for."""
+    index = (folder / "README.md").read_text()
+    pages = sorted(folder.glob("*.md"))
+    lost = [f"docs/README.md: {page.name} is not in it" for page in pages
+            if page.name != "README.md" and f"]({page.name})" not in index]
+    silent = [f"docs/{page.name}: its third line doesn't say whom it is for" for page in pages
+              if not FOR_WHOM.fullmatch("\n".join(page.read_text().split("\n")[:4]))]
+    named = "`docs/README.md`" in (folder.parent / "README.md").read_text()
+    return [*lost, *silent, *([] if named else ["README.md: docs/README.md is not named"])]
 
 
 def walk_faults() -> list[str]:

@@ -326,11 +326,11 @@ class Real(Repository):
         return done.stdout
 
     def test_first_film(self) -> None:
-        """The first report is the one that README.md shows, and leads to a film."""
+        """The first report is the one that docs/report.md shows, and leads to a film."""
         subprocess.run([self.made / "tools" / "work", self.room / "work"], check=True)
         walk = ["examples/walk.world", "examples/walker.ulam"]
         written = self.used("./feast", "run", *walk)
-        self.assertIn("\n\n" + "".join(f"    {line}\n" for line in written.splitlines()), (TOP / "README.md").read_text())
+        self.assertIn("\n\n" + "".join(f"    {line}\n" for line in written.splitlines()), (TOP / "docs/report.md").read_text())
         (self.room / "work" / "report").write_text(written)
         told = self.used("./lab", "--version").splitlines()
         self.assertEqual([line.split()[0] for line in told], ["lab", "program", "kit"])

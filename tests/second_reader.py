@@ -3,6 +3,7 @@
 
   tables/SUBJECT  the rows of tests/tables that are calls which it knows have its answers too
   meaning/NUMBER  it makes the events of small elements as the program does
+  legs/JOURNAL    the reports of a chain's legs are those of worlds that the program runs one after another
   lengths         it counts as many instructions as the table of codes has
   cases/NAME      so have the cases of tests/cases, those of the examples with fewer attempts; what the program writes in
                   a run of several tiles is judged by it: `yes`
@@ -63,6 +64,13 @@ FIELDS = {
     "journal": ("stamp", "tile", "attempt", "x", "y", "seed"),
     "abandoned": ("tile", "attempt", "x", "y", "edge", "holder", "holder-attempt"),
 }
+# What is planted in a field beside that: words that are near the ends of a field's form.
+ODD = {
+    ("atoms", 3): ("8" + "0" * 17, "f" * 18, "7" + "f" * 17, "0" * 17, "0" * 19, "0" * 17 + "A"),
+    ("journal", 0): ("4294967295", "4294967296", "9" * 5000),
+    ("journal", 2): ("18446744073709551615", "18446744073709551616", "9" * 5000),
+    ("abandoned", 1): ("18446744073709551615", "18446744073709551616", "9" * 5000),
+}
 
 
 def answered(words: Sequence[bytes], files: Mapping[str, File]) -> tuple[int, bytes]:
@@ -115,6 +123,45 @@ def meaning_fault(program: Path, members: str, body: str) -> Optional[str]:
     if found[0] == 0 and found == (done.returncode, done.stdout):
         return None
     return f"{shown(found)}, not {shown((done.returncode, done.stdout))}"
+
+
+def legs_fault(program: Path, journal: str) -> Optional[str]:
+    """What differs between the reports of a chain's legs and those of worlds that the program runs, each with the atoms that
+    the one before it left. The only act, which empties an area before the second leg, is done here by leaving lines out."""
+    head, seed = "tiles 2 1\nsize 8 8\n", 2**64 - 5
+    kept = [f"atom {x} {y} A {(x * 77 + y) << 58:018x}" for x in range(16) for y in range(8)]
+    reports = b""
+    with tempfile.TemporaryDirectory() as folder, contextlib.chdir(folder):
+        Path("a").write_text("element A { EventWindow ew; Random random; Unsigned(9) n; Void behave() { ew.swap(0, random.create(41)); n += 1; } }")
+        Path("c").write_text(f"chain 1\n{head}seed {seed}\nattempts 40\nlegs 3\njournal {journal}\nact 2 clear 6 0 3 8\n" + "\n".join(kept))
+        for leg in range(3):
+            first = (seed + leg * 4) % 2**64
+            kept = [line for line in kept if leg != 1 or not 6 <= int(line.split()[1]) < 9]
+            order = f"order seed {(first + 2) % 2**64}\n"
+            Path("w").write_text(f"feast 1\n{head}seed {first}\nattempts 40\n" + "".join(f"{line}\n" for line in kept) + order)
+            report = written(program, "step", "w", "a")
+            kept = [f"atom {line}" for line in report.split("\njournal")[0].split("\n")[2:]]
+            reports += (in_short(report) if journal == "short" else report).encode()
+        found = answer([b"step", b"c", b"a"])
+        Path("r").write_bytes(reports)
+        judged = answer([b"audit", b"c", b"r", b"a"])
+    if found != (0, reports):
+        return f"{shown(found)}, not {shown((0, reports))}"
+    return None if judged == (0, b"yes\n") else shown(judged)
+
+
+def in_short(report: str) -> str:
+    """The report of a world as the short one of a leg."""
+    lines, part = [], ""
+    for line in report.splitlines()[1:]:
+        fields = line.split(" ")
+        part = part if fields[0].isdigit() else fields[0]
+        if part == "journal" and fields[0].isdigit():
+            fields = fields[:3]
+        elif part == "abandoned" and fields[0].isdigit():
+            fields = fields[:2] + fields[4:]
+        lines.append(" ".join(fields))
+    return "".join(f"{line}\n" for line in ["feast 2", *lines])
 
 
 def lengths_fault() -> Optional[str]:
@@ -205,6 +252,14 @@ def named_fault(program: Path) -> Optional[str]:
         return next((fault for fault in faults if fault), None)
 
 
+def odd_fault(program: Path, part: str, field: int, words: Sequence[str]) -> Optional[str]:
+    """What differs in the judgements of a report with one of some words in a field: of the form of a line, or not."""
+    with tempfile.TemporaryDirectory() as folder, contextlib.chdir(folder):
+        planted = Planted(program)
+        line = planted.some_of(part).start
+        return next((fault for fault in (planted.fault(line, field, word, False) for word in words) if fault), None)
+
+
 def other_end(word: str, more: int) -> str:
     """A word with another last letter or digit."""
     return word[:-1] + (str((int(word[-1]) + more) % 10) if word[-1].isdigit() else "b" if word[-1] == "a" else "a")
@@ -215,6 +270,8 @@ def checks(program: Path) -> Iterator[Check]:
     for subject in SUBJECTS:
         yield Check(f"tables/{subject}", partial(table_fault, subject))
     yield Check("lengths", lengths_fault)
+    for journal in ("whole", "short"):
+        yield Check(f"legs/{journal}", partial(legs_fault, program, journal))
     for number, (members, body) in enumerate(MEANINGS, 1):
         yield Check(f"meaning/{number}", partial(meaning_fault, program, members, body))
     for case in sorted(CASES.iterdir()):
@@ -225,6 +282,8 @@ def checks(program: Path) -> Iterator[Check]:
         for field, name in enumerate(names):
             yield Check(f"planted/{part}-{name}", partial(planted_fault, program, part, field))
     yield Check("planted/another-attempt", partial(named_fault, program))
+    for (part, field), texts in ODD.items():
+        yield Check(f"planted/odd-{part}-{FIELDS[part][field]}", partial(odd_fault, program, part, field, texts))
 
 
 if __name__ == "__main__":

@@ -39,10 +39,12 @@ class Bodies:
         if self.gives.result == "Void":
             return ""
         value = self.number(self.gives.gives.family(), scope) if self.gives.gives else self.formulas.atom(scope).text
-        return f"return {value};"
+        return f"return {value};" if not self.chance.slipped() else ""
 
     def statement(self, scope: Scope, depth: int, in_loop: bool) -> str:
         """A statement; a declaration adds to the scope."""
+        if self.chance.slipped():
+            return self.misfit(scope)
         drawn = self.chance.below(100)
         if drawn < 36:
             return self.assignment(scope) + ";"
@@ -62,6 +64,22 @@ class Bodies:
         if drawn < 82:
             return f"if ({self.number('Bool', scope)}) {self.ending(scope) or 'return;'}"
         return self.deed(scope) + ";"
+
+    def misfit(self, scope: Scope) -> str:
+        """A statement that breaks a rule, in most places."""
+        value, atom = self.formulas.misfit(scope, 1), self.formulas.atom(scope).text
+        left = self.formulas.any_name(scope)
+        name = next(self.names)
+        of = self.chance.one_of(["Void", "Random", "Int(1)", "Bits(65)", "Unary(0)", "Bool(2)", "E1", "E9", "Q1", "Empty", "Int(31)"])
+        if self.chance.happens(0.4):
+            return f"{left} = {value};"
+        return self.chance.one_of([
+            "break;", "break;", "continue;", "continue;", "return;", f"return {value};", f"self = {atom};", f"{left}++;",
+            f"{of} {name};", f"{of} {name} = {value};", f"Int {name}; Int {name};", f"if ({value}) ;", f"while ({value}) ;",
+            f"{left}[{value}] = {value};", f"{left} {self.chance.one_of(['+=', '<<=', '&=', '/='])} {value};",
+            f"if ({left} as {of}) ;", f"if ({(scope.atoms or ['self'])[-1]} as {of}) ;",
+            f"{self.of.window or 'self'}.swap({value}, {value});", f"{self.of.draws or 'self'}.create({value});",
+        ])
 
     def block(self, scope: Scope, depth: int, in_loop: bool) -> str:
         """A block with a scope of its own."""
@@ -98,6 +116,14 @@ class Bodies:
             parts.append(f"{self.of.window}[{self.place(outer)}] = {name};")
         return " ".join(["{", *parts, "}"])
 
+    def again(self, scope: Scope) -> str:
+        """A local without a value, which is counted and shown: what goes first in the body of a loop."""
+        target = self.target(scope)
+        if not target or target[1].family() not in ("Int", "Unsigned"):
+            return ""
+        name = next(self.names)
+        return f"{target[1].family()} {name}; {name} += {self.chance.between(1, 9)}; {target[0]} = {name};"
+
     def loop(self, scope: Scope, depth: int) -> str:
         """A loop, most often with an end of its own."""
         name, inner = next(self.names), scope.inner()
@@ -110,8 +136,9 @@ class Bodies:
         step = self.chance.one_of([f"{name}++", f"++{name}", f"{name} += 1", f"{name} = {name} + 1u"])
         if self.chance.happens(0.7):
             return f"for (Unsigned {name} = 0; {name} < {rounds}; {step}) {self.arm(inner, depth, True)}"
+        front = self.again(inner) if self.chance.happens(0.5) else ""
         body = self.block(inner, depth, True)
-        return f"{{ Unsigned {name}; while ({name} < {rounds}) {{ {step}; {body} }} }}"
+        return f"{{ Unsigned {name}; while ({name} < {rounds}) {{ {step}; {front} {body} }} }}"
 
     def declaration(self, scope: Scope) -> str:
         """A local of any type, with a value or without."""
@@ -127,7 +154,7 @@ class Bodies:
             scope.acting.append((name, shape))
             return f"{shape.name} {name}{value}"
         of = self.formulas.width(self.formulas.any_family())
-        value = f" = {self.number(of.family(), scope)}" if self.chance.happens(0.85) else ""
+        value = f" = {self.number(of.family(), scope)}" if self.chance.happens(0.7) else ""
         scope.numbers.append((name, of))
         return f"{of.text()} {name}{value}"
 
@@ -139,10 +166,18 @@ class Bodies:
         place, of = target
         if of.family() in ("Int", "Unsigned") and self.chance.happens(0.12):
             return self.chance.one_of([f"{place}++", f"{place}--", f"++{place}", f"--{place}"])
+        changing = [it for it in self.formulas.callable if it.changes and it.changes.name == place]
+        if changing and self.chance.happens(0.5):
+            return f"{place} {self.chance.one_of(['+=', '+=', '-=', '*='])} {self.formulas.call(self.chance.one_of(changing), scope, 1)}"
         signs = SIGNS[of.family()].split()
         if not signs or self.chance.happens(0.6):
             return f"{place} = {self.number(of.family(), scope)}"
         sign = self.chance.one_of(signs)
+        giving = [it for it in self.formulas.callable if it.gives and it.gives.family() == of.family()]
+        if giving and sign not in "/% << >>" and self.chance.happens(0.4):
+            return f"{place} {sign}= {self.formulas.call(self.chance.one_of(giving), scope, 1)}"
+        if of.width > 32 and sign in "+-*" and self.chance.happens(0.2):
+            return f"{place} {sign}= {self.formulas.digits(self.chance.near_end(31))}"
         if sign in "/%" and not self.chance.happens(self.risk):
             return f"{place} {sign}= {self.chance.one_of([1, 2, 3, 7, 1000])}"
         if sign in ("<<", ">>"):
@@ -181,6 +216,8 @@ class Bodies:
         """The number of a site to be written, which at a risk is that of the acting atom."""
         if self.chance.happens(self.risk):
             return self.formulas.site(scope)
+        if self.chance.happens(0.03):
+            return "0"
         if self.chance.happens(0.2) and self.of.draws:
             return f"{self.of.draws}.create({self.chance.one_of([1, 4, 12, 40])}) + 1"
         return str(self.chance.one_of([1, 2, 3, 4, 12, 24, 37, 40, self.chance.between(1, 40)]))

@@ -12,6 +12,14 @@ class Chance:
 
     def __init__(self, seed: int) -> None:
         self.random = random.Random(f"drawn case {seed}")
+        # at which place a rule of names or types is to be broken; most cases have none
+        self.slip = 0
+
+    def slipped(self, places: int = 1) -> bool:
+        """Whether a rule is to be broken here, where what is here counts as so many places."""
+        was = self.slip
+        self.slip = max(was - places, 0)
+        return was > 0 and self.slip == 0
 
     def below(self, bound: int) -> int:
         """A number from 0 on, below a bound."""

@@ -87,16 +87,18 @@ class Classes:
             shape.parts.append((self.name("p"), part))
             return f"{part.name} {shape.parts[-1][0]};", part.bits
         name = self.chance.one_of(["Int", "Unsigned", "Bits", "Bool", "Unary", "Int", "Unsigned", "Bits"])
+        is_array = self.chance.happens(0.25)
         least = 2 if name == "Int" else 1
         if room < least:
             name, least = "Bool", 1
         most = min(room, 64)
         widths = [least, least + 1, 3, 4, 7, 8, 9, 31, 32, 33, 63, 64, room, self.chance.between(least, most)]
+        widths = widths[:6] if is_array else widths
         of = Number(name, 1 if name == "Bool" else max(least, min(self.chance.one_of(widths), most)))
         length = 0
-        if self.chance.happens(0.2):
+        if is_array:
             most = room // of.width
-            length = self.chance.one_of([1, min(2, most), min(3, most), most])
+            length = self.chance.one_of([1, min(2, most), min(3, most), min(5, most), most])
         shape.members.append(Member(self.name("m"), of, length))
         return self.declared(shape, shape.members[-1]), of.width * max(length, 1)
 
@@ -128,6 +130,11 @@ class Classes:
 
     def function(self, shape: Shape) -> str:
         """A function of a class, which later ones may call."""
+        drawn = self.chance.below(10)
+        if drawn < 3:
+            text = self.counter(shape) if drawn else self.passing(shape)
+            if text:
+                return text
         takes = tuple(self.parameter() for _ in range(self.chance.one_of([0, 0, 1, 1, 2, 3])))
         result, gives = self.chance.one_of(["Void", "Void", "Atom", "number", "number", "number"]), None
         if result == "number":
@@ -138,10 +145,29 @@ class Classes:
         shape.functions.append(it)
         return text
 
+    def counter(self, shape: Shape) -> str:
+        """A function that changes a member and gives it, or nothing if there is no such member."""
+        members = [it for it in shape.members if it.of.family() in ("Int", "Unsigned") and not it.length]
+        if not members:
+            return ""
+        it = self.chance.one_of(members)
+        of = Number(it.of.family(), self.chance.one_of([it.of.width, 32, 64]))
+        of = of if of.name != "Int" or of.width > 1 else Number("Int", 2)
+        shape.functions.append(Function(self.name("f"), of.text(), of, (), changes=it))
+        sign = self.chance.one_of(["+=", "-=", "*="])
+        return f"{of.text()} {shape.functions[-1].name}() {{ {it.name} {sign} {self.chance.between(1, 9)}; return {it.name}; }}"
+
+    def passing(self, shape: Shape) -> str:
+        """A function that gives what it takes, in a wider type."""
+        name = self.chance.one_of(["Int", "Unsigned", "Bits"])
+        takes, gives = Number(name, self.chance.one_of([31, 33, 40, 63])), Number(name, 64)
+        shape.functions.append(Function(self.name("f"), gives.text(), gives, (takes,)))
+        return f"{gives.text()} {shape.functions[-1].name}({takes.text()} p0x) {{ return p0x; }}"
+
     def parameter(self) -> Number:
         """A type of a parameter."""
         name = self.chance.one_of(BUILT_IN)
-        return Number(name, 1 if name == "Bool" else self.chance.one_of([2, 3, 8, 32, 33, 64]))
+        return Number(name, 1 if name == "Bool" else self.chance.one_of([2, 3, 8, 32, 33, 33, 40, 63, 64]))
 
     def written(self, shape: Shape, it: Function) -> str:
         """The text of a function with a drawn body."""
@@ -165,7 +191,13 @@ class Classes:
     def overrides(self, shape: Shape, base: Optional[Shape]) -> list[str]:
         """Other bodies for some virtual functions of a base."""
         found = [it for it in (base.functions if base else []) if it.virtual and self.chance.happens(0.6)]
-        return [self.written(shape, Function(it.name, it.result, it.gives, it.takes, self.chance.happens(0.3))) for it in found]
+        return [self.written(shape, Function(it.name, it.result, it.gives, self.taken(it), self.chance.happens(0.3))) for it in found]
+
+    def taken(self, it: Function) -> tuple[Number, ...]:
+        """The parameters of an override, which are those of what it overrides, unless a rule is to be broken."""
+        if not self.chance.slipped(9):
+            return it.takes
+        return self.chance.one_of([it.takes[:-1], (*it.takes, self.parameter()), tuple(self.parameter() for _ in it.takes)])
 
     def element_head(self) -> tuple[Shape, list[str], Optional[Shape]]:
         """An element with its members, before any body."""

@@ -57,6 +57,8 @@ class Formulas:
 
     def of_family(self, family: str, scope: Scope, depth: int, may_be_plain: bool = False) -> Formula:
         """A number of a class of types; a number without `u` only where its context gives it the class."""
+        if self.chance.slipped():
+            return Formula(self.misfit(scope, depth))
         if depth <= 0 or self.chance.happens(0.2):
             return self.leaf(family, scope, may_be_plain)
         if family == "Bool":
@@ -65,6 +67,25 @@ class Formulas:
         choices += [self.calculated] * 3 if family != "Bits" else [self.masked] * 4
         drawn = self.chance.one_of(choices)(family, scope, depth - 1)
         return Formula(f"({drawn.text})", plain=drawn.plain) if self.chance.happens(0.1) else drawn
+
+    def misfit(self, scope: Scope, depth: int) -> str:
+        """What seldom fits: a number of any class, an atom, or a name or a call that gives no value."""
+        drawn = self.chance.below(10)
+        if drawn < 5:
+            return self.leaf(self.any_family(), scope, self.chance.happens(0.5)).text
+        if drawn < 7:
+            return self.atom(scope).text
+        if drawn < 8 and self.callable:
+            call = self.call(self.chance.one_of(self.callable), scope, depth)
+            return self.chance.one_of([call, call[:-1] + ", 1)", call.split("(")[0], call.split("(")[0] + "()"])
+        return self.chance.one_of([self.any_name(scope), f"{self.of.name}.instanceof", "2147483648", "nobody(1)"])
+
+    def any_name(self, scope: Scope) -> str:
+        """A name of anything that a body can name, or of nothing."""
+        members = [it.name for it in self.of.members + self.of.constants] + [name for name, _ in self.of.parts]
+        locals = [name for name, _ in scope.numbers + scope.acting + scope.fixed] + scope.atoms
+        other = ["self", "nobody", self.of.window or "self", self.of.draws or "self"]
+        return self.chance.one_of([self.chance.one_of(names) for names in (members, locals, other) if names])
 
     def leaf(self, family: str, scope: Scope, may_be_plain: bool) -> Formula:
         """A name or a number."""
@@ -96,6 +117,8 @@ class Formulas:
 
     def literal(self, family: str, may_be_plain: bool) -> Formula:
         """A number as it is written."""
+        if self.chance.happens(0.06):
+            return Formula(f"({self.large(family)})")
         value = self.chance.near_end(self.chance.one_of([2, 3, 4, 6, 8, 16, 31]))
         if family == "Bool":
             return Formula(f"(Bool) {'- ' if value % 2 else ''}{value}")
@@ -108,8 +131,23 @@ class Formulas:
         return Formula(f"({self.width('Bits').text()}) {self.digits(value)}")
 
     def digits(self, value: int) -> str:
-        """A number in one of three bases."""
-        return format(value, self.chance.one_of(["", "", "", "#x", "#b"]))
+        """A number in one of three bases, with small letters as digits or with large ones."""
+        form = self.chance.one_of(["d", "d", "d", "x", "X", "b"])
+        return {"d": "", "b": "0b"}.get(form, "0x") + format(value, form)
+
+    def large(self, family: str) -> str:
+        """A number of more than 32 bits, or one at the end of 32."""
+        if family == "Int" and self.chance.happens(0.3):
+            return self.chance.one_of(["- 2147483647 - 1", "- (- 2147483647 - 1)"])
+        if family == "Unsigned" and self.chance.happens(0.5):
+            bound = "(Unsigned(64)) 4294967295u * 4294967295u"
+            made = f"{self.of.draws}.create({bound})" if self.of.draws and self.chance.happens(0.7) else "4294967295u * 3u"
+            return f"{made} / {self.chance.one_of([3, 5, 7, 4294967295])}u"
+        most = {"Int": "2147483647", "Unsigned": "4294967295u"}.get(family)
+        if most is None:
+            return f"~(Bits(64)) {self.digits(self.chance.near_end(31))}" if family == "Bits" else "true"
+        right = self.chance.one_of([most, most, "- " + most if family == "Int" else most, "1000" if family == "Int" else "1000u"])
+        return f"({family}({self.chance.one_of([33, 63, 64])})) {most} * {right}"
 
     def width(self, family: str) -> Number:
         """A type of a class, most often with a width near an end."""
@@ -140,16 +178,22 @@ class Formulas:
 
     def call(self, it: Function, scope: Scope, depth: int) -> str:
         """A call with drawn arguments."""
-        args = [self.of_family(of.family(), scope, min(depth, 1), True).text for of in it.takes]
+        args = [
+            self.large(of.family()) if of.width > 32 and self.chance.happens(0.3)
+            else self.of_family(of.family(), scope, min(depth, 1), True).text
+            for of in it.takes
+        ]
         return f"{it.name}({', '.join(args)})"
 
     def bound(self, scope: Scope, depth: int) -> str:
         """The bound of a random number."""
         if self.chance.happens(self.risk):
-            return self.of_family("Unsigned", scope, depth, True).text
+            return self.chance.one_of(["0", self.of_family("Unsigned", scope, depth, True).text])
         drawn = self.chance.one_of([1, 2, 3, 4, 7, 41, 256, (1 << 31) - 1, 1 << 31, (1 << 32) - 1])
-        if self.chance.happens(0.2):
-            return f"(Unsigned(64)) {self.chance.between(1, 9)}u * {drawn}"
+        if self.chance.slipped(3):
+            return self.leaf(self.chance.one_of(["Int", "Int", "Bits", "Bool"]), scope, False).text
+        if self.chance.happens(0.3):
+            return f"(Unsigned(64)) {self.chance.one_of([1, 2, 9, 4294967295])}u * {drawn}u"
         return f"{drawn}u" if drawn >> 31 or self.chance.happens(0.3) else str(drawn)
 
     def calculated(self, family: str, scope: Scope, depth: int) -> Formula:
@@ -180,16 +224,30 @@ class Formulas:
 
     def masked(self, _: str, scope: Scope, depth: int) -> Formula:
         """An expression of Bits."""
+        if self.chance.happens(0.12):
+            return self.widths_apart(scope)
         sign = self.chance.one_of("& | ^ << >> << ~".split())
         if sign == "~":
             return Formula(f"~{self.of_family('Bits', scope, depth).at_least(OPERAND)}")
         if sign in ("<<", ">>"):
             left = self.of_family("Bits", scope, depth)
-            amount = self.chance.one_of([0, 1, 1, 2, 2, 3, 7, 8, 31, 32, 63, 64, 65])
+            amount = self.chance.one_of([0, 1, 1, 2, 2, 3, 7, 8, 31, 32, 62, 63, 63, 64, 65])
+            if amount >= 62 and self.chance.happens(0.5):
+                left = Formula(f"({self.large('Bits')})")
             right = Formula(str(amount)) if self.chance.happens(0.6) else self.of_family("Unsigned", scope, depth, True)
             return self.joined(sign, left, right)
         left, right = self.two("Bits", scope, depth)
         return self.joined(sign, left, right)
+
+    def widths_apart(self, scope: Scope) -> Formula:
+        """Bits of two widths, or bits that are moved beyond their width, with what shows the width of the result."""
+        narrow = Formula(f"(Bits({self.chance.one_of([1, 2, 3, 8, 9, 31, 32])})) {self.leaf('Bits', scope, False).at_least(OPERAND)}")
+        if self.chance.happens(0.5):
+            amounts = [self.chance.one_of([1, 2, 5, 8, 31, 40]) for _ in "12"]
+            return Formula(f"({narrow.text} << {amounts[0]}) >> {min(amounts)}", LEVELS[">>"])
+        both = [narrow.text, f"({self.large('Bits')})"]
+        sides = both if self.chance.happens(0.6) else both[::-1]
+        return Formula(f"~({sides[0]} {self.chance.one_of(['&', '|', '^'])} {sides[1]})")
 
     def truth(self, scope: Scope, depth: int) -> Formula:
         """A condition that is more than a name."""

@@ -53,8 +53,8 @@ def sizes(chance: Chance, tiles: int) -> World:
     world = World(across, down, chance.one_of(sides), chance.one_of(sides))
     if across * down == 1 and chance.happens(0.05):
         world.width, world.height = chance.one_of([(64, 8), (8, 64), (64, 64)])
-    if across * down > 1 and chance.happens(0.3):
-        count = chance.between(1, max(across * down // 3, 1))
+    if across * down > 1 and chance.happens(0.4):
+        count = chance.between(1, max(across * down // 2, 1))
         world.off = sorted({chance.below(across * down) for _ in range(count)})
     return world
 
@@ -84,6 +84,8 @@ def put_attempts(chance: Chance, world: World) -> None:
         world.attempts = [f"seed {seed}", f"attempts {chance.one_of([0, 1, each, each])}"]
         return
     sites = list(world.atoms)
+    if chance.happens(0.3):  # (few tiles make all attempts, so an order may end before they do)
+        sites = [chance.one_of(sites) for _ in range(3)] if sites else []
     for number in range(chance.one_of([5, 60, MOST_MADE, MOST_MADE])):
         x, y = chance.one_of(sites) if sites and chance.happens(0.85) else site_of(chance, world)
         world.attempts.append(f"try {world.tile_of(x, y)} {x} {y} {(seed + number) % (1 << 64):016x}")

@@ -49,13 +49,14 @@ class Constant:
 
 @dataclass(frozen=True)
 class Function:
-    """A function: what it gives (`Void`, `Atom`, or a type of numbers) and takes."""
+    """A function: what it gives (`Void`, `Atom`, or a type of numbers) and takes, and which member it is sure to change."""
 
     name: str
     result: str
     gives: Optional[Number]
     takes: tuple[Number, ...]
     virtual: bool = False
+    changes: Optional[Member] = None
 
 
 @dataclass

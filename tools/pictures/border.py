@@ -6,8 +6,10 @@ are the sites up to four columns and rows beyond that tile's own.
 """
 import sys
 
-from sheet import svg
-from window import REACH, sites
+sys.dont_write_bytecode = True
+
+from sheet import svg  # noqa: E402
+from window import REACH, sites  # noqa: E402
 
 TILE, ACROSS = 16, 2  # the side of a tile, and how many tiles there are each way
 SIDE = 15  # of a site

@@ -8,7 +8,9 @@ import csv
 import sys
 from pathlib import Path
 
-from sheet import svg
+sys.dont_write_bytecode = True
+
+from sheet import svg  # noqa: E402
 
 WIDE, HIGH = 620, 220
 LEFT, TOP, RIGHT, BELOW = 48, 12, 90, 44

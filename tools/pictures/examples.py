@@ -12,7 +12,9 @@ import tempfile
 from dataclasses import dataclass
 from pathlib import Path
 
-from sheet import svg
+sys.dont_write_bytecode = True
+
+from sheet import svg  # noqa: E402
 
 GAP = 24  # between the two planes
 

@@ -13,8 +13,10 @@ import sys
 from dataclasses import dataclass
 from pathlib import Path
 
-from sheet import svg
-from window import REACH
+sys.dont_write_bytecode = True
+
+from sheet import svg  # noqa: E402
+from window import REACH  # noqa: E402
 
 SITE, STEP = 13, 30  # the width of a site, and the height of a stamp
 COLORS = ("#0072b2", "#d55e00", "#009e73", "#cc79a7")

@@ -8,11 +8,8 @@ import bisect
 from collections import Counter
 from typing import Optional, Sequence
 
-from .draws import Attempt
 from .plane import Plane
-from .report import Abandoned, Journal, Record
-
-Plan = Sequence[Sequence[Attempt]]
+from .report import Abandoned, Journal, Plan, Record, attempt_of
 
 
 def is_accounted(plane: Plane, plan: Plan, journal: Journal) -> bool:
@@ -30,14 +27,6 @@ def is_accounted(plane: Plane, plan: Plan, journal: Journal) -> bool:
     # (all entries are of attempts, so if there are as many as attempts and none has two, each attempt has one)
     is_once = len(entries) == sum(map(len, plan)) and max(entries.values(), default=1) == 1
     return is_once and are_in_order(journal)
-
-
-def attempt_of(plane: Plane, plan: Plan, tile: int, number: int) -> Optional[tuple[int, int, int]]:
-    """The site and the seed of an attempt of a tile, if it has one of the number."""
-    if tile >= len(plan) or number >= len(plan[tile]):
-        return None
-    position, seed = plan[tile][number]
-    return *plane.site_in(tile, position), seed
 
 
 def are_in_order(journal: Journal) -> bool:

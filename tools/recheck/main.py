@@ -9,14 +9,15 @@ from typing import Callable, Optional, Sequence, TypeVar
 from . import trees
 from .elements import elements_of, read_elements
 from .faults import Refused, RefusedLine, line_and_column, refusal_line
+from .chain import read_world
 from .layout import layout_text
 from .limits import ELEMENT_LIMIT, JOURNAL_LIMIT, MOST_ATTEMPTS, MOST_FILES, WORLD_LIMIT
 from .meaning import event_maker
-from .order import replay, verdict
-from .report import Journal, atoms_text, read_report, report_text
+from .order import replay, wrong_in
+from .report import Journal, atoms_text, counts_text, read_reports, report_text
 from .stepped import Machine, flat_run
 from .windows import Event, Grid
-from .world import World, read_world, start_of
+from .world import Text, start_of
 
 USAGE = (
     b"E00 usage: feast check|code|pack FILE.. | step|run WORLD FILE.. | steppack|runpack WORLD CODE | replay WORLD JOURNAL "
@@ -27,7 +28,8 @@ HELP = """usage: recheck WORLD REPORT FILE..
        recheck --call VERB WORD..
 
 Reads the element files FILE.. and the world WORLD, makes the events of the report REPORT by the meaning of the elements,
-and writes `yes`, or the first thing that is wrong with the report: the line that `feast audit` writes.
+and writes `yes`, or the first thing that is wrong with the report: the line that `feast audit` writes. WORLD may be a
+chain of legs (a file that begins with `chain 1`).
 
   --step  writes the stepped report of the world
   --call  does what `feast VERB WORD..` does, where VERB is check, step, run (on one tile), replay, audit or rewind
@@ -80,22 +82,25 @@ def at_lines_of(status: int, name: bytes, what: Callable[[], Read]) -> Read:
 
 
 class Job:
-    """A world with elements: its start, and what makes an event there."""
+    """A world or a chain with elements: its start, and what makes an event there."""
 
     def __init__(self, world: bytes, files: Sequence[bytes]) -> None:
         data = load(world, WORLD_LIMIT)
-        self.world: World = at_lines_of(5, world, lambda: read_world(data))
+        self.world: Text = at_lines_of(5, world, lambda: read_world(data))
         classes = elements_in(files)
         self.names = [it.word.text for it in elements_of(classes)]
         numbers = {name: number for number, name in enumerate(self.names, 1)}
         self.grid: Grid = at_lines_of(5, world, lambda: start_of(self.world, numbers))
         self.event: Event = event_maker(classes, self.grid)
-        self.report = b""
+        self.is_short = self.world.journal == "short"
 
-    def journal(self, name: bytes) -> Journal:
-        """The events and abandoned attempts of a report of the world."""
-        self.report = load(name, JOURNAL_LIMIT)
-        return at_lines_of(6, name, lambda: read_report(self.report, self.world.plane, self.world.plan))
+    def journals(self, name: bytes) -> list[Journal]:
+        """The events and abandoned attempts of each leg's report."""
+        data = load(name, JOURNAL_LIMIT)
+        if self.world.journal == "none":
+            raise Over(6, refusal_line(name, 1, 1, 80, 0))
+        plans = (leg.plan for leg in self.world.legs())
+        return at_lines_of(6, name, lambda: read_reports(data, self.world.plane, plans, self.is_short))
 
 
 def check(files: Sequence[bytes]) -> str:
@@ -103,37 +108,55 @@ def check(files: Sequence[bytes]) -> str:
     return layout_text(elements_in(files))
 
 
-def step(world: bytes, files: Sequence[bytes]) -> str:
-    """The report of the stepped run."""
+def made(world: bytes, files: Sequence[bytes], is_run: bool) -> str:
+    """The report of the stepped run, or of the run of a plane of one tile."""
     job = Job(world, files)
-    journal = Machine(job.world.plane, job.world.plan, job.grid, job.event).run(job.world.steps())
-    return report_text(job.grid, job.names, journal)
-
-
-def run(world: bytes, files: Sequence[bytes]) -> str:
-    """The report of the run of a plane of one tile."""
-    job = Job(world, files)
-    if job.world.plane.tiles > 1:
+    plane = job.world.plane
+    if is_run and plane.tiles > 1:
         raise Over(1, b"recheck: a run of several tiles has many reports; it judges them, and makes none\n")
-    return report_text(job.grid, job.names, flat_run(job.world.plane, job.world.plan, job.grid, job.event))
+    texts: list[str] = []
+    events = abandoned = 0
+    for leg in job.world.legs():
+        leg.begin(job.grid)
+        if is_run:
+            journal = flat_run(plane, leg.plan, job.grid, job.event)
+        else:
+            journal = Machine(plane, leg.plan, job.grid, job.event).run(leg.turns(plane.on))
+        events, abandoned = events + len(journal.records), abandoned + len(journal.abandoned)
+        if job.world.journal != "none":
+            texts.append(report_text(job.grid, job.names, journal, job.is_short))
+        elif leg.number % job.world.print == 0 or leg.number == job.world.last:
+            texts.append(counts_text(job.grid, job.names, events, abandoned))
+            events = abandoned = 0
+    return "".join(texts)
 
 
 def replayed(world: bytes, report: bytes, files: Sequence[bytes], first: Optional[int] = None) -> str:
-    """The atoms that the events of a report leave, or the first so many of them."""
+    """The atoms that the events of a report leave, with all acts; or the first so many of them, with the acts before."""
     job = Job(world, files)
-    records = job.journal(report).records
-    if first is not None and first > len(records):
-        raise Over(6, refusal_line(report, 1, 1, 84, len(records)))
-    replay(job.grid, job.event, records[:first])
+    journals = job.journals(report)
+    total = sum(len(it.records) for it in journals)
+    if first is not None and first > total:
+        raise Over(6, refusal_line(report, 1, 1, 84, total))
+    for leg, journal in zip(job.world.legs(), journals):
+        if first == 0:
+            break
+        leg.begin(job.grid)
+        replay(job.grid, job.event, journal.records[:first])
+        first = None if first is None else max(first - len(journal.records), 0)
     return atoms_text(job.grid, job.names)
 
 
 def audit(world: bytes, report: bytes, files: Sequence[bytes]) -> str:
-    """The line that says whether a report is one of the world."""
+    """The line that says whether a report is one of the world: `yes`, or the first thing that is wrong."""
     job = Job(world, files)
-    journal = job.journal(report)
-    replay(job.grid, job.event, journal.records)
-    return verdict(job.report, job.world.plane, job.world.plan, journal, job.grid, job.names) + "\n"
+    for leg, journal in zip(job.world.legs(), job.journals(report)):
+        leg.begin(job.grid)
+        replay(job.grid, job.event, journal.records)
+        wrong = wrong_in(job.world.plane, leg.plan, journal, job.grid, job.names, job.is_short)
+        if wrong:
+            return f"no leg {leg.number} {wrong}\n" if leg.number else f"no {wrong}\n"
+    return "yes\n"
 
 
 def written(words: Sequence[bytes]) -> str:
@@ -146,7 +169,7 @@ def written(words: Sequence[bytes]) -> str:
     if verb == b"check":
         return check(files)
     if verb in (b"step", b"run"):
-        return (step if verb == b"step" else run)(rest[0], files)
+        return made(rest[0], files, verb == b"run")
     if verb == b"replay":
         return replayed(rest[0], rest[1], files)
     if verb == b"audit":

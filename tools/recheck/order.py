@@ -3,9 +3,9 @@ from __future__ import annotations
 
 from typing import Iterable, Sequence
 
-from .journal import Excuses, Plan, first_not_stamped, is_accounted
+from .journal import Excuses, first_not_stamped, is_accounted
 from .plane import Plane
-from .report import Journal, Record, report_text
+from .report import Journal, Plan, Record, report_text
 from .windows import Event, Grid
 
 
@@ -18,19 +18,17 @@ def replay(grid: Grid, event: Event, records: Iterable[Record]) -> None:
 def judge(plane: Plane, plan: Plan, journal: Journal) -> str:
     """The first thing that is wrong with the entries of a report, or nothing."""
     if not is_accounted(plane, plan, journal):
-        return "no accounted"
+        return "accounted"
     position = first_not_stamped(plane, journal.records)
     if position is not None:
-        return f"no stamped {journal.record_line + position}"
+        return f"stamped {journal.record_line + position}"
     position = Excuses(plane, plan, journal).first_not_excused(journal.abandoned)
     if position is not None:
-        return f"no excused {journal.abandoned_line + position}"
+        return f"excused {journal.abandoned_line + position}"
     return ""
 
 
-def verdict(data: bytes, plane: Plane, plan: Plan, journal: Journal, left: Grid, names: Sequence[str]) -> str:
-    """The line of an audit: `yes`, or the first thing that is wrong, where `left` is what the events leave of the start."""
-    wrong = judge(plane, plan, journal)
-    if wrong:
-        return wrong
-    return "yes" if report_text(left, names, journal).encode() == data else "no atoms"
+def wrong_in(plane: Plane, plan: Plan, journal: Journal, left: Grid, names: Sequence[str], is_short: bool) -> str:
+    """The first thing that is wrong with a report, or nothing, where `left` is what the events leave of the start."""
+    is_written = report_text(left, names, journal, is_short).encode() == journal.text
+    return judge(plane, plan, journal) or ("" if is_written else "atoms")

@@ -8,9 +8,8 @@ from __future__ import annotations
 from dataclasses import dataclass, field
 from typing import Iterable, Optional
 
-from .journal import Plan
 from .plane import Plane
-from .report import Abandoned, Journal, Record
+from .report import Abandoned, Journal, Plan, Record
 from .windows import Event, Grid
 
 
