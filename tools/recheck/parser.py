@@ -129,7 +129,7 @@ class FileReader(Reader):
             return self.for_statement(at)
         found: trees.Statement
         if self.takes("return"):
-            found = trees.Return(at, None if self.kind == ";" else self.expr())
+            found = trees.Return(at, None if self.sees(";") else self.expr())
         elif self.kind in ("break", "continue"):
             found = trees.Jump(at, self.take(self.kind).kind == "break")
         else:
@@ -154,11 +154,11 @@ class FileReader(Reader):
     def for_statement(self, at: Spot) -> trees.Loop:
         """What comes after `for`."""
         self.take("(")
-        first = None if self.kind == ";" else self.simple(may_declare=True)
+        first = None if self.sees(";") else self.simple(may_declare=True)
         self.take(";")
-        condition = None if self.kind == ";" else self.expr()
+        condition = None if self.sees(";") else self.expr()
         self.take(";")
-        step = None if self.kind == ")" else self.simple()
+        step = None if self.sees(")") else self.simple()
         self.take(")")
         return trees.Loop(at, first, condition, step, self.statement(), True)
 

@@ -4,15 +4,22 @@ from functools import cached_property
 
 from recheck.faults import Refused
 from recheck.heirs import Heads, Line, flatten, without_heads
-from recheck.layout import lay_out
-from recheck.names import declare_all
+from recheck.layout import lay_out, type_text
+from recheck.names import BUILT_IN, NUMBERS, declare_all
 from recheck.parser import parse
-from recheck.scopes import resolve
+from recheck.scopes import CALLS as LIBRARY, Scopes
 from recheck.tokens import tokens_of
-from recheck.types import check_types
+from recheck.types import FunctionTyper
+from recheck.typing_rules import ARGUMENTS, MOST_PLAIN_INT, family, is_assignable, is_plain
 
 from .tokens import Source, Token, tokens
-from .trees import Call, Cast, Class, Expr, Function, Group, Index, Instance, Is, Member, Pair, Path, Prefix, Spot, begin
+from .trees import (
+    BOOL, VOID, Call, Cast, Class, Constant, Expr, Field, Function, Group, Index, Instance, Is, Local, Member, NumberType, Pair,
+    Path, Prefix, Seen, Self, Spot, Step, Type, begin)
+
+__all__ = [
+    "ARGUMENTS", "BUILT_IN", "LIBRARY", "MOST_PLAIN_INT", "NUMBERS", "Elements", "family", "has_name", "is_assignable", "is_plain",
+    "step_text", "step_type", "type_text"]
 
 
 class Elements:
@@ -27,6 +34,8 @@ class Elements:
         self.classes: list[Class] = []
         self.own: dict[Class, list[Member]] = {}
         self.line = Line([], self.heads)
+        self.known: list[str] = []  # the locals that are known where a name isn't
+        self.last_read: tuple[Class, Function] | None = None  # the function, which may be a copy, that was read last
         self.refused: Refused | None = None
         try:
             self.read()
@@ -43,9 +52,26 @@ class Elements:
         self.line = Line(self.classes, self.heads)
         flatten(self.classes, self.heads)
         names = declare_all(files)
-        resolve(files, names)
+        for class_, function in self.given():
+            self.resolve(Scopes(names, class_, function))
         lay_out(self.classes)
-        check_types(self.classes)
+        for class_, function in self.given():
+            FunctionTyper(class_, function).check()
+
+    def given(self) -> Iterator[tuple[Class, Function]]:
+        """The functions that all classes are given, each with its class."""
+        for class_ in self.classes:
+            for function in class_.functions():
+                self.last_read = class_, function
+                yield class_, function
+
+    def resolve(self, scopes: Scopes) -> None:
+        """Looks up the names of a function."""
+        try:
+            scopes.look_up()
+        except Refused:
+            self.known = list(dict.fromkeys(name for scope in scopes.scopes for name in scope))
+            raise
 
     @cached_property
     def tokens(self) -> list[list[Token]]:
@@ -113,3 +139,26 @@ class Elements:
     def text(self, expr: Expr) -> str:
         """The text of an expression, with the brackets around it."""
         return self.sources[expr.at[0]].text[begin(expr)[1]:self.token(self.last(expr)).end]
+
+
+def has_name(member: Member, name: str) -> bool:
+    """Whether a member has a name."""
+    return member.word.text == name
+
+
+def step_type(step: Step, class_: Class | None) -> Type:
+    """The type of what a name of a path in a class stands for, or of its result; of an array that of its items."""
+    match step:
+        case Self():
+            return class_ or VOID
+        case Seen():
+            return step.as_type
+        case Local() | Field() | Constant() | Function():
+            return step.of.type
+    return VOID if step == "swap" else NumberType("Unsigned", 32) if step == "create" else BOOL
+
+
+def step_text(step: Step, class_: Class | None) -> str:
+    """That type as a text names it."""
+    length = f"[{step.length}]" if isinstance(step, Field) and step.length else ""
+    return type_text(step_type(step, class_)) + length

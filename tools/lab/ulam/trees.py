@@ -3,15 +3,15 @@ from collections.abc import Iterator, Sequence
 
 from recheck.faults import Spot
 from recheck.trees import (
-    ATOM, RANDOM, WINDOW, As, Assign, Block, Call, Cast, Class, Constant, Declare, Do, Expr, Field, Function, Group, If, Index, Instance, Is,
-    Jump, Local, Loop, Member, Number, NumberType, Pair, Path, PlainType, Prefix, Return, Seen, Self, Statement, Truth, Type,
-    Typedef, TypeRef, Word)
+    ATOM, BOOL, RANDOM, VOID, WINDOW, As, Assign, Block, Call, Cast, Class, Constant, Declare, Do, Expr, Field, Function, Group,
+    If, Index, Instance, Is, Jump, Local, Loop, Member, Number, NumberType, Pair, Path, PlainType, Prefix, Return, Seen, Self,
+    Statement, Step, Truth, Type, Typedef, TypeRef, Word)
 
 __all__ = [
-    "ATOM", "RANDOM", "WINDOW", "As", "Assign", "Block", "Call", "Cast", "Class", "Constant", "Declare", "Do", "Expr", "Field", "Function", "Group",
-    "If", "Index", "Instance", "Is", "Jump", "Local", "Loop", "Member", "Number", "NumberType", "Pair", "Path", "PlainType",
-    "Prefix", "Return", "Seen", "Self", "Spot", "Statement", "Truth", "Type", "Typedef", "TypeRef", "Word",
-    "bare", "begin", "first_name", "local_of", "own_exprs", "parts", "statements"]
+    "ATOM", "BOOL", "RANDOM", "VOID", "WINDOW", "As", "Assign", "Block", "Call", "Cast", "Class", "Constant", "Declare", "Do",
+    "Expr", "Field", "Function", "Group", "If", "Index", "Instance", "Is", "Jump", "Local", "Loop", "Member", "Number",
+    "NumberType", "Pair", "Path", "PlainType", "Prefix", "Return", "Seen", "Self", "Spot", "Statement", "Step", "Truth", "Type",
+    "Typedef", "TypeRef", "Word", "bare", "begin", "first_name", "local_of", "own_exprs", "parts", "statements"]
 
 
 def bare(expr: Expr) -> Expr:
