@@ -23,7 +23,8 @@ from proved.sources import LINE, SourcesError, digest  # noqa: E402
 from tree import files  # noqa: E402
 
 FAKES = TOP / "tests" / "fakes" / "bin"
-COPIED = ("feast", "lab", "test", "tools/dist", "tools/help.txt", "tools/proved", "tools/lab", "tools/first_call", "tests/gate.py")
+COPIED = ("feast", "lab", "test", "tools/dist", "tools/help.txt", "tools/proved", "tools/lab",
+          "tools/recheck", "tools/first_call", "tests/gate.py")
 FILES = {"crates.txt": "feast: low\n", "HANDLES": "x\n", "crates/low/src/lib.rt": "// low\n",
          "crates/low/src/more.rt": "// more\n", "crates/feast/src/main.rt": "// main\n"}
 KIT = "pretended-kit logic 1"

@@ -3,7 +3,8 @@
 
 tools/lab/layers.txt has a line for each package of tools/lab, lowest first, with the packages that its modules use, all of
 which stand above it in the file. So no two packages use each other; the modules within a package don't either. Within the lab
-each import is relative. Only the package `command` reads words (argparse), and no two classes of the lab have one name.
+each import is relative. Only the package `command` reads words (argparse), only `ulam` imports the second reader (recheck), and no two
+classes of the lab have one name.
 tools/pyproject.toml has all packages.
 """
 from __future__ import annotations
@@ -23,6 +24,7 @@ TOP = Path(__file__).resolve().parent.parent
 LAB = TOP / "tools" / "lab"
 LAYERS = "tools/lab/layers.txt"
 WORDS = "command"  # the one package that reads words
+READERS = "ulam"  # the one package that imports the second reader
 
 
 @dataclass(frozen=True)
@@ -88,13 +90,15 @@ def table_faults(table: dict[str, list[str]], modules: list[Module]) -> Iterator
 
 
 def module_faults(modules: list[Module], packages: set[str]) -> Iterator[str]:
-    """Modules that import the lab by its name, or read words, and classes with one name."""
+    """Modules that import the lab by its name, read words, or import the second reader, and classes with one name."""
     homes = defaultdict(list)
     for it in modules:
         if "lab" in it.others:
             yield f"{it}: it imports the lab by its name; within the lab imports are relative"
         if "argparse" in it.others and it.package != WORDS:
             yield f"{it}: it imports argparse, which is for {WORDS} alone"
+        if "recheck" in it.others and it.package != READERS:
+            yield f"{it}: it imports recheck, which is for {READERS} alone"
         for name in it.classes:
             homes[name].append(str(it))
     yield from (f"the class {name} is in {' and in '.join(found)}" for name, found in homes.items() if len(found) > 1)

@@ -149,6 +149,9 @@ class Check(LabCase):
             ("element A { Int n; Void behave() { if (n) { } } }", ["met `Int(32)`, expected `Bool`"]),
             ("element A { typedef Unsigned(3) T; Int n; T t; Void behave() { n = t; } }",
              ["met `Unsigned(3)`, expected `Int(32)`"]),
+            # in a function of a base, what an heir makes of it
+            ("element A : B { Void behave() { f(); } } quark B { Void f() { T x = self; } } element T { Void behave() { } }",
+             ["a.ulam:1:65: E52", "met `A`, expected `T`"]),
         ]
         for text, says in cases:
             told = "\n".join(self.told(text))

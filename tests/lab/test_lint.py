@@ -34,6 +34,7 @@ MOVES = [
     element("ew.swap(0, 1); @self.n = 1;", WINDOW + "Int n; "),
     element("ew.swap(0, 1); @n++; Int k = @n; if (@n > k) @a[k] = @n;", WINDOW + "Int n; Int(2) a[4]; "),
     "quark Q { Int n; } " + element("ew.swap(0, 1); @q.n = 1;", WINDOW + "Q q; "),
+    element("ew.swap(0, 1); Int k = (@n); ew[k] = Empty.instanceof;", WINDOW + "Int n; "),
     # what isn't a use
     element("ew.swap(0, 1); if (random.oneIn(k) && ew.isLive(k)) ew[2] = Empty.instanceof;",
             WINDOW + "Random random; constant Unsigned k = 2; "),
@@ -111,6 +112,8 @@ NUMBERS = [
                              WINDOW + "Random random; Int n; Bool go() { n--; return n > 0; } ")),
     ("endless-loop", element("Int i; @while (i < 3) ew[1] = self; @while (n < 3) i = 2; @while (ew.isEmpty(1)) { }",
                              WINDOW + "Int n; ")),
+    ("endless-loop", element("@while (ew.isEmpty(1)) { for (Int i = 0; i < 3; i++) { } }", WINDOW)),
+    ("unused", element("Int k = 1; Int @j = (k); j = (k);")),
     ("unused", "quark P { Int(3) n; virtual Void hook() { } Int @spare() { return n; } Void used() { n = 1; } } "
                f"quark Q {{ Int n; Void lone() {{ }} }} element A : P {{ {WINDOW}P p; Int(3) @m; Bool own; "
                "Void hook() { } Void @again() { again(); } Void behave() { Int @k; k = 2; p.used(); Atom a = ew[1]; "

@@ -1,4 +1,4 @@
-"""The lab's own reading of element files, against the tables of tests/tables, whose rows were worked out apart."""
+"""How the lab has element files read, against the tables of tests/tables, whose rows were worked out apart."""
 import dataclasses
 import importlib
 import re
@@ -9,14 +9,17 @@ from typing import Any
 
 from calls import EXAMPLES, TOP
 
-from lab.ulam.parser import SyntaxFault, parse
-from lab.ulam.tokens import Source, Token, tokens
-from lab.ulam.tree import Block
+from lab.ulam.expected import expected
+from lab.ulam.reader import Elements
+from lab.ulam.tokens import Source, tokens
+from lab.ulam.trees import Block, Do, Group, Word
+from recheck.parser import parse
+from recheck.tokens import tokens_of
 
 SUBJECTS = ("grammar", "readings", "names", "classes", "stages", "typing_rules", "codes", "number_ends", "arithmetic",
             "events")
 LINE = re.compile(r"(\w+):(\d+):(\d+): E(\d\d) .*\n")
-EMPTY = ("Empty",)
+UNSHOWN = ("at", "type", "steps", "locals", "local", "known", "is_for")
 WORDS_BEFORE = {"check": 0, "code": 0, "pack": 0, "run": 1, "step": 1, "replay": 2, "audit": 2, "rewind": 3}
 TABLES = str(TOP / "tests" / "tables")
 
@@ -50,17 +53,17 @@ def texts_of(row: Any) -> Iterator[tuple[str, str, tuple[int, int] | None]]:
 
 
 def shape(part: Any) -> Any:
-    """A tree without the places of its tokens, without brackets, `;` alone and braces around one statement."""
-    if isinstance(part, Token):
-        return part.number if part.kind == "number" else part.text
-    if isinstance(part, tuple):
+    """A tree without its places, without brackets, `;` alone and braces around one statement."""
+    if isinstance(part, (list, tuple)):
         return tuple(map(shape, part))
+    if isinstance(part, Group):
+        return shape(part.inner)
     if isinstance(part, Block):
-        body = [it for one in map(shape, part.body) for it in (one[1:] if one[0] == "Block" else [one]) if it != EMPTY]
-        return body[0] if len(body) == 1 else ("Block", *body) if body else EMPTY
+        body = [it for one in map(shape, part.body) for it in (one[1:] if one[0] == "Block" else [one])]
+        return body[0] if len(body) == 1 else ("Block", *body)
     if dataclasses.is_dataclass(part):
-        names = [it.name for it in dataclasses.fields(part) if it.name not in ("first", "last", "source", "keyword")]
-        return (type(part).__name__, *(shape(getattr(part, name)) for name in names))
+        names = [it.name for it in dataclasses.fields(part) if it.name not in UNSHOWN]
+        return part.text if isinstance(part, Word) else (type(part).__name__, *(shape(getattr(part, name)) for name in names))
     return part
 
 
@@ -74,12 +77,9 @@ class Parser(unittest.TestCase):
             for row in table(subject):
                 for name, text, place in texts_of(row):
                     data = text.encode().decode("latin-1")
-                    try:
-                        parse(Source(name, data))
-                        fault = None
-                    except SyntaxFault as error:
-                        fault = error.token.place
-                    self.assertEqual(fault, place, text[-300:])
+                    source = Source(name, data)
+                    at, could = expected(source)
+                    self.assertEqual(source.place(at) if could else None, place, text[-300:])
                     counts[place is None] += 1
         self.assertGreater(min(counts.values()), 100, counts)
 
@@ -88,7 +88,7 @@ class Parser(unittest.TestCase):
         counts = {True: 0, False: 0}
         for pair in table("readings"):
             if hasattr(pair, "texts"):
-                one, other = (shape(parse(Source("a", text)).classes) for text in pair.texts)
+                one, other = (shape(parse(tokens_of(text, 0), 0).classes) for text in pair.texts)
                 words, others = ([it.text for it in tokens(Source("a", text)) if it.text not in "(){};"]
                                  for text in pair.texts)
                 if words == others or not pair.alike:
@@ -118,4 +118,14 @@ class Parser(unittest.TestCase):
                 paths += [case / word for word in words[WORDS_BEFORE[verb]:] if (case / word).is_file()]
         self.assertGreater(len(paths), 30)
         for path in paths:
-            parse(Source(path.name, path.read_text("latin-1")))
+            self.assertEqual(expected(Source(path.name, path.read_text("latin-1"))), (-1, []))
+
+    def test_ends(self) -> None:
+        """An expression ends where its text does, with brackets, signs and indices around it."""
+        values = ["n", "self.n", "(n)", "((n + 1))", "-n", "(Int) n", "f(n, (1))", "a[n + 1]", "n * (n - 1)", "f((n)) + a[0]",
+                  "((A.instanceof)) is A", "!(ew[(0)] is A)"]
+        source = Source("a", "element A { EventWindow ew; Int n; Int a[2]; Int f(Int i, Int k) { } Void behave() { " + "".join(
+            f"f({value} ,{value} );" for value in values) + " } }")
+        elements = Elements([source])
+        calls = [it.call for it in elements.classes[0].functions()[1].body.body if isinstance(it, Do)]
+        self.assertEqual([list(map(elements.text, it.args)) for it in calls], [[value, value] for value in values])

@@ -30,6 +30,10 @@ class Reader:
         """The place of the next token."""
         return self.file_number, self.tokens[self.position].at
 
+    def sees(self, kind: str) -> bool:
+        """Whether the next token is of a kind."""
+        return self.kind == kind
+
     def next_kind(self) -> str:
         """The kind of the token behind the next one."""
         return self.tokens[self.position + 1].kind if self.position + 1 < len(self.tokens) else "end"

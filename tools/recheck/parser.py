@@ -8,7 +8,7 @@ from typing import Union
 
 from . import trees
 from .expressions import Reader
-from .faults import Refused
+from .faults import Refused, Spot
 from .limits import MOST_DEPTH
 from .tokens import Token, too_deep, value_of
 
@@ -124,12 +124,12 @@ class FileReader(Reader):
             self.take("(")
             condition = self.expr()
             self.take(")")
-            return trees.Loop(None, condition, None, self.statement(), False)
+            return trees.Loop(at, None, condition, None, self.statement(), False)
         if self.takes("for"):
-            return self.for_statement()
+            return self.for_statement(at)
         found: trees.Statement
         if self.takes("return"):
-            found = trees.Return(at, None if self.kind == ";" else self.expr())
+            found = trees.Return(at, None if self.sees(";") else self.expr())
         elif self.kind in ("break", "continue"):
             found = trees.Jump(at, self.take(self.kind).kind == "break")
         else:
@@ -151,16 +151,16 @@ class FileReader(Reader):
         yes = self.statement()
         return trees.If(condition, yes, self.statement() if self.takes("else") else None)
 
-    def for_statement(self) -> trees.Loop:
+    def for_statement(self, at: Spot) -> trees.Loop:
         """What comes after `for`."""
         self.take("(")
-        first = None if self.kind == ";" else self.simple(may_declare=True)
+        first = None if self.sees(";") else self.simple(may_declare=True)
         self.take(";")
-        condition = None if self.kind == ";" else self.expr()
+        condition = None if self.sees(";") else self.expr()
         self.take(";")
-        step = None if self.kind == ")" else self.simple()
+        step = None if self.sees(")") else self.simple()
         self.take(")")
-        return trees.Loop(first, condition, step, self.statement(), True)
+        return trees.Loop(at, first, condition, step, self.statement(), True)
 
     def simple(self, may_declare: bool = False) -> trees.Statement:
         """Declare | Simple"""

@@ -1,6 +1,7 @@
 """Trees of element files: what the grammar makes of tokens, and where names and types are noted on it.
 
-`at` is the place of an operator for `Pair`, `Prefix` and `Is`, and the place of the first token for all else.
+`at` is the place of an operator for `Pair`, `Prefix` and `Is`, and the place of the first token for all else. Where that isn't
+needed here, as for loops, it is for who shows a place: `./lab check`.
 """
 from __future__ import annotations
 
@@ -273,6 +274,7 @@ class If:
 class Loop:
     """A `while` or a `for`."""
 
+    at: Spot
     first: Optional["Statement"]
     condition: Optional[Expr]
     step: Optional["Statement"]

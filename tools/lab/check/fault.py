@@ -4,11 +4,10 @@ from collections.abc import Sequence
 from dataclasses import dataclass
 from functools import cached_property
 
-from ..ulam.classes import Classes
-from ..ulam.parser import SyntaxFault, parse
-from ..ulam.scopes import Context, scoped
+from ..ulam.expected import expected
+from ..ulam.reader import Elements, step_text, step_type
 from ..ulam.tokens import Source, Token, tokens
-from ..ulam.tree import Class, Expr, File, Function, Statement, own_exprs, parts
+from ..ulam.trees import Class, Expr, Function, Member, Spot, Statement, Step, Type, Word, begin, own_exprs, parts, statements
 
 LINE = re.compile(r"(?P<name>.*):(?P<line>\d+):(?P<column>\d+): (?P<code>E\d\d) (?P<text>.*)", re.DOTALL)
 
@@ -81,62 +80,71 @@ class Fault:
     @cached_property
     def expected(self) -> list[str]:
         """What could have stood at the place, if the grammar refuses its token."""
-        try:
-            parse(self.source)
-        except SyntaxFault as fault:
-            return fault.expected if fault.token.at == self.byte else []
-        return []
+        at, found = expected(self.source)
+        return found if at == self.byte else []
 
     @cached_property
-    def classes(self) -> Classes:
+    def elements(self) -> Elements:
         """The classes of all files, which the grammar accepts."""
-        return Classes([read(source) for source in self.sources])
+        return Elements(self.sources)
+
+    @cached_property
+    def spot(self) -> Spot:
+        """The place, as the trees have places."""
+        return next(at for at, source in enumerate(self.sources) if source is self.source), self.byte
 
     @cached_property
     def class_(self) -> Class | None:
         """The class in whose text the place is."""
-        found = [it for it in self.classes.all() if it.name.source is self.source and it.name.at <= self.byte]
+        found = [it for it in self.elements.classes if self.is_before(it.word)]
         return found[-1] if found else None
 
     @cached_property
-    def function(self) -> Function | None:
-        """The function in whose text the place is, if it is behind the function's name."""
-        members = self.class_.members if self.class_ else ()
-        found = [it for it in members if it.name.at <= self.byte]
+    def own(self) -> Sequence[Member]:
+        """The members that the text of the class has."""
+        return self.elements.own[self.class_] if self.class_ else ()
+
+    @cached_property
+    def acting(self) -> tuple[Class | None, Function | None]:
+        """The function in whose text the place is, if it is behind the function's name, and its class: the heir, if it is
+        an heir's copy that is refused."""
+        found = [it for it in self.own if self.is_before(it.word)]
         last = found[-1] if found else None
-        return last if isinstance(last, Function) else None
+        read = self.elements.last_read
+        if not isinstance(last, Function):
+            return self.class_, None
+        return read if read is not None and read[1].word.at == last.word.at else (self.class_, last)
 
-    def is_at(self, token: Token) -> bool:
-        """Whether a token is the one at the place."""
-        return token.source is self.source and token.at == self.byte
+    @property
+    def function(self) -> Function | None:
+        """That function."""
+        return self.acting[1]
 
-    @cached_property
-    def context(self) -> Context | None:
-        """The names that are known at the place."""
-        if self.class_ is None:
-            return None
-        scope = {}
-        if self.function is not None:
-            for statement, known in scoped(self.function):
-                if statement.first.at <= self.byte:
-                    scope = dict(known)
-        return Context(self.classes, self.class_, scope)
+    def is_before(self, word: Word) -> bool:
+        """Whether a name of the file is at the place or before it."""
+        return word.at[0] == self.spot[0] and word.at <= self.spot
 
     @cached_property
-    def nodes(self) -> list[tuple[Statement | Expr, Context]]:
-        """The statements and expressions of the function, each with the names that are known there."""
-        found: list[tuple[Statement | Expr, Context]] = []
-        if self.function is not None and self.class_ is not None:
-            for statement, scope in scoped(self.function):
-                context = Context(self.classes, self.class_, scope)
-                found.append((statement, context))
-                found += [(part, context) for expr in own_exprs(statement) for part in parts(expr)]
+    def body(self) -> list[Statement]:
+        """The statements of the function."""
+        return list(statements(self.function.body)) if self.function else []
+
+    @cached_property
+    def nodes(self) -> list[Statement | Expr]:
+        """The statements and expressions of the function."""
+        found: list[Statement | Expr] = []
+        for statement in self.body:
+            found += [statement, *(part for expr in own_exprs(statement) for part in parts(expr))]
         return found
 
+    def type_of(self, step: Step) -> Type:
+        """The type of what a name of a path stands for, or of its result."""
+        return step_type(step, self.acting[0])
 
-def read(source: Source) -> File:
-    """The tree of a file; a file without one has no classes."""
-    try:
-        return parse(source)
-    except SyntaxFault:
-        return File(source, ())
+    def text_of(self, step: Step) -> str:
+        """That type as a text names it."""
+        return step_text(step, self.acting[0])
+
+    def extent(self, expr: Expr) -> int:
+        """How many bytes an expression has."""
+        return self.elements.token(self.elements.last(expr)).end - begin(expr)[1]

@@ -2,6 +2,7 @@
 from collections.abc import Callable
 
 from ..base.limits import MOST_DEPTH, MOST_TOKENS
+from ..ulam.expected import CAPITAL_NAME, SMALL_NAME
 from .fault import Fault, Hint
 
 SMALL_TYPES = frozenset("int void bool boolean unsigned bits atom auto char long short float double string unary uint "
@@ -10,7 +11,6 @@ WORDS_BEFORE = frozenset("const static public private protected final inline exp
 OF_TYPES = frozenset("maxof minof sizeof lengthof classidof positionof".split())
 CHANGES = frozenset("= += -= *= /= %= &= |= ^= <<= >>= ++ --".split())
 BRACKET = "a bracket that is missing, or one too many"
-SMALL_NAME, CAPITAL_NAME = "a name with a small letter", "a name with a capital letter"
 MISSING = {
     "an expression": "a value that is missing", "a number or a constant": "a value that is missing",
     "`)`": BRACKET, "`]`": BRACKET, SMALL_NAME: "a name that is missing", CAPITAL_NAME: "a name that is missing",

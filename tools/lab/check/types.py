@@ -1,15 +1,14 @@
 """What is said of types that the program refuses (E50 to E60)."""
-from ..ulam.classes import LIBRARY, NUMBER_WIDTHS, RANDOM, WINDOW, Type
-from ..ulam.scopes import Context
-from ..ulam.tree import (
-    Assign, AsTest, Binary, Call, Cast, Data, Declare, Do, Expr, Function, If, IsTest, Item, Loop, Number, Path, Prefixed,
-    Return, Statement)
-from ..ulam.types import BOOL, PLAIN, type_of
+from ..ulam.reader import (
+    ARGUMENTS, LIBRARY, MOST_PLAIN_INT, family, is_assignable, is_plain, type_text)
+from ..ulam.trees import (
+    BOOL, RANDOM, VOID, WINDOW, As, Assign, Call, Cast, Declare, Do, Expr, Field, Function, If, Index, Is, Local, Loop, Number,
+    NumberType, Pair, Path, PlainType, Prefix, Return, Seen, Statement, Type, begin, local_of)
 from .fault import Fault, Hint
 
 BIT_SIGNS = frozenset("& | ^ << >>".split())
 NO_VALUE = "a quark, an array, a function or a call without a result as a value"
-MAX_INT = 2**31 - 1
+BAD_SITE = "an index or a site that isn't a number"
 
 
 def hint_of_types(fault: Fault) -> Hint:
@@ -19,9 +18,11 @@ def hint_of_types(fault: Fault) -> Hint:
     return find[fault.refused.code](fault)
 
 
-def named(type_: Type | None) -> str:
-    """A type as a text names it."""
-    return "no value" if type_ is None else f"`{type_}`" if type_ != PLAIN else "a plain number"
+def named(expr: Expr | None) -> str:
+    """The type of an expression as a text names it."""
+    if expr is None or expr.type is VOID:
+        return "no value"
+    return "a plain number" if is_plain(expr) else f"`{type_text(expr.type)}`"
 
 
 def mark(fault: Fault) -> int:
@@ -31,14 +32,13 @@ def mark(fault: Fault) -> int:
 
 def mixed(fault: Fault) -> Hint:
     """Int with Unsigned."""
-    for node, context in fault.nodes:
-        if isinstance(node, Binary) and fault.is_at(node.sign):
-            return Hint(f"left {named(type_of(node.left, context))}, right {named(type_of(node.right, context))}",
-                        "`Int` and `Unsigned` in one operation", mark(fault))
-        if isinstance(node, Assign) and fault.is_at(node.first) and node.value is not None and node.sign.text != "=":
-            return Hint(f"left {named(type_of(node.place, context))}, right {named(type_of(node.value, context))}",
-                        "`Int` and `Unsigned` in one operation", mark(fault))
-    return Hint("", "`Int` and `Unsigned` in one operation", mark(fault))
+    form = "`Int` and `Unsigned` in one operation"
+    for node in fault.nodes:
+        if isinstance(node, Pair) and node.at == fault.spot:
+            return Hint(f"left {named(node.left)}, right {named(node.right)}", form, mark(fault))
+        if isinstance(node, Assign) and node.left.at == fault.spot and node.sign:
+            return Hint(f"left {named(node.left)}, right {named(node.value)}", form, mark(fault))
+    return Hint("", form, mark(fault))
 
 
 def wrong_type(fault: Fault) -> Hint:
@@ -46,14 +46,11 @@ def wrong_type(fault: Fault) -> Hint:
     declared = bad_declaration(fault)
     if declared is not None:
         return declared
-    for node, context in fault.nodes:
-        found = at_sign(fault, node, context)
-        if found is not None:
-            return found
-    for node, context in fault.nodes:
-        found = at_first(fault, node, context)
-        if found is not None:
-            return found
+    for find in (at_sign, at_first):
+        for node in fault.nodes:
+            found = find(fault, node)
+            if found is not None:
+                return found
     return Hint("", "", mark(fault))
 
 
@@ -62,43 +59,46 @@ def bad_declaration(fault: Fault) -> Hint | None:
     if fault.token.kind != "type":
         return None
     kind, size = fault.token.text, mark(fault)
-    if kind in (WINDOW, RANDOM):
+    if kind in (WINDOW.name, RANDOM.name):
         return Hint(f"`{kind}` is for data members", "an `EventWindow` or a `Random` as a local or a parameter", size)
-    if kind in fault.classes.by_name and not fault.classes.is_element(kind):
+    if kind in fault.elements.line.first and fault.elements.line.first[kind].is_quark:
         return Hint(f"`{kind}` is a quark", "locals of a quark type", size)
     return Hint(f"`{kind}` isn't allowed here", "a local, a parameter or a result of a type that it can't have", size)
 
 
-def at_sign(fault: Fault, node: Statement | Expr, context: Context) -> Hint | None:
+def at_sign(fault: Fault, node: Statement | Expr) -> Hint | None:
     """An operator at the place, with the types of its operands."""
     match node:
-        case Binary() if fault.is_at(node.sign):
-            left, right = type_of(node.left, context), type_of(node.right, context)
-            form = sign_form(node.sign.text, left, right)
-            return Hint(f"left {named(left)}, right {named(right)}", form, mark(fault))
-        case IsTest() if fault.is_at(node.sign):
-            return Hint(f"left {named(type_of(node.left, context))}, expected an atom",
-                        "`is` of something that isn't an atom", mark(fault))
-        case Prefixed() if fault.is_at(node.sign) and (form := prefix_form(node, context)):
-            return Hint(f"before {named(type_of(node.operand, context))}", form, mark(fault))
-        case Assign() if fault.is_at(node.first) and node.sign.text != "=":
-            left = type_of(node.place, context)
-            right = PLAIN if node.value is None else type_of(node.value, context)
-            form = sign_form(node.sign.text.removesuffix("=")[:2], left, right)
-            return Hint(f"`{node.sign.text}` on {named(left)} and {named(right)}", form, mark(fault))
-        case Return() if fault.is_at(node.first):
-            result = named(context.classes.type(context.class_, fault.function.type)) if fault.function else ""
+        case Pair() if node.at == fault.spot:
+            return Hint(f"left {named(node.left)}, right {named(node.right)}", sign_form(node.sign, node.left, node.right),
+                        mark(fault))
+        case Is() if node.at == fault.spot:
+            return Hint(f"left {named(node.value)}, expected an atom", "`is` of something that isn't an atom", mark(fault))
+        case Prefix() if node.at == fault.spot and (form := prefix_form(node)):
+            return Hint(f"before {named(node.value)}", form, mark(fault))
+        case Assign() if node.left.at == fault.spot and node.sign and node.left.type is not VOID:
+            return Hint(f"`{sign_of(fault, node)}` on {named(node.left)} and {named(node.value)}",
+                        sign_form(node.sign, node.left, node.value), mark(fault))
+        case Return() if node.at == fault.spot:
+            result = f"`{type_text(fault.function.of.type)}`" if fault.function else ""
             what = "with a value" if node.value is not None else "without a value"
             return Hint(f"{what}; the function's result is {result}",
                         "`return` without a value, or with one in a `Void` function", mark(fault))
     return None
 
 
-def sign_form(sign: str, left: Type | None, right: Type | None) -> str:
-    """Which form an operator on two types has."""
-    if left is None or right is None or "Void" in (left.kind, right.kind):
+def sign_of(fault: Fault, node: Assign) -> str:
+    """The operator of an assignment as it is written: behind its left side, or before that."""
+    elements = fault.elements
+    behind = elements.token(elements.behind(elements.last(node.left))).text
+    return behind if behind.endswith("=") or behind in ("++", "--") else 2 * node.sign
+
+
+def sign_form(sign: str, left: Expr, right: Expr) -> str:
+    """Which form an operator on two operands has."""
+    if VOID in (left.type, right.type):
         return NO_VALUE
-    kinds = {left.family, right.family} - {"plain"}
+    kinds = {family(it.type) or type_text(it.type) for it in (left, right) if not is_plain(it)}
     if sign in ("&&", "||"):
         return "a number with `!`, `&&` or `||`"
     if sign in ("<<", ">>") and kinds == {"Bits"}:
@@ -106,208 +106,154 @@ def sign_form(sign: str, left: Type | None, right: Type | None) -> str:
     if sign in BIT_SIGNS:
         return "`&`, `|`, `^`, `~`, `<<` or `>>` of a number"
     if sign in ("==", "!="):
-        is_number = all(kind in NUMBER_WIDTHS for kind in kinds)
+        is_number = all(is_plain(it) or family(it.type) for it in (left, right))
         return "`==` or `!=` of two kinds" if is_number else "`==` of atoms"
     return "arithmetic or order of `Bits`, `Bool` or atoms"
 
 
-def prefix_form(node: Prefixed, context: Context) -> str:
+def prefix_form(node: Prefix) -> str:
     """Which form an operator before an operand of a type has; empty if the operand has a right type."""
-    operand = type_of(node.operand, context)
-    kind = operand.family if operand is not None else ""
-    sign = node.sign.text
-    if sign == "!" and kind != "Bool":
+    kind = "plain" if is_plain(node.value) else family(node.value.type)
+    if node.sign == "!" and kind != "Bool":
         return "a number with `!`, `&&` or `||`"
-    if sign == "~" and kind != "Bits":
+    if node.sign == "~" and kind != "Bits":
         return "`&`, `|`, `^`, `~`, `<<` or `>>` of a number"
-    if sign == "-" and kind not in ("Int", "plain"):
+    if node.sign == "-" and kind not in ("Int", "plain"):
         return "`-` before an Unsigned" if kind == "Unsigned" else "arithmetic or order of `Bits`, `Bool` or atoms"
     return ""
 
 
-def at_first(fault: Fault, node: Statement | Expr, context: Context) -> Hint | None:
+def at_first(fault: Fault, node: Statement | Expr) -> Hint | None:
     """Something at the place whose first token is there."""
-    if isinstance(node, (If, Loop)) and node.condition is not None and fault.is_at(node.condition.first):
-        met = type_of(node.condition, context)
-        if met != BOOL and met is not None and not is_no_value(node.condition, context):
-            return Hint(f"met {named(met)}, expected `Bool`", "a condition that isn't a `Bool`", extent(node.condition))
-    if not isinstance(node, Expr) or not fault.is_at(node.first):
+    if isinstance(node, (If, Loop)) and node.condition is not None and begin(node.condition) == fault.spot:
+        if node.condition.type not in (BOOL, VOID):
+            return Hint(f"met {named(node.condition)}, expected `Bool`", "a condition that isn't a `Bool`",
+                        fault.extent(node.condition))
+    if not isinstance(node, Expr) or begin(node) != fault.spot:
         return None
     match node:
         case Cast():
-            inner = type_of(node.operand, context)
-            is_from = inner is not None and not inner.is_number and inner != PLAIN
-            return Hint(f"a cast from {named(inner)}" if is_from else f"a cast to `{node.type}`",
-                        "a cast to or from an atom or an element", extent(node))
-        case Number() if node.token.number > MAX_INT:
-            return Hint(f"taken as an Int, which is at most {MAX_INT}", "a number above 2147483647 as an Int", mark(fault))
-        case Item():
-            return item(node, context)
+            is_from = not isinstance(node.value.type, NumberType)
+            return Hint(f"a cast from {named(node.value)}" if is_from else f"a cast to `{type_text(node.of.type)}`",
+                        "a cast to or from an atom or an element", fault.extent(node))
+        case Number() if node.value > MOST_PLAIN_INT:
+            return Hint(f"taken as an Int, which is at most {MOST_PLAIN_INT}", "a number above 2147483647 as an Int", mark(fault))
+        case Index():
+            return item(fault, node)
         case Call():
-            return call(node, context)
-        case Path() if is_no_value(node, context):
-            return Hint(f"`{node.last.text}` is {what_is(node, context)}, which is no value", NO_VALUE, extent(node))
+            return call(fault, node)
+        case Path() if (what := what_is(fault, node)):
+            return Hint(f"`{last_name(node)}` is {what}, which is no value", NO_VALUE, fault.extent(node))
     return None
 
 
-def extent(expr: Expr) -> int:
-    """How many bytes an expression has."""
-    return expr.last.end - expr.first.at
+def last_name(path: Path) -> str:
+    """The last name of a path."""
+    return path.words[-1].text if path.words else "self"
 
 
-def what_is(path: Path, context: Context) -> str:
-    """What a path leads to, in words."""
-    step = context.steps(path)[-1:]
-    if not step:
+def what_is(fault: Fault, path: Path) -> str:
+    """What a path leads to that is no value, in words; empty if it is one."""
+    if not path.steps:
         return "nothing"
-    if isinstance(step[0].member, Function) or (step[0].owner is None and step[0].local is None):
+    last = path.steps[-1]
+    if isinstance(last, (Function, str)):
         return "a function"
-    if step[0].type.length:
-        return f"an array (`{step[0].type}`)"
-    if step[0].type.kind in LIBRARY:
-        return f"of type `{step[0].type}`"
-    return f"a quark (`{step[0].type}`)"
+    kind, text = fault.type_of(last), f"`{fault.text_of(last)}`"
+    if isinstance(last, Field) and last.length:
+        return f"an array ({text})"
+    if kind in LIBRARY:
+        return f"of type {text}"
+    return "" if isinstance(kind, (NumberType, PlainType)) or not kind.is_quark else f"a quark ({text})"
 
 
-def is_no_value(expr: Expr, context: Context) -> bool:
-    """Whether a path leads to a quark, an array, a function or the like."""
-    if not isinstance(expr, Path):
-        return False
-    steps = context.steps(expr)
-    if len(steps) < len(expr.names):
-        return False
-    kind = steps[-1].type.kind
-    is_quark = kind in context.classes.by_name and not context.classes.is_element(kind)
-    is_function = isinstance(steps[-1].member, Function) or steps[-1].name.text in LIBRARY.get(
-        steps[-2].type.kind if len(steps) > 1 else "", ())
-    return is_quark or is_function or steps[-1].type.length > 0 or kind in LIBRARY
-
-
-def item(node: Item, context: Context) -> Hint | None:
+def item(fault: Fault, node: Index) -> Hint | None:
     """What is wrong with an index."""
-    of, index = type_of(node.path, context), type_of(node.index, context)
-    if of is None or (of.kind != WINDOW and not of.length):
-        return Hint(f"`{node.path.last.text}` is of type {named(of)}", "an index behind something that has none",
-                    extent(node.path))
-    if index is None or index.family not in ("Int", "Unsigned", "plain"):
-        return Hint(f"the index is {named(index)}, expected an Int or an Unsigned",
-                    "an index or a site that isn't a number", extent(node))
+    of = node.path.steps[-1]
+    if not isinstance(of, Field) or (of.of.type is not WINDOW and not of.length):
+        return Hint(f"`{last_name(node.path)}` is of type `{fault.text_of(of)}`", "an index behind something that has none",
+                    fault.extent(node.path))
+    if not is_count(node.index):
+        return Hint(f"the index is {named(node.index)}, expected an Int or an Unsigned", BAD_SITE, fault.extent(node))
     return None
 
 
-def call(node: Call, context: Context) -> Hint | None:
+def is_count(expr: Expr) -> bool:
+    """Whether an expression is an Int, an Unsigned or a plain number."""
+    return is_plain(expr) or family(expr.type) in ("Int", "Unsigned")
+
+
+def call(fault: Fault, node: Call) -> Hint | None:
     """What is wrong with a call."""
-    steps = context.steps(node.path)
-    if len(steps) < len(node.path.names):
-        return None
-    last, owner = steps[-1], steps[-2].type.kind if len(steps) > 1 else ""
-    is_library = last.name.text in LIBRARY.get(owner, ())
-    if not is_library and not isinstance(last.member, Function):
-        return Hint(f"`{last.name.text}` is no function but of type {named(last.type)}",
-                    "a call of what isn't a function", extent(node.path))
-    if steps[0].local is not None and not is_library:
-        return Hint(f"`{steps[0].name.text}` is a local",
-                    "a call of another element's function through a local (`other.grow()`)", extent(node.path))
-    kinds = [type_of(argument, context) for argument in node.arguments]
-    if is_library and owner == RANDOM:
-        return Hint(f"the argument is {named(kinds[0] if kinds else None)}, expected an Unsigned or a plain number",
-                    "a random number below an Int", extent(node))
-    if is_library and any(kind is None or kind.family not in ("Int", "Unsigned", "plain") for kind in kinds):
-        return Hint(f"met {', '.join(map(named, kinds))}, expected site numbers",
-                    "an index or a site that isn't a number", extent(node))
-    if last.type.kind == "Void":
-        return Hint(f"`{last.name.text}` has no result", NO_VALUE, extent(node))
+    last, size = node.path.steps[-1], fault.extent(node)
+    if not isinstance(last, (str, Function)):
+        return Hint(f"`{last_name(node.path)}` is no function but of type `{fault.text_of(last)}`",
+                    "a call of what isn't a function", fault.extent(node.path))
+    if local_of(node.path) is not None:
+        return Hint(f"`{node.path.words[0].text}` is a local",
+                    "a call of another element's function through a local (`other.grow()`)", fault.extent(node.path))
+    if isinstance(last, str) and last in LIBRARY[RANDOM] and node.args and family(node.args[0].type) != "Unsigned":
+        return Hint(f"the argument is {named(node.args[0])}, expected an Unsigned or a plain number",
+                    "a random number below an Int", size)
+    if isinstance(last, str) and last in LIBRARY[WINDOW] and not all(map(is_count, node.args)):
+        return Hint(f"met {', '.join(map(named, node.args))}, expected site numbers", BAD_SITE, size)
+    if fault.type_of(last) is VOID:
+        return Hint(f"`{last_name(node.path)}` has no result", NO_VALUE, size)
     return None
 
 
 def not_assignable(fault: Fault) -> Hint:
     """A value that can't be assigned to its target."""
-    for node, context in fault.nodes:
+    for node in fault.nodes:
         match node:
-            case Assign() if fault.is_at(node.first):
-                if not can_change(node.place, context):
-                    return Hint(f"{named_place(node.place)} can't be assigned to",
-                                "a left side that can't be assigned to", extent(node.place))
-                return pair(type_of(node.place, context), PLAIN if node.value is None else type_of(node.value, context),
-                            extent(node.place))
-            case Declare() if fault.is_at(node.name):
-                value = type_of(node.value, context) if node.value is not None else None
-                return pair(context.classes.type(context.class_, node.type), value, mark(fault))
-            case Return() if fault.is_at(node.first) and fault.function is not None:
-                value = type_of(node.value, context) if node.value is not None else None
-                return pair(context.classes.type(context.class_, fault.function.type), value, mark(fault))
-            case Do() if fault.is_at(node.first):
-                return argument(node.call, context)
-            case Call() if fault.is_at(node.first):
-                return argument(node, context)
+            case Assign() if node.left.at == fault.spot:
+                size = fault.extent(node.left)
+                if node.left.type is VOID:
+                    path = node.left.path if isinstance(node.left, Index) else node.left
+                    return Hint(f"`{last_name(path)}` can't be assigned to", "a left side that can't be assigned to", size)
+                return pair(node.left.type, node.value, size)
+            case Declare() if node.word.at == fault.spot:
+                return pair(node.of.type, node.value, mark(fault))
+            case Return() if node.at == fault.spot and fault.function is not None:
+                return pair(fault.function.of.type, node.value, mark(fault))
+            case Do() if node.call.at == fault.spot:
+                return argument(fault, node.call)
+            case Call() if node.at == fault.spot:
+                return argument(fault, node)
     return Hint("", "", mark(fault))
 
 
-def named_place(place: Expr) -> str:
-    """A left side in words."""
-    last = place.path.last if isinstance(place, Item) else place.last
-    return f"`{last.text}`"
-
-
-def can_change(place: Expr, context: Context) -> bool:
-    """Whether a left side can be assigned to: a local, a number member, an item of an array or of the window."""
-    if isinstance(place, Item):
-        return True
-    steps = context.steps(place) if isinstance(place, Path) else []
-    last = steps[-1] if steps else None
-    if last is None:
-        return False
-    return last.local is not None or (isinstance(last.member, Data) and last.type.is_number)
-
-
-def pair(target: Type | None, value: Type | None, size: int) -> Hint:
-    """Two types of which the second can't be assigned to the first."""
-    label = f"met {named(value)}, expected {named(target)}"
-    kinds = [it.family if it is not None else "" for it in (target, value)]
+def pair(target: Type, value: Expr | None, size: int) -> Hint:
+    """A type to which a value can't be assigned."""
+    label = f"met {named(value)}, expected `{type_text(target)}`"
+    kinds = ["Int" if value is not None and is_plain(value) else family(value.type if value else None), family(target)]
     if "Bool" in kinds:
         form = "a truth value for a number, or a number for a `Bool`"
-    elif all(kind in NUMBER_WIDTHS or kind == "plain" for kind in kinds):
+    elif all(kinds):
         form = "a value of another class of numbers"
     else:
         form = "an `Atom` for an element, or an atom for a number"
     return Hint(label, form, size)
 
 
-def argument(node: Call, context: Context) -> Hint:
+def argument(fault: Fault, node: Call) -> Hint:
     """The first argument that can't be assigned to its parameter."""
-    form = "an argument of another type than its parameter"
-    steps = context.steps(node.path)
-    member = steps[-1].member if steps else None
-    owner = steps[-1].owner if steps else None
-    if not isinstance(member, Function) or owner is None:
-        return Hint("", form, extent(node))
-    for given, parameter in zip(node.arguments, member.parameters):
-        met, wanted = type_of(given, context), context.classes.type(owner, parameter.type)
-        if not fits(met, wanted):
-            return Hint(f"`{parameter.name.text}` gets {named(met)}, expected {named(wanted)}", form, extent(node))
-    return Hint("", form, extent(node))
-
-
-def fits(met: Type | None, wanted: Type) -> bool:
-    """Whether a value can be assigned to a type."""
-    if met is None:
-        return False
-    if met == PLAIN:
-        return wanted.is_number and wanted.kind != "Bool"
-    return met.family == wanted.family or (wanted.kind == "Atom" and not met.is_number)
+    form, called = "an argument of another type than its parameter", node.path.steps[-1]
+    for given, (of, word) in zip(node.args, called.params if isinstance(called, Function) else ()):
+        if not is_assignable(given.type, of.type):
+            return Hint(f"`{word.text}` gets {named(given)}, expected `{type_text(of.type)}`", form, fault.extent(node))
+    return Hint("", form, fault.extent(node))
 
 
 def arguments(fault: Fault) -> Hint:
     """A call with too many or too few arguments."""
-    for node, context in fault.nodes:
-        if isinstance(node, Call) and fault.is_at(node.first):
-            steps = context.steps(node.path)
-            member = steps[-1].member if steps else None
-            wanted = 2 if node.path.last.text == "swap" else 1
-            wanted = len(member.parameters) if isinstance(member, Function) else wanted
-            if len(node.arguments) != wanted:
-                return Hint(f"met {count(len(node.arguments))}, expected {wanted}", "too many or too few arguments",
-                            extent(node))
+    for node in fault.nodes:
+        if isinstance(node, Call) and node.at == fault.spot and node.path.steps:
+            called = node.path.steps[-1]
+            wanted = len(called.params) if isinstance(called, Function) else ARGUMENTS.get(last_name(node.path), 1)
+            if len(node.args) != wanted:
+                return Hint(f"met {count(len(node.args))}, expected {wanted}", "too many or too few arguments",
+                            fault.extent(node))
     return Hint("", "too many or too few arguments", mark(fault))
 
 
@@ -319,15 +265,13 @@ def count(number: int) -> str:
 def not_an_element(fault: Fault) -> Hint:
     """A type that isn't an element, or a name before `as` that isn't an Atom."""
     name = fault.token.text
-    for node, context in fault.nodes:
-        test = node.condition if isinstance(node, If) else None
-        if isinstance(test, AsTest) and fault.is_at(test.name):
-            step = context.first(test.name)
-            is_local = step is not None and step.local is not None
-            kind = named(step.type if step else None)
-            return Hint(f"`{name}` is {'of type ' + kind if is_local else 'no local'}",
+    for node in fault.nodes:
+        if isinstance(node, As) and node.at == fault.spot:
+            step = node.path.steps[0]
+            is_local = isinstance(step, (Local, Seen))
+            return Hint(f"`{name}` is {f'of type `{fault.text_of(step)}`' if is_local else 'no local'}",
                         "`as` after something that isn't a local of type `Atom`", mark(fault))
-    if name in fault.classes.by_name and fault.text(1) != ".":
+    if name in fault.elements.line.first and fault.text(1) != ".":
         return Hint(f"`{name}` is a quark", "`a is Q`, `a as Q` with a quark", mark(fault))
     form = "`is`, `as` or `instanceof` with something that isn't an element"
     return Hint(f"`{name}` is no element", form, mark(fault))
@@ -340,8 +284,7 @@ def no_loop(fault: Fault) -> Hint:
 
 def no_return(fault: Fault) -> Hint:
     """A function with a result whose end can be reached."""
-    result = f", which gives {named(fault.classes.type(fault.class_, fault.function.type))}" \
-        if fault.function and fault.class_ else ""
+    result = f", which gives `{type_text(fault.function.of.type)}`" if fault.function else ""
     return Hint(f"the end of `{fault.token.text}`{result}, can be reached",
                 "a path through a function that returns nothing", mark(fault))
 

@@ -2,10 +2,10 @@
 from collections.abc import Sequence
 from difflib import get_close_matches
 
-from ..ulam.classes import Classes
 from ..ulam.nearby import has_class
+from ..ulam.reader import Elements
 from ..ulam.tokens import Source, Token
-from .fault import RefusalLine, Hint, read
+from .fault import RefusalLine, Hint
 
 
 def hint_of_world(refused: RefusalLine, world: Source, files: Sequence[Source]) -> Hint:
@@ -28,8 +28,7 @@ def hint_of_world(refused: RefusalLine, world: Source, files: Sequence[Source]) 
 def unknown(line: str, files: Sequence[Source]) -> str:
     """Which elements there are in place of one that no file has."""
     name = line.split(" ")[3]
-    classes = Classes([read(source) for source in files])
-    elements = [it.name.text for it in classes.all() if it.keyword.text == "element"]
+    elements = [it.word.text for it in Elements(files).classes if not it.is_quark]
     beside = has_class(name, files)
     if beside:
         return f"no file that is given has it{beside}"

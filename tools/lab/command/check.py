@@ -17,11 +17,10 @@ from pathlib import Path
 from ..base.errors import LabError
 from ..base.files import cause, read_byte_text
 from ..base.program import Program, Refusal
-from ..check.fault import RefusalLine, read
+from ..check.fault import RefusalLine
 from ..check.given import Given
 from ..check.shown import refusal_lines, warned_lines
 from ..lint.every import warnings
-from ..ulam.classes import Classes
 from ..ulam.tokens import Source
 
 STRICT = 1
@@ -52,7 +51,7 @@ def run(arguments: argparse.Namespace) -> int:
             raise
         write(refusal_lines(refused, given))
         return REFUSED
-    found = warnings(Classes([read(source) for source in given.files]))
+    found = warnings(given.files)
     for warned in found:
         write([*warned_lines(warned), ""])
     write([f"accepted, with {len(found)} warning{'' if len(found) == 1 else 's'}" if found else "accepted"])

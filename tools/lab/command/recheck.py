@@ -2,8 +2,9 @@
 
 It reads the element files and the world anew, by the pages of docs/, makes each event of the report by the
 meaning of its element's source, and writes what `feast audit` writes: `yes`, or the first thing that is wrong. With
---step it writes the stepped report of the world itself. Refusals are those of the program, with the same statuses.
-It runs under PyPy (pypy3), where that is there.
+--step it writes the stepped report of the world itself. WORLD may be a chain (a file that begins with `chain 1`), whose
+whole and short reports are judged leg by leg. Refusals are those of the program, with the same statuses. It runs
+under PyPy (pypy3), where that is there.
 """
 import argparse
 import shutil
@@ -19,7 +20,8 @@ FOLDER = Path(__file__).resolve().parents[2] / "recheck"
 def add_arguments(parser: argparse.ArgumentParser) -> None:
     """The words of the verb."""
     parser.add_argument("--step", action="store_true", help="write the stepped report of WORLD; there is no REPORT then")
-    parser.add_argument("files", metavar="WORLD [REPORT] FILE", nargs="+", help="the world, the report and the element files")
+    parser.add_argument("files", metavar="WORLD [REPORT] FILE", nargs="+",
+                        help="the world or the chain, the report, and the element files")
 
 
 def run(arguments: argparse.Namespace) -> int:

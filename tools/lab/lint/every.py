@@ -1,8 +1,10 @@
 """Warnings of element files that the program accepts."""
-from collections.abc import Callable, Iterator
+from collections.abc import Callable, Iterator, Sequence
 
-from ..ulam.classes import Classes
+from ..base.errors import LabError
 from ..ulam.ranges import Known
+from ..ulam.reader import Elements
+from ..ulam.tokens import Source
 from . import hidden, loops, moves, numbers, unused
 from .warned import Warned
 
@@ -10,9 +12,13 @@ FINDERS: tuple[Callable[[Known], Iterator[Warned]], ...] = (
     moves.warnings, numbers.warnings, loops.warnings, unused.warnings, hidden.warnings)
 
 
-def warnings(classes: Classes) -> list[Warned]:
+def warnings(sources: Sequence[Source]) -> list[Warned]:
     """The warnings of all files, each place and name once, in the order of the text."""
-    known = Known(classes)
-    order = {id(file.source): number for number, file in enumerate(classes.files)}
+    elements = Elements(sources)
+    if elements.refused is not None:
+        raise LabError(f"{elements.where(elements.refused.spot)}: the program accepts this, and the second reader refuses it "
+                       f"with E{elements.refused.code}")
+    known = Known(elements)
+    order = {id(source): number for number, source in enumerate(sources)}
     found = {(order[id(it.token.source)], it.token.at, it.name): it for find in FINDERS for it in find(known)}
     return [found[key] for key in sorted(found)]

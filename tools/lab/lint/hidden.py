@@ -1,58 +1,75 @@
 """Names that hide others."""
-from collections.abc import Iterator
+from collections.abc import Iterator, Mapping
 
-from ..ulam.classes import Classes
 from ..ulam.ranges import Known
-from ..ulam.scopes import Scope, scoped
-from ..ulam.tokens import Token
-from ..ulam.tree import Class, Constant, Data, Declare, Function, Path, Typedef, own_exprs, parts
+from ..ulam.reader import Elements
+from ..ulam.trees import (
+    Block, Class, Constant, Declare, Field, Function, If, Loop, Path, Statement, Typedef, Word, own_exprs, parts, statements)
 from .warned import Warned
 
 NAME = "hidden"
+Scope = Mapping[str, Word]
 
 
 def warnings(known: Known) -> Iterator[Warned]:
     """The typedefs that hide classes, and the locals that hide constants, members, functions or other locals."""
-    classes = known.classes
-    for class_ in classes.all():
-        for member in class_.members:
-            other = classes.by_name.get(member.name.text)
-            if isinstance(member, Typedef) and other is not None:
-                yield Warned(NAME, member.name, f"the typedef `{member.name.text}` hides the class of this name",
-                             ((other.name, "the class"),))
-        for function in classes.functions(class_):
-            yield from of_function(classes, class_, function)
+    elements = known.elements
+    for class_ in elements.classes:
+        for member in elements.own[class_]:
+            name = member.word.text
+            if isinstance(member, Typedef) and name in elements.line.first:
+                other = elements.line.first[name].word
+                yield Warned(NAME, elements.token(member.word.at), f"the typedef `{name}` hides the class of this name",
+                             ((elements.token(other.at), "the class"),))
+    for class_, function in elements.all_functions():
+        own = set(names_behind_self(function))
+        for local, outer in declared(function):
+            yield from of_local(elements, class_, own, local, outer)
 
 
-def of_function(classes: Classes, class_: Class, function: Function) -> Iterator[Warned]:
-    """The locals and parameters of a function that hide something."""
-    own = {name.text for name in names_behind_self(function)}
-    for parameter in function.parameters:
-        yield from of_local(classes, class_, own, parameter, {})
-    for statement, scope in scoped(function):
-        if isinstance(statement, Declare):
-            yield from of_local(classes, class_, own, statement, scope)
-
-
-def names_behind_self(function: Function) -> Iterator[Token]:
+def names_behind_self(function: Function) -> Iterator[str]:
     """The names straight behind `self`, which no local hides."""
-    for statement, _ in scoped(function):
+    for statement in statements(function.body):
         for expr in own_exprs(statement):
             for part in parts(expr):
-                if isinstance(part, Path) and part.first.text == "self":
-                    yield from part.names[1:2]
+                if isinstance(part, Path) and part.is_own and part.words:
+                    yield part.words[0].text
 
 
-def of_local(classes: Classes, class_: Class, own: set[str], local: Declare, scope: Scope) -> Iterator[Warned]:
+def declared(function: Function) -> Iterator[tuple[Word, Word | None]]:
+    """The parameters and locals of a function, each with the one of the same name that is known where it is declared."""
+    for _, word in function.params:
+        yield word, None
+    yield from declared_in([function.body], {word.text: word for _, word in function.params})
+
+
+def declared_in(body: list[Statement | None], outer: Scope) -> Iterator[tuple[Word, Word | None]]:
+    """The locals of statements that have a scope of their own."""
+    scope = dict(outer)
+    for it in body:
+        match it:
+            case Declare():
+                yield it.word, scope.get(it.word.text)
+                scope[it.word.text] = it.word
+            case Block():
+                yield from declared_in([*it.body], scope)
+            case If():
+                yield from declared_in([it.yes], scope)
+                yield from declared_in([it.no], scope)
+            case Loop():
+                yield from declared_in([it.first, it.body, it.step], scope)
+
+
+def of_local(elements: Elements, class_: Class, own: set[str], local: Word, outer: Word | None) -> Iterator[Warned]:
     """The warning of a local that hides something; a member that is used by `self` is hidden on purpose."""
-    name = local.name.text
-    outer, member = scope.get(name), classes.find(class_, name)
+    name, token = local.text, elements.token(local.at)
+    member = next((it for it in class_.members if it.word.text == name), None)
     if outer is not None:
-        yield Warned(NAME, local.name, f"the local `{name}` hides another local", ((outer.declared.name, "the other"),))
+        yield Warned(NAME, token, f"the local `{name}` hides another local", ((elements.token(outer.at), "the other"),))
     elif isinstance(member, Constant):
-        if member.name.source is not local.name.source or member.name.at < local.name.at:
-            yield Warned(NAME, local.name, f"the local `{name}` hides a constant", ((member.name, "the constant"),))
-    elif isinstance(member, (Data, Function)) and name not in own:
-        what = "member" if isinstance(member, Data) else "function"
-        yield Warned(NAME, local.name, f"the local `{name}` hides a {what} of the class",
-                     ((member.name, f"the {what}"),))
+        if member.word.at[0] != local.at[0] or member.word.at < local.at:
+            yield Warned(NAME, token, f"the local `{name}` hides a constant", ((elements.token(member.word.at), "the constant"),))
+    elif isinstance(member, (Field, Function)) and name not in own:
+        what = "member" if isinstance(member, Field) else "function"
+        yield Warned(NAME, token, f"the local `{name}` hides a {what} of the class",
+                     ((elements.token(member.word.at), f"the {what}"),))

@@ -1,15 +1,13 @@
 """Numbers that can't be meant: sites and indices that aren't there, random numbers of no choice, divisions by 0."""
-from collections.abc import Iterator
+from collections.abc import Iterator, Sequence
 
-from ..ulam.classes import LIBRARY, RANDOM, WINDOW
 from ..ulam.numbers import Range, of_type
 from ..ulam.ranges import Known, Ranges, reached, reached_parts
-from ..ulam.scopes import Context
+from ..ulam.reader import Elements
 from ..ulam.tokens import Token
-from ..ulam.tree import (
-    Assign, Binary, Block, Call, Declare, Do, Expr, Function, Item, Jump, Loop, Path, Return, Statement,
-    own_exprs, parts, statements)
-from ..ulam.types import type_of
+from ..ulam.trees import (
+    WINDOW, Assign, Block, Call, Declare, Do, Expr, Field, Function, Index, Jump, Local, Loop, Pair, Path, Return, Statement,
+    bare, begin, local_of, own_exprs, parts, statements)
 from .warned import Warned
 
 LAST_SITE = 40
@@ -17,42 +15,38 @@ LAST_SITE = 40
 
 def warnings(known: Known) -> Iterator[Warned]:
     """The warnings of all functions, in the classes that declare them."""
-    for function in known.owners:
+    for _, function in known.elements.all_functions():
         yield from of_function(known, function)
 
 
 def of_function(known: Known, function: Function) -> Iterator[Warned]:
     """The warnings of a function."""
-    for statement, where, ranges in reached(known, function):
+    elements, ranges = known.elements, known.ranges(function)
+    for statement in reached(known, function):
         if isinstance(statement, Loop):
-            yield from counted_too_far(statement, ranges, where)
-        if isinstance(statement, Assign) and statement.value is not None and statement.sign.text in ("/=", "%="):
-            yield from division(statement.sign, ranges.of_expr(statement.value, where))
+            yield from counted_too_far(elements, statement, ranges)
+        if isinstance(statement, Assign) and statement.sign in ("/", "%"):
+            sign = elements.behind(elements.last(statement.left))
+            yield from division(elements.token(sign), ranges.of_expr(statement.value))
         for expr in own_exprs(statement):
-            for part in reached_parts(expr, where, ranges):
-                yield from of_expr(part, ranges, where)
+            for part in reached_parts(expr, ranges):
+                yield from of_expr(elements, part, ranges)
 
 
-def of_expr(expr: Expr, ranges: Ranges, where: Context) -> Iterator[Warned]:
+def of_expr(elements: Elements, expr: Expr, ranges: Ranges) -> Iterator[Warned]:
     """The warnings of an expression itself."""
+    for it in site_exprs(expr):
+        yield from site(elements.token(begin(it)), ranges.of_expr(it))
     match expr:
-        case Item():
-            of = type_of(expr.path, where)
-            found = ranges.of_expr(expr.index, where)
-            if of is not None and of.kind == WINDOW:
-                yield from site(expr.index.first, found)
-            elif of is not None and found is not None and (found[0] >= of.length or found[1] < 0):
-                yield Warned("index", expr.index.first, f"the array has {of.length} items, so the event fails here")
-        case Call():
-            steps = where.steps(expr.path)
-            owner = steps[-2].type.kind if len(steps) == len(expr.path.names) > 1 else ""
-            for argument in expr.arguments:
-                if owner == WINDOW:
-                    yield from site(argument.first, ranges.of_expr(argument, where))
-                elif owner == RANDOM and steps[-1].name.text in LIBRARY[RANDOM]:
-                    yield from draw(expr, ranges.of_expr(argument, where))
-        case Binary() if expr.sign.text in ("/", "%"):
-            yield from division(expr.sign, ranges.of_expr(expr.right, where))
+        case Index() if isinstance(of := expr.path.steps[-1], Field) and of.length:
+            found = ranges.of_expr(expr.index)
+            if found is not None and (found[0] >= of.length or found[1] < 0):
+                yield Warned("index", elements.token(begin(expr.index)),
+                             f"the array has {of.length} items, so the event fails here")
+        case Call() if expr.path.steps[-1] in ("create", "oneIn"):
+            yield from draw(elements.token(expr.path.words[-1].at), ranges.of_expr(expr.args[0]))
+        case Pair() if expr.sign in ("/", "%"):
+            yield from division(elements.token(expr.at), ranges.of_expr(expr.right))
 
 
 def site(token: Token, found: Range | None) -> Iterator[Warned]:
@@ -63,15 +57,14 @@ def site(token: Token, found: Range | None) -> Iterator[Warned]:
                                     "fails here")
 
 
-def draw(call: Call, below: Range | None) -> Iterator[Warned]:
+def draw(name: Token, below: Range | None) -> Iterator[Warned]:
     """A random number of no choice."""
-    name = call.path.last.text
     if below is None or (below[1] >= 1 and below != (1, 1)):
         return
     if below[1] < 1:
-        yield Warned("no-choice", call.path.last, f"`{name}({below[1]})` always fails")
+        yield Warned("no-choice", name, f"`{name.text}({below[1]})` always fails")
     else:
-        yield Warned("no-choice", call.path.last, f"`{name}(1)` is always {'0' if name == 'create' else 'true'}")
+        yield Warned("no-choice", name, f"`{name.text}(1)` is always {'0' if name.text == 'create' else 'true'}")
 
 
 def division(sign: Token, by: Range | None) -> Iterator[Warned]:
@@ -80,74 +73,70 @@ def division(sign: Token, by: Range | None) -> Iterator[Warned]:
         yield Warned("division", sign, "the right side is 0, so the event fails here")
 
 
-def counted_too_far(loop: Loop, ranges: Ranges, where: Context) -> Iterator[Warned]:
+def counted_too_far(elements: Elements, loop: Loop, ranges: Ranges) -> Iterator[Warned]:
     """A loop that counts up to a site that isn't there, and uses each number as one."""
-    name, last = count(loop, ranges, where)
-    if not name or last <= LAST_SITE:
+    local, last = count(loop, ranges)
+    if local is None or last <= LAST_SITE:
         return
     for statement in always(loop.body):
         for expr in own_exprs(statement):
             for part in always_parts(expr):
-                for index in site_exprs(part, where):
-                    if is_name(index, name):
-                        yield Warned("site", index.first, f"`{name}` goes up to {last} here, and a window has the "
-                                                          f"sites 0 to {LAST_SITE}, so the event fails")
+                for index in site_exprs(part):
+                    if name_of(index) == local.word.text:
+                        yield Warned("site", elements.token(begin(index)), f"`{local.word.text}` goes up to {last} here, and a "
+                                     f"window has the sites 0 to {LAST_SITE}, so the event fails")
 
 
-def site_exprs(expr: Expr, where: Context) -> tuple[Expr, ...]:
+def site_exprs(expr: Expr) -> Sequence[Expr]:
     """The site numbers of an expression itself."""
-    if isinstance(expr, Item):
-        of = type_of(expr.path, where)
-        return (expr.index,) if of is not None and of.kind == WINDOW else ()
-    if isinstance(expr, Call):
-        steps = where.steps(expr.path)
-        return expr.arguments if len(steps) > 1 and steps[-2].type.kind == WINDOW else ()
-    return ()
+    if isinstance(expr, Index):
+        of = expr.path.steps[-1]
+        return (expr.index,) if isinstance(of, Field) and of.of.type is WINDOW else ()
+    return expr.args if isinstance(expr, Call) and expr.path.steps[-1] in ("swap", "isLive", "isEmpty") else ()
 
 
-def count(loop: Loop, ranges: Ranges, where: Context) -> tuple[str, int]:
-    """The counter of a loop of the plainest form, and the last number that it has in the body; else an empty name."""
-    test, step, (name, begin) = loop.condition, loop.step, counter(loop.begin, where)
-    if begin is None or not isinstance(test, Binary) or test.sign.text not in ("<", "<=") \
-            or not isinstance(step, Assign) or step.sign.text not in ("++", "+=") \
-            or not (is_name(test.left, name) and is_name(step.place, name)) \
-            or any(is_left(it, name) for it in statements(loop.body)):
-        return "", 0
-    first, limit = number(begin, ranges, where), number(test.right, ranges, where)
-    by = 1 if step.value is None else number(step.value, ranges, where)
-    whole = of_type(type_of(test.left, where))
+def count(loop: Loop, ranges: Ranges) -> tuple[Local | None, int]:
+    """The counter of a loop of the plainest form, and the last number that it has in the body; else None."""
+    test, step, (local, value) = bare(loop.condition) if loop.condition else None, loop.step, counter(loop.first)
+    if local is None or value is None or not isinstance(test, Pair) or test.sign not in ("<", "<=") \
+            or not isinstance(step, Assign) or step.sign != "+" \
+            or {name_of(test.left), name_of(step.left)} != {local.word.text} \
+            or any(is_left(it, local.word.text) for it in statements(loop.body)):
+        return None, 0
+    first, limit, by = number(value, ranges), number(test.right, ranges), number(step.value, ranges)
+    whole = of_type(test.left.type)
     if first is None or limit is None or by is None or by < 1 or whole is None:
-        return "", 0
-    last = limit - (test.sign.text == "<")
+        return None, 0
+    last = limit - (test.sign == "<")
     last = first + (last - first) // by * by
-    return (name, last) if first <= last < whole[1] else ("", 0)
+    return (local, last) if first <= last < whole[1] else (None, 0)
 
 
-def counter(begin: Statement | None, where: Context) -> tuple[str, Expr | None]:
+def counter(first: Statement | None) -> tuple[Local | None, Expr | None]:
     """The local that the first part of a `for` gives a value, and the value; else None."""
-    if isinstance(begin, Declare):
-        return begin.name.text, begin.value
-    if isinstance(begin, Assign) and begin.sign.text == "=" and isinstance(begin.place, Path):
-        name = begin.place.first.text
-        return (name, begin.value) if name in where.scope and len(begin.place.names) == 1 else ("", None)
-    return "", None
+    if isinstance(first, Declare):
+        return first.local, first.value
+    if isinstance(first, Assign) and not first.sign and isinstance(first.left, Path) and name_of(first.left):
+        return local_of(first.left), first.value
+    return None, None
 
 
-def number(expr: Expr, ranges: Ranges, where: Context) -> int | None:
+def number(expr: Expr, ranges: Ranges) -> int | None:
     """The value of an expression that always has the same one."""
-    found = ranges.of_expr(expr, where)
+    found = ranges.of_expr(expr)
     return found[0] if found is not None and found[0] == found[1] else None
 
 
-def is_name(expr: Expr, name: str) -> bool:
-    """Whether an expression is just a name."""
-    return isinstance(expr, Path) and len(expr.names) == 1 and expr.first.text == name
+def name_of(expr: Expr) -> str:
+    """The name that is all of an expression; else empty."""
+    expr = bare(expr)
+    return expr.words[0].text if isinstance(expr, Path) and not expr.is_own and len(expr.words) == 1 else ""
 
 
 def is_left(statement: Statement, name: str) -> bool:
     """Whether a statement may end a loop early, or gives a name another value."""
-    return isinstance(statement, (Jump, Return)) or (isinstance(statement, Assign) and is_name(statement.place, name)) \
-        or (isinstance(statement, Declare) and statement.name.text == name)
+    return isinstance(statement, (Jump, Return)) or (isinstance(statement, Assign) and name_of(statement.left) == name) \
+        or (isinstance(statement, Declare) and statement.word.text == name)
 
 
 def always(statement: Statement) -> Iterator[Statement]:
@@ -163,7 +152,7 @@ def always_parts(expr: Expr) -> Iterator[Expr]:
     """An expression and all that it is made of, but for the right sides of `&&` and `||`."""
     skipped: set[Expr] = set()
     for part in parts(expr):
-        if isinstance(part, Binary) and part.sign.text in ("&&", "||"):
+        if isinstance(part, Pair) and part.sign in ("&&", "||"):
             skipped.update(parts(part.right))
         if part not in skipped:
             yield part

@@ -1,25 +1,20 @@
 """Ranges of numbers, and what operators and casts make of them."""
-from .classes import NUMBER_WIDTHS, Type
+from .trees import NumberType, Type
 
 Range = tuple[int, int]
 EITHER = (0, 1)
 FALSE, TRUE = (0, 0), (1, 1)
 
 
-def of_type(type_: Type | None) -> Range | None:
-    """The numbers of a type; None if it is no number. A plain number stands for an Int."""
-    if type_ is None or type_.length or type_.kind not in (*NUMBER_WIDTHS, "plain"):
-        return None
-    width = type_.width or 32
-    if type_.kind in ("Int", "plain"):
-        return -(1 << width - 1), (1 << width - 1) - 1
-    return 0, width if type_.kind == "Unary" else (1 << width) - 1
+def of_type(type_: Type) -> Range | None:
+    """The numbers of a type; None if it is no number."""
+    return (type_.least(), type_.greatest()) if isinstance(type_, NumberType) else None
 
 
-def cast_to(type_: Type | None, value: Range | None) -> Range | None:
+def cast_to(type_: Type, value: Range | None) -> Range | None:
     """What a range becomes when it is stored in a type."""
     whole = of_type(type_)
-    if whole is None or value is None or type_ is None:
+    if whole is None or value is None or not isinstance(type_, NumberType):
         return whole
     if type_.kind == "Bool":
         return FALSE if value == FALSE else EITHER if value[0] <= 0 <= value[1] else TRUE

@@ -4,83 +4,75 @@ from collections.abc import Iterator
 from dataclasses import dataclass, field
 
 from ..base.limits import MOST_CALLS
-from .classes import LIBRARY, RANDOM, Classes
-from .numbers import FALSE, TRUE, Range, cast_to, combined, joined, of_type
-from .scopes import Context, Scope, Step, scoped
-from .tree import (
-    Assign, Binary, Call, Cast, Class, Constant, Declare, Expr, Function, If, Item, Loop, Number, Path, Prefixed, Return,
-    Statement, Truth, own_exprs, parts, statements)
-from .types import type_of
+from .numbers import EITHER, FALSE, TRUE, Range, cast_to, combined, joined, of_type
+from .reader import Elements
+from .trees import (
+    As, Assign, Call, Cast, Class, Constant, Declare, Expr, Function, Group, If, Index, Local, Loop, Number, Pair, Path,
+    Prefix, Return, Spot, Statement, Truth, local_of, own_exprs, parts, statements)
 
 
 class Known:
     """What the files as a whole tell: the results of functions, and what is given for their parameters.
 
     A virtual function may be that of another class, and one that calls itself gives what it gives: of both only the
-    types are known, and of what is more calls away than an event can nest.
+    types are known, and of what is more calls away than an event can nest. A function that heirs are given too is known
+    by the place of its name.
     """
 
-    def __init__(self, classes: Classes) -> None:
-        self.classes = classes
-        self.owners: dict[Function, Class] = {}
-        self.calls: dict[Function, list[tuple[Call, Context, Function]]] = defaultdict(list)
-        self.all_ranges: dict[Function, Ranges] = {}
-        self.found: dict[Function | Declare, Range | None] = {}
+    def __init__(self, elements: Elements) -> None:
+        self.elements = elements
+        self.owners: dict[Spot, tuple[Class, Function]] = {}
+        self.calls: dict[Spot, list[tuple[Call, Function]]] = defaultdict(list)
+        self.all_ranges: dict[Spot, Ranges] = {}
+        self.found: dict[Spot, Range | None] = {}
         self.depth = 0
-        for class_ in classes.all():
-            for function in classes.functions(class_):
-                self.owners[function] = class_
-                self.note_calls(class_, function)
-
-    def note_calls(self, class_: Class, function: Function) -> None:
-        """Notes the calls that stand in a function."""
-        for statement, scope in scoped(function):
-            where = Context(self.classes, class_, scope)
-            for part in (part for expr in own_exprs(statement) for part in parts(expr)):
-                steps = where.steps(part.path) if isinstance(part, Call) else []
-                if isinstance(part, Call) and steps and isinstance(steps[-1].member, Function):
-                    self.calls[steps[-1].member].append((part, where, function))
+        for class_, function in elements.all_functions():
+            self.owners[function.word.at] = class_, function
+            for part in (part for it in statements(function.body) for expr in own_exprs(it) for part in parts(expr)):
+                if isinstance(part, Call) and isinstance(called := part.path.steps[-1], Function):
+                    self.calls[called.word.at].append((part, function))
 
     def ranges(self, function: Function) -> "Ranges":
         """The ranges in a function."""
-        if function not in self.all_ranges:
-            self.all_ranges[function] = Ranges.of(self, function)
-        return self.all_ranges[function]
+        at = function.word.at
+        if at not in self.all_ranges:
+            self.all_ranges[at] = Ranges.of(self, self.owners[at][1])
+        return self.all_ranges[at]
 
-    def result(self, function: Function) -> Range | None:
+    def result(self, called: Function) -> Range | None:
         """The range of a function's result."""
-        type_ = self.classes.type(self.owners[function], function.type)
-        if self.is_open(function):
+        class_, function = self.owners[called.word.at]
+        at, type_ = function.word.at, function.of.type
+        if self.is_open(class_, function):
             return of_type(type_)
-        if function not in self.found:
-            self.found[function] = of_type(type_)  # for a function that calls itself
+        if at not in self.found:
+            self.found[at] = of_type(type_)  # for a function that calls itself
             self.depth += 1
-            ranges, owner = self.ranges(function), self.owners[function]
-            values = [cast_to(type_, ranges.of_expr(it.value, Context(self.classes, owner, scope)))
-                      for it, scope in scoped(function) if isinstance(it, Return) and it.value is not None]
-            self.found[function] = joined(values) or of_type(type_)
+            ranges = self.ranges(function)
+            values = [cast_to(type_, ranges.of_expr(it.value))
+                      for it in statements(function.body) if isinstance(it, Return) and it.value is not None]
+            self.found[at] = joined(values) or of_type(type_)
             self.depth -= 1
-        return self.found[function]
+        return self.found[at]
 
-    def is_open(self, function: Function) -> bool:
+    def is_open(self, class_: Class, function: Function) -> bool:
         """Whether of a function's calls and results the types alone are known."""
-        return self.depth > MOST_CALLS or self.classes.is_virtual(self.owners[function], function.name.text)
+        return self.depth > MOST_CALLS or self.elements.line.is_virtual(function.word.text, class_)
 
-    def parameter(self, function: Function, parameter: Declare) -> Range | None:
+    def parameter(self, function: Function, parameter: Local) -> Range | None:
         """The range of what the calls of the files give for a parameter."""
-        owner = self.owners[function]
-        type_ = self.classes.type(owner, parameter.type)
-        if self.is_open(function):
+        class_, function = self.owners[function.word.at]
+        at, type_ = parameter.word.at, parameter.of.type
+        if self.is_open(class_, function):
             return of_type(type_)
-        if parameter not in self.found:
-            self.found[parameter] = of_type(type_)  # for a function that calls itself
+        if at not in self.found:
+            self.found[at] = of_type(type_)  # for a function that calls itself
             self.depth += 1
-            at = function.parameters.index(parameter)
-            values = [cast_to(type_, self.ranges(caller).of_expr(call.arguments[at], where))
-                      for call, where, caller in self.calls[function]]
-            self.found[parameter] = joined(values) or of_type(type_)
+            values = [cast_to(type_, self.ranges(caller).of_expr(call.args[parameter.number]))
+                      for call, caller in self.calls[function.word.at]]
+            self.found[at] = joined(values) or of_type(type_)
             self.depth -= 1
-        return self.found[parameter]
+        return self.found[at]
 
 
 @dataclass
@@ -89,119 +81,115 @@ class Ranges:
 
     known: Known
     function: Function
-    assigned: set[Declare] = field(default_factory=set)
-    scopes: dict[Declare, Scope] = field(default_factory=dict)
-    values: dict[Declare, Range | None] = field(default_factory=dict)
+    assigned: set[Spot] = field(default_factory=set)
+    declared: dict[Spot, Declare] = field(default_factory=dict)
+    values: dict[Spot, Range | None] = field(default_factory=dict)
 
     @staticmethod
     def of(known: Known, function: Function) -> "Ranges":
         """What is known of a function's locals."""
         found = Ranges(known, function)
-        for statement, scope in scoped(function):
-            if isinstance(statement, Assign):
-                path = statement.place.path if isinstance(statement.place, Item) else statement.place
-                local = scope.get(path.first.text)
+        for it in statements(function.body):
+            if isinstance(it, Assign):
+                local = local_of(it.left.path if isinstance(it.left, Index) else it.left)
                 if local is not None:
-                    found.assigned.add(local.declared)
-            if isinstance(statement, Declare):
-                found.scopes[statement] = scope
+                    found.assigned.add(local.word.at)
+            if isinstance(it, Declare):
+                found.declared[it.word.at] = it
         return found
 
-    def of_expr(self, expr: Expr, where: Context) -> Range | None:
+    def of_expr(self, expr: Expr) -> Range | None:
         """Between which numbers a value lies; None if it is no number."""
         match expr:
             case Number():
-                return expr.token.number, expr.token.number
+                return expr.value, expr.value
             case Truth():
-                return TRUE if expr.token.text == "true" else FALSE
+                return TRUE if expr.value else FALSE
+            case As():
+                return EITHER
             case Path():
-                return self.of_path(expr, where)
+                return self.of_path(expr)
             case Call():
-                return self.of_call(expr, where)
+                return self.of_call(expr)
+            case Group():
+                return self.of_expr(expr.inner)
             case Cast():
-                return cast_to(type_of(expr, where), self.of_expr(expr.operand, where))
-            case Prefixed():
-                return self.of_prefixed(expr, where)
-            case Binary():
-                return self.of_binary(expr, where)
-        return of_type(type_of(expr, where))
+                return cast_to(expr.type, self.of_expr(expr.value))
+            case Prefix():
+                return self.of_prefix(expr)
+            case Pair():
+                return self.of_pair(expr)
+        return of_type(expr.type)
 
-    def of_path(self, path: Path, where: Context) -> Range | None:
+    def of_path(self, path: Path) -> Range | None:
         """The range of a local, a constant or a member."""
-        steps = where.steps(path)
-        last = steps[-1] if len(steps) == len(path.names) and steps else None
-        if last is None:
-            return None
-        if isinstance(last.member, Constant) and last.owner is not None:
-            value = where.classes.value(last.owner, last.name)
-            return None if value is None else (value, value)
-        return self.of_local(last, where) or of_type(last.type)
+        last = path.steps[-1]
+        if isinstance(last, Constant):
+            return last.value, last.value
+        return (self.of_local(last) if isinstance(last, Local) else None) or of_type(path.type)
 
-    def of_local(self, step: Step, where: Context) -> Range | None:
+    def of_local(self, local: Local) -> Range | None:
         """The range of a local that keeps the value of its declaration, or of its call; None for any other."""
-        local = step.local
-        if local is None or local.declared in self.assigned:
+        at = local.word.at
+        if at in self.assigned:
             return None
-        if local.is_parameter:
-            return self.known.parameter(self.function, local.declared)
-        if local.declared.value is None:
-            return FALSE if of_type(step.type) else None
-        if local.declared not in self.values:
-            before = Context(where.classes, where.class_, self.scopes[local.declared])
-            self.values[local.declared] = cast_to(step.type, self.of_expr(local.declared.value, before))
-        return self.values[local.declared]
+        if local.number < len(self.function.params):
+            return self.known.parameter(self.function, local)
+        value = self.declared[at].value
+        if value is None:
+            return FALSE if of_type(local.of.type) else None
+        if at not in self.values:
+            self.values[at] = cast_to(local.of.type, self.of_expr(value))
+        return self.values[at]
 
-    def of_call(self, call: Call, where: Context) -> Range | None:
+    def of_call(self, call: Call) -> Range | None:
         """The range of a result."""
-        steps = where.steps(call.path)
-        if steps and isinstance(steps[-1].member, Function):
-            return self.known.result(steps[-1].member)
-        is_draw = len(steps) > 1 and steps[-2].type.kind == RANDOM and steps[-1].name.text == LIBRARY[RANDOM][0]
-        if is_draw and len(call.arguments) == 1:
-            below = self.of_expr(call.arguments[0], where)
+        called = call.path.steps[-1]
+        if isinstance(called, Function):
+            return self.known.result(called)
+        if called == "create":
+            below = self.of_expr(call.args[0])
             return (0, max(below[1] - 1, 0)) if below is not None else None
-        return of_type(type_of(call, where))
+        return of_type(call.type)
 
-    def of_prefixed(self, expr: Prefixed, where: Context) -> Range | None:
+    def of_prefix(self, expr: Prefix) -> Range | None:
         """The range of an operand with an operator before it."""
-        inner = self.of_expr(expr.operand, where)
-        if inner is None or expr.sign.text == "~":
-            return of_type(type_of(expr, where))
-        found = (1 - inner[1], 1 - inner[0]) if expr.sign.text == "!" else (-inner[1], -inner[0])
-        return cast_to(type_of(expr, where), found)
+        inner = self.of_expr(expr.value)
+        if inner is None or expr.sign == "~":
+            return of_type(expr.type)
+        found = (1 - inner[1], 1 - inner[0]) if expr.sign == "!" else (-inner[1], -inner[0])
+        return cast_to(expr.type, found)
 
-    def of_binary(self, expr: Binary, where: Context) -> Range | None:
+    def of_pair(self, expr: Pair) -> Range | None:
         """The range of two operands with an operator between them."""
-        left, right = self.of_expr(expr.left, where), self.of_expr(expr.right, where)
-        type_ = type_of(expr, where)
+        left, right = self.of_expr(expr.left), self.of_expr(expr.right)
         if left is None or right is None:
-            return of_type(type_)
-        return cast_to(type_, combined(expr.sign.text, left, right))
+            return of_type(expr.type)
+        return cast_to(expr.type, combined(expr.sign, left, right))
 
 
-def reached(known: Known, function: Function) -> Iterator[tuple[Statement, Context, Ranges]]:
-    """The statements of a function but for those whose condition never holds, with the names that are known there."""
+def reached(known: Known, function: Function) -> Iterator[Statement]:
+    """The statements of a function but for those whose condition never holds."""
     ranges = known.ranges(function)
     never: set[Statement] = set()
-    for statement, scope in scoped(function):
-        where = Context(known.classes, known.owners[function], scope)
-        if isinstance(statement, (If, Loop)) and statement.condition is not None:
-            holds = ranges.of_expr(statement.condition, where)
+    for it in statements(function.body):
+        if isinstance(it, (If, Loop)) and it.condition is not None:
+            holds = ranges.of_expr(it.condition)
             if holds == FALSE:
-                never.update(statements(statement.then if isinstance(statement, If) else statement.body))
-                never.update(statements(statement.step if isinstance(statement, Loop) else None))
-            elif holds == TRUE and isinstance(statement, If):
-                never.update(statements(statement.other))
-        if statement not in never:
-            yield statement, where, ranges
+                never.update(statements(it.yes if isinstance(it, If) else it.body))
+                never.update(statements(it.step if isinstance(it, Loop) else None))
+            elif holds == TRUE and isinstance(it, If):
+                never.update(statements(it.no))
+        if it not in never:
+            yield it
 
 
-def reached_parts(expr: Expr, where: Context, ranges: Ranges) -> Iterator[Expr]:
+def reached_parts(expr: Expr, ranges: Ranges) -> Iterator[Expr]:
     """An expression and all that it is made of, but for what `&&` and `||` never come to."""
     never: set[Expr] = set()
     for part in parts(expr):
-        if isinstance(part, Binary) and part.sign.text in ("&&", "||"):
-            if ranges.of_expr(part.left, where) == (FALSE if part.sign.text == "&&" else TRUE):
+        if isinstance(part, Pair) and part.sign in ("&&", "||"):
+            if ranges.of_expr(part.left) == (FALSE if part.sign == "&&" else TRUE):
                 never.update(parts(part.right))
         if part not in never:
             yield part

@@ -4,16 +4,10 @@ from bisect import bisect_right
 from dataclasses import dataclass
 from functools import cached_property
 
-KEYWORDS = frozenset("element quark ulam use typedef constant if else while for return break continue is as self true "
-                     "false instanceof".split())
-SIGNS = ("<<=", ">>=", "==", "!=", "<=", ">=", "&&", "||", "<<", ">>", "++", "--", "+=", "-=", "*=", "/=", "%=", "&=",
-         "|=", "^=", *"{}()[];:,.=<>+-*/%&|^~!")
-TOKEN = re.compile(
-    r"(?P<blank>[ \t\r\n]+|//[^\n]*|/\*.*?\*/)"
-    r"|(?P<name>[a-z_]\w*)|(?P<type>[A-Z]\w*)"
-    r"|(?P<number>(?:0x[0-9a-fA-F]+|0b[01]+|0|[1-9][0-9]*)u?(?!\w))"
-    r"|(?P<sign>(?!/\*)(?:" + "|".join(map(re.escape, SIGNS)) + "))",
-    re.DOTALL | re.ASCII)
+from recheck.faults import Refused
+from recheck.tokens import KEYWORDS, scanned
+
+KINDS = ("name", "type", "number", "end")
 
 
 @dataclass(frozen=True, eq=False)
@@ -71,12 +65,12 @@ class Token:
 
 
 def tokens(source: Source) -> list[Token]:
-    """The tokens of a file, up to the first byte that begins none, with a token for the end behind them."""
+    """The tokens of a file, up to the first place that begins none, with a token for the end behind them."""
     found: list[Token] = []
-    at = 0
-    while match := TOKEN.match(source.text, at):
-        if match.lastgroup != "blank":
-            kind = "keyword" if match[0] in KEYWORDS else str(match.lastgroup)
-            found.append(Token(kind, match[0], at, source))
-        at = match.end()
-    return [*found, Token("end", "", at, source)]
+    try:
+        for it in scanned(source.text, 0):
+            kind = it.kind if it.kind in KINDS else "keyword" if it.kind in KEYWORDS else "sign"
+            found.append(Token(kind, it.text, it.at, source))
+    except Refused as refused:
+        found.append(Token("end", "", refused.spot[1], source))
+    return found
