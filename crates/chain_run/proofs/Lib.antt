@@ -1,2 +1,21 @@
+mod Acted
+mod Audited
+pub mod Audits
+pub mod Behind
 mod Chains
+mod First
+mod Follows
 mod Laws
+mod Left
+mod LegReads
+mod Legs
+mod Onward
+mod Plans
+mod ReadAgain
+mod Readers
+mod Replayed
+mod Sought
+mod Stored
+mod Texts
+mod Wholes
+mod Yes
