@@ -29,7 +29,7 @@ TYPED: dict[str, list[str]] = {
     "tests/tables": ["tools", "tests"],
     "tests/hostile": ["tools", "tests"],
     "tests/drawn": ["tools", "tests"],
-    "tests/models": ["tests"],
+    "tests/models": ["tools", "tests"],
     "tests/fakes": [],
     "bench": ["tools", "tests", "tests/tables", "tests/hostile", "tests/drawn"],
     "editors": [],

@@ -194,7 +194,8 @@ def loaded_chain(program: Program, words: list[str], text: bytes) -> Chains:
     form, name, *rest = words
     with refused(name, BAD_WORLD):
         draft = read_chain(text)
-    files = rest[{"replay": 1, "audit": 1, "rewind": 2}.get(form, 0):]
+    before = {"replay": 1, "audit": 1, "rewind": 2}.get(form, 0)
+    files = rest[before:]
     names = {line.name for _, line in [*draft.every, *draft.once, *draft.atoms] if line.name}
     known = elements_of(program, form, files, names)
     with refused(name, BAD_WORLD):
