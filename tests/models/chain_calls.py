@@ -130,6 +130,7 @@ class Chains:
 
     def load(self, name: str, files: list[str]) -> list[LegReport]:
         """The reports of the legs; the call ends here if they can't be read."""
+        self.program.world.write_text(Chain().leg_world(1, Chain().plane()))
         loaded = self.program.call("replay", str(self.program.world), name, *files)
         if loaded.returncode == 3:
             raise Halted(3, loaded.stdout)
