@@ -3,7 +3,7 @@
 
 Each case of the folders, or of tests/cases if none is named, whose words are those of a run or a stepped
 run is run in a copy of its folder. Where the program writes a report, `audit` of that report, with the same
-world and the same element files, has to write `yes`; the other cases are left out.
+world and the same element files, has to write `yes`; the other cases are left out, and so are chains without journals.
 """
 from __future__ import annotations
 
@@ -46,6 +46,8 @@ def fault(program: pathlib.Path, case: pathlib.Path) -> Optional[str]:
         done = call(program, words, copy)
         if done.returncode != 0:
             raise unittest.SkipTest("it writes no report")
+        if done.stdout.startswith(b"feast 3\n"):
+            raise unittest.SkipTest("it writes a report without a journal")
         (copy / "the report").write_bytes(done.stdout)
         judged = call(program, [b"audit", words[1], b"the report", *words[2:]], copy)
     if judged.returncode == 0 and judged.stdout == b"yes\n":

@@ -13,6 +13,7 @@ The parts, in the order in which they are begun:
   tables      the tables of tests/tables
   errors      the examples of docs/errors.md
   audits      audits of the reports of the cases
+  chains      chains of runs, beside a model that makes each leg as a world of its own
   recheck     the second reader of tools/recheck, against tables, cases and the program
   drawn       a thousand drawn cases, asked of the program and of the second reader
   edits       each crate has its edits that the check must refuse, each can be applied, and they show its public calls
@@ -83,6 +84,7 @@ PARTS = {
     "errors": Part("errors.py", aside=True),
     "audits": Part("audits.py", aside=True),
     "recheck": Part("second_reader.py", pieces=4),
+    "chains": Part("models/chains.py", pieces=4),
     "drawn": Part("drawn.py", pieces=4),
     "edits": Part("edits.py", wants_program=False),
     "sources": Part("sources.py", wants_program=False, aside=True),

@@ -11,6 +11,7 @@ The tables are the modules of tests/hostile:
   texts     worlds, reports and code files of hostile lines and of the greatest length
   fronts    texts cut behind each line and byte, and texts with a change
   workers   runs with a worker for each tile, each report checked
+  chains    output, inputs and memory that end between the legs of a chain; a great many legs, and acts over all
 
 `--long` tries the whole of each table, and without it what takes some seconds. docs/reliability.md
 has the figures.
@@ -34,7 +35,7 @@ sys.path[0:0] = [str(HERE.parent / "tools"), str(HERE / "hostile")]
 from bench import Bench  # noqa: E402
 from checks import Check  # noqa: E402
 
-TABLES = ["words", "edge", "memory", "elements", "bases", "texts", "fronts", "workers"]
+TABLES = ["words", "edge", "memory", "elements", "bases", "texts", "fronts", "workers", "chains"]
 
 
 def fault(program: str, long: bool, table: str, left_out: Optional[list[str]] = None) -> Optional[str]:

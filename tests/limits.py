@@ -74,7 +74,7 @@ SECOND = TOP / "tools/recheck/limits.py"
 # The folders that have Python, beside the scripts at the top.
 PYTHON = ("tools", "tests", "bench", "editors")
 # The Python that is written apart from the rest, and so has limits of its own.
-APART = {"tools/recheck/limits.py", "tests/models/plane.py", "tests/hostile/reading.py", "tests/hostile/base_model.py"}
+APART = {"tools/recheck/limits.py", "tests/models/plane.py", "tests/models/chain_text.py", "tests/hostile/reading.py", "tests/hostile/base_model.py"}
 
 
 @dataclass(frozen=True)

@@ -21,6 +21,7 @@ from rust_code import TOP, Code, Function, line_of, sources  # noqa: E402
 
 # For a crate and a function, how many further places there are, and why.
 REASONS = {
+    ("chain_run", "line_in_file"): (1, "no text in memory has lines whose numbers come to 2^64"),
     ("ulam_parse", "judge"): (1, "`first_deep` fails only as its list of brackets grows"),
     ("ulam_parse", "read"): (1, "`marks_of` fails only as its list of marks grows"),
 }
@@ -69,7 +70,7 @@ def is_handed_on(code: Code, function: Optional[Function], begin: int) -> bool:
         return True
     at: Optional[int] = begin
     while at is not None and (function is None or at > function.body):
-        before = code.before(at).removesuffix("Err(").rstrip().removesuffix("return").rstrip()
+        before = re.sub(r"\b(?:Err|Ok)\($", "", code.before(at)).rstrip().removesuffix("return").rstrip()
         if before.endswith("=>"):
             return is_arm_on_refused(code, len(before) - 2)
         if refused := re.search(r"(?s)\bif\s+((?:(?!\bif\b).)*?)\s*\.is_err\(\)$|\blet\s+Ok\([^=]*?\)\s*=((?:(?!\blet\b).)*?)\belse$", before):

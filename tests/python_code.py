@@ -30,7 +30,7 @@ TYPED: dict[str, list[str]] = {
     "tests/tables": ["tools", "tests"],
     "tests/hostile": ["tools", "tests"],
     "tests/drawn": ["tools", "tests"],
-    "tests/models": ["tests"],
+    "tests/models": ["tools", "tests"],
     "tests/fakes": [],
     "bench": ["tools", "tests", "tests/tables", "tests/hostile", "tests/drawn"],
     "editors": [],
@@ -38,7 +38,7 @@ TYPED: dict[str, list[str]] = {
 # What mypy keeps from one folder for the next: what it knows of the standard library.
 KEPT = tempfile.TemporaryDirectory(prefix="mypy-")
 # Files with Python that have no suffix.
-SCRIPTS = ["lab", "tools/dist", "tools/release", "bench/gate", "bench/proofs", "bench/run", "bench/even"]
+SCRIPTS = ["lab", "tools/dist", "tools/release", "bench/gate", "bench/proofs", "bench/run", "bench/even", "bench/chain"]
 
 
 def program(name: str) -> str:

@@ -1,13 +1,15 @@
 #!/usr/bin/env python3
-"""Holds the pages of the theorem (docs/theorem*.md) to the sources: theorem.py [--write].
+"""Holds the pages of the theorems (docs/theorem*.md) to the sources: theorem.py [--write].
 
 What the promise of a threaded run rests on are the definitions that its own definition names, those that these name,
-and so on down to numbers and lists. The pages quote each of them once, and no other, in blocks behind lines of the form
+and so on down to numbers and lists; and so it is with the laws of chains. The pages quote each of them once, and no
+other, in blocks behind lines of the form
 
     From `crates/NAME/specs/FILE.antt`: `definition`, `definition`.
 
 A block has the definitions of its line, in that order, as the file has them. Types of the code are quoted from their
-`.rt` file, without comments. The number of definitions and of their lines, which the first page gives, is right too.
+`.rt` file, without comments. The number of definitions and of their lines, which the first page of a theorem gives, is
+right too; those of an earlier theorem don't count in that of a later one.
 --write puts the definitions of each line into its block, and says what is still missing.
 """
 from __future__ import annotations
@@ -23,10 +25,14 @@ from pathlib import Path
 sys.dont_write_bytecode = True
 from rust_code import TOP  # noqa: E402
 
-# the definition with which all begins: its crate, its file, its name
-ROOT = ("world_runs", "OneOrder", "IsThreadedRun")
+# the first page of each theorem, and the definitions with which all begins: their crates, their files, their names
+THEOREMS = {
+    "theorem.md": [("world_runs", "OneOrder", "IsThreadedRun")],
+    "theorem-chains.md": [("chain_run", "Laws", "HaveOneCourse"), ("chain_run", "Laws", "AreCutAndJoined"),
+                          ("chain_run", "Chains", "ChainsHaveOneCourse"), ("chain_run", "Chains", "AreChainsCutAndJoined")],
+}
 HEAD = re.compile(r"(?:(?:abbrev|unfoldable)(?: pub)?|(?:pub )?(?:record|data)|pub) (\S+)")
-IMPORT = re.compile(r"use Rattle\.([\w.]+)\.\{(.*)\}")
+IMPORT = re.compile(r"(?:pub )?use Rattle\.([\w.]+)\.\{(.*)\}")
 MODULE = re.compile(r"use Rattle\.([\w.]+) as (\w+)")
 LINE = re.compile(r"From `(crates/\S+)`: (`.*`)\.")
 TOTAL = re.compile(r"(\d+) definitions of (\d+) lines")
@@ -99,7 +105,8 @@ def named_in(path: str, text: str) -> Iterator[Name]:
             yield Name(path, word)
         elif word in here.imports and (file := path_of(here.imports[word][0])):
             module = here.imports[word][0].split(".")
-            yield Name(file, module[4] if "TheVariants" in module or "TheConstants" in module else here.imports[word][1])
+            is_part = "TheVariants" in module or "TheConstants" in module
+            yield Name(file, module[4] if is_part and len(module) > 4 else here.imports[word][1])
 
 
 @functools.cache
@@ -113,10 +120,18 @@ def text_of(name: Name) -> str | None:
     return "\n".join(line for line in lines if not line.lstrip().startswith(("///", "#["))) or None
 
 
-def reached() -> list[Name]:
-    """All that the promise rests on."""
-    crate, file, name = ROOT
-    left, found = [Name(f"crates/{crate}/specs/{file}.antt", name)], set()
+def rests() -> dict[str, list[Name]]:
+    """All that each theorem rests on, beside what the earlier ones do."""
+    found: dict[str, list[Name]] = {}
+    for page in THEOREMS:
+        found[page] = sorted(reached(page) - {name for earlier in found.values() for name in earlier})
+    return found
+
+
+def reached(page: str) -> set[Name]:
+    """All that the theorem of a page rests on."""
+    left = [Name(f"crates/{crate}/specs/{file}.antt", name) for crate, file, name in THEOREMS[page]]
+    found: set[Name] = set()
     while left:
         one = left.pop()
         text = text_of(one)
@@ -125,7 +140,7 @@ def reached() -> list[Name]:
         found.add(one)
         if one.file.endswith(".antt"):
             left.extend(named_in(one.file, text))
-    return sorted(found)
+    return found
 
 
 @dataclass
@@ -181,26 +196,26 @@ def faults(pages: list[Path]) -> Iterator[str]:
     for page in pages:
         yield from block_faults(page)
     quoted = [name for page in pages for block in blocks(page.read_text().splitlines()) for name in block.names]
-    rests = reached()
-    yield from (f"{name.file}: {name.name} is quoted nowhere" for name in rests if name not in quoted)
-    yield from (f"{name.file}: {name.name} is quoted, and the theorem doesn't rest on it" for name in quoted
-                if name not in rests)
+    named = [name for names in rests().values() for name in names]
+    yield from (f"{name.file}: {name.name} is quoted nowhere" for name in named if name not in quoted)
+    yield from (f"{name.file}: {name.name} is quoted, and no theorem rests on it" for name in quoted if name not in named)
     yield from (f"{name.file}: {name.name} is quoted twice" for name in sorted(set(quoted)) if quoted.count(name) > 1)
-    total = (str(len(rests)), str(sum((text_of(name) or "").count("\n") + 1 for name in rests)))
-    if TOTAL.findall((TOP / "docs/theorem.md").read_text()) != [total]:
-        yield f"docs/theorem.md: it is {total[0]} definitions of {total[1]} lines"
+    for first, names in rests().items():
+        total = (str(len(names)), str(sum((text_of(name) or "").count("\n") + 1 for name in names)))
+        if TOTAL.findall((TOP / "docs" / first).read_text()) != [total]:
+            yield f"docs/{first}: it is {total[0]} definitions of {total[1]} lines"
 
 
 def main() -> int:
     """The command."""
-    parser = argparse.ArgumentParser(description="Holds the pages of the theorem to the sources.")
+    parser = argparse.ArgumentParser(description="Holds the pages of the theorems to the sources.")
     parser.add_argument("--write", action="store_true", help="put the definitions into their blocks")
     pages = sorted((TOP / "docs").glob("theorem*.md"))
     if parser.parse_args().write:
         for page in pages:
             rewrite(page)
     found = list(faults(pages))
-    print("\n".join([*found, f"{len(reached())} definitions, {len(found)} faults"]))
+    print("\n".join([*found, f"{sum(map(len, rests().values()))} definitions, {len(found)} faults"]))
     return 1 if found else 0
 
 
