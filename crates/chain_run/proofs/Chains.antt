@@ -1,12 +1,12 @@
 -- The parts of a chain.
-use Rattle.std.proofs.Common.{ℕ, ◌≡◌, ◌+◌, ◌-◌, ◌≤◌, List, ◌++◌, length, length-append, refl, sym, subst, ◌∙◌, arith}
+use Rattle.std.proofs.Common.{ℕ, ◌≡◌, ◌+◌, ◌≤◌, List, ◌++◌, length, length-append, refl, sym, subst, arith}
 use Rattle.window_sites.specs.Window.{WindowValue}
 use Rattle.cell_grid.specs.Grid.{GridValue}
 use Rattle.chain_text.specs.Chain.{ChainValue}
 use Rattle.world_runs.specs.Start.{start_grid}
 use Rattle.world_text.specs.declared.world.Placed.{Placed}
 use Rattle.chain_run.proofs.Laws.{cut, join, one_course}
-use Rattle.chain_run.specs.Chains.{AreLegsOf, AreLegsOfBoth, IsChainCut, back_of, first_grid, front_of, making}
+use Rattle.chain_run.specs.Chains.{AreLegsOf, AreLegsOfBoth, IsChainCut, first_grid, making}
 use Rattle.chain_run.specs.Course.{items_from, played}
 use Rattle.chain_run.specs.Legs.{AreLegs, Leg, grid_after}
 

@@ -1,22 +1,22 @@
 -- The legs of a chain, by what its text says.
-use Rattle.std.specs.Prelude.{ℕ, ◌≡◌, ◌+◌, ◌-◌, ◌*◌, ◌≤◌, List, ◌++◌, length}
+use Rattle.std.specs.Prelude.{ℕ, ◌≡◌, ◌+◌, ◌-◌, ◌≤◌, List, ◌++◌, length}
 use Rattle.window_sites.specs.Window.{WindowValue}
 use Rattle.cell_grid.specs.Grid.{GridValue}
 use Rattle.chain_text.specs.Chain.{ChainValue}
-use Rattle.chain_text.specs.Legs.{act_seed, leg_attempts, leg_seed}
-use Rattle.draw_stream.specs.Plans.{seeded}
+use Rattle.chain_text.specs.Legs.{act_seed}
 use Rattle.plane_acts.specs.Schedules.{acts}
 use Rattle.world_runs.specs.Start.{start_grid}
 use Rattle.world_text.specs.declared.world.Placed.{Placed}
 use Rattle.chain_run.specs.Course.{items_from, played}
 use Rattle.chain_run.specs.Legs.{AreLegs, Leg, Making, grid_after}
+use Rattle.chain_run.specs.Reading.{leg_plan}
 
 -- what makes the legs of a chain whose elements mean this
 abbrev pub making : ChainValue → (WindowValue → ℕ → WindowValue) → Making
 making c meaning = record {
   map = c.plane;
   meaning = meaning;
-  plan = λ k. seeded (leg_seed c k) (leg_attempts c k) c.plane.off (c.plane.w * c.plane.h);
+  plan = leg_plan c;
   acts = λ k. acts c.schedule k (act_seed c k);
 }
 

@@ -1,4 +1,16 @@
+pub mod Answers
+pub mod Audits
+pub mod Between
 pub mod Chains
 pub mod Course
+pub mod Judging
 pub mod Laws
 pub mod Legs
+pub mod Lines
+pub mod Places
+pub mod Reader
+pub mod Reading
+pub mod Replays
+pub mod Reports
+pub mod Runs
+pub mod Standings

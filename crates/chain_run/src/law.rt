@@ -1,6 +1,10 @@
 //! The laws of chains.
+ghost use Rattle.std.specs.Prelude.{ℕ, List};
+ghost use Rattle.chain_run.specs.Audits.{AreReportsJoined, IsAuditable, IsReportIfYes, IsYesIfReport};
 ghost use Rattle.chain_run.specs.Chains.{AreChainsCutAndJoined, ChainsHaveOneCourse};
 ghost use Rattle.chain_run.specs.Laws.{AreCutAndJoined, HaveOneCourse};
+ghost use Rattle.chain_text.specs.Chain.{ChainValue};
+ghost use Rattle.window_sites.specs.Window.{WindowValue};
 
 /// All that happens in a chain stands in one course: for each leg first its acts, then its events in
 /// the order of its journal. The grid after the last leg is what this course makes of the grid before
@@ -13,9 +17,19 @@ pub fn one_course()
 
 /// A chain may be cut between any two legs: legs are those of a chain exactly if the first ones are
 /// those of its first part, and the others those of the part that goes on with the numbers that
-/// follow, from atoms that make the grid which the first ones leave. The call does nothing: its
+/// follow, from atoms that make the grid which the first ones leave. The report of the chain is that of the first
+/// part followed by that of the other, where counts, if those are printed, are printed between the two. The call does nothing: its
 /// contract is the law, of legs in general and of those of a chain.
 pub fn cut_and_join()
     ensures legs { AreCutAndJoined }
     ensures chains { AreChainsCutAndJoined }
+    ensures reports { AreReportsJoined }
+{}
+
+/// What `Yes` says of the report of a chain whose legs have whole or short ones: bytes that are read and
+/// judged so are the report of legs that are the chain's, and the report of any such legs is read and
+/// judged so. The call does nothing: its contract is the law.
+pub fn sound_audits()
+    ensures report { (names : List (List ℕ)) (c : ChainValue) (meaning : WindowValue → ℕ → WindowValue) → IsAuditable names c meaning → IsReportIfYes names c meaning }
+    ensures yes { (names : List (List ℕ)) (c : ChainValue) (meaning : WindowValue → ℕ → WindowValue) → IsAuditable names c meaning → IsYesIfReport names c meaning }
 {}

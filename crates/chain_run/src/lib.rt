@@ -1,10 +1,36 @@
 //! The legs of a chain: runs that follow one another on one plane, with acts on the plane before each.
 //!
-//! It has no code yet: [`one_course`] says that everything that happens in a chain, its acts and its
-//! events, stands in one course, and what one uncut grid comes to by it; [`cut_and_join`] says that a
-//! chain may be cut between two legs, and its parts joined again.
+//! A leg is run ([`run_leg`]) or stepped ([`step_leg`]) from the grid that the one before it left, and its
+//! report is put ([`LegWriter`]); so memory is that of one leg. The reports of all legs are judged
+//! ([`audit_legs`]), replayed ([`replay_legs`]) and rewound ([`rewind_legs`]) leg by leg, too.
+//!
+//! [`one_course`] says that everything that happens in a chain, its acts and its events, stands in one
+//! course, and what one uncut grid comes to by it; [`cut_and_join`] says that a chain may be cut between
+//! two legs, and its parts joined again; [`sound_audits`] says what `yes` is.
 #![tactic(auto)]
 
+mod auditing;
+mod judgement;
 mod law;
+mod leg;
+mod leg_read;
+mod lines;
+mod putting;
+mod replaying;
+mod reports;
+mod rewinding;
+mod running;
+mod standing;
+mod starting;
+mod stepping;
 
-pub use law::{cut_and_join, one_course};
+pub use auditing::audit_legs;
+pub use judgement::{ChainJudgement, chain_judgement_line};
+pub use law::{cut_and_join, one_course, sound_audits};
+pub use leg::LegOf;
+pub use putting::LegWriter;
+pub use replaying::replay_legs;
+pub use rewinding::{Rewound, rewind_legs};
+pub use running::run_leg;
+pub use starting::first_grid;
+pub use stepping::step_leg;

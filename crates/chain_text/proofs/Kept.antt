@@ -3,7 +3,7 @@ use Rattle.std.proofs.Common.{ℕ, Bool, true, false, not, ◌≡◌, ◌+◌, �
 use Rattle.std.proofs.lemmas.List.Sorted.{IsNonDecreasingBy-push, IsNonDecreasingBy-short}
 use Rattle.std.proofs.lemmas.List.Elements.{All-append, All-cons, All-nil}
 use Rattle.list_laws.proofs.Tests.{both}
-use Rattle.text_lines.specs.Lines.{is_skipped}
+use Rattle.text_lines.specs.Lines.{is_skipped, lines}
 use Rattle.draw_stream.specs.Plans.{tiles_on}
 use Rattle.tile_map.specs.Plane.{MapValue}
 use Rattle.tile_map.proofs.Spans.{test_le}
@@ -13,10 +13,10 @@ use Rattle.world_text.specs.Drafts.{DraftValue, IsDraft, between, misplaced_code
 use Rattle.world_text.specs.Line.{Line, header as world_header, attempts as world_attempts, tiles, size, off, seed, try, atom, order_seed, order, IsFormed as IsWorldFormed}
 use Rattle.world_text.specs.declared.kind.Kind.{Kind}
 use Rattle.world_text.specs.declared.kind.Kind.TheVariants.{Attempts as AttemptsLine}
-use Rattle.chain_text.specs.Drafts.{ChainDraft, IsChainDraft, IsNumberedAct, IsRawAct, IsAreaIn, after_act, after_atom, after_counted, after_every, after_first, after_legs, act_in_range, area_in_range, asks_too_many, in_range, is_attempts, is_plane, may_come, nothing_said, numbered, only_world, plain_may_come, plain_stage, put_line, raw_act, rectangle_of, step, step_line, step_own, too_many, with_world}
+use Rattle.chain_text.specs.Drafts.{ChainDraft, IsChainDraft, IsNumberedAct, IsRawAct, IsAreaIn, after_act, after_atom, after_counted, after_every, after_first, after_legs, act_in_range, area_in_range, asks_too_many, in_range, is_attempts, is_plane, may_come, missing, nothing_said, numbered, only_world, plain_may_come, plain_stage, put_line, raw_act, rectangle_of, step, step_line, step_own, too_many, with_world}
 use Rattle.chain_text.specs.Line.{Area, ActLine, ChainLine, IsFormed, IsRepeated, header, plain, legs, first, journal, print, every, act, clear, put, erase, flip, attempts}
 use Rattle.chain_text.specs.Forms.{line_of}
-use Rattle.chain_text.specs.Reading.{line_step}
+use Rattle.chain_text.specs.Reading.{go_on, line_step, over, read_lines, read_text}
 use Rattle.chain_text.specs.declared.chain.Journal.{Journal}
 use Rattle.chain_text.specs.declared.chain.Journal.TheVariants.{Whole, Short, Counts}
 use Rattle.chain_text.specs.declared.raw_act.NumberedAct.{NumberedAct}
@@ -268,3 +268,22 @@ line_step_kept n d e text k s = skipping (is_skipped text) s
     skipping : (b : Bool) → (if b then Ok d else step n d (line_of text)) ≡ Ok e → IsChainDraft e
     skipping true h = let t : d ≡ e = cc in subst IsChainDraft t k
     skipping false h = step_kept n d e (line_of text) (line_formed text) k h
+
+-- all lines do
+lines_kept : (n : ℕ) (d e : ChainDraft) (ts : List (List ℕ)) → IsChainDraft d → read_lines n d ts ≡ Ok e → IsChainDraft e
+unfolding read_lines
+lines_kept n d e [] k h = on (missing d.stage d.world.last) h
+  where
+    on : (o : Option ℕ) → over n d o ≡ Ok e → IsChainDraft e
+    on None g = let same : d ≡ e = cc in subst IsChainDraft same k
+    on (Some code) g = cc
+lines_kept n d e (t ∷ ts) k h = on (line_step n d t) refl h (λ f is g. lines_kept (n + 1) f e ts (line_step_kept n d f t k is) g)
+  where
+    on : (r : Result ChainDraft ℕ) → line_step n d t ≡ r → go_on n r (λ f. read_lines (n + 1) f ts) ≡ Ok e → ((f : ChainDraft) → line_step n d t ≡ Ok f → read_lines (n + 1) f ts ≡ Ok e → IsChainDraft e) → IsChainDraft e
+    on (Ok f) is g rest = rest f is g
+    on (Err code) is g rest = cc
+
+-- it holds of what a text says
+pub read_kept : (bytes : List ℕ) (d : ChainDraft) → read_text bytes ≡ Ok d → IsChainDraft d
+unfolding read_text
+read_kept bytes d h = lines_kept 1 nothing_said d (lines bytes) start_is h

@@ -1,6 +1,6 @@
 -- The report of a run says its own journal, is audited with `yes`, rewinds to the atoms after its first
 -- events, and replays to its own atoms.
-use Rattle.std.proofs.Common.{ℕ, ◌≡◌, ◌≤◌, List, ◌++◌, Ok, codes, length, ap, sym, subst, ◌∙◌, inr}
+use Rattle.std.proofs.Common.{ℕ, ◌≡◌, ◌≤◌, List, ◌++◌, codes, length, ap, sym, subst, ◌∙◌, inr}
 use Rattle.cell_grid.specs.Grid.{GridValue}
 use Rattle.cell_grid.specs.declared.record.Record.{Record}
 use Rattle.report_text.specs.Reading.{entries_said, read_report}
@@ -9,14 +9,15 @@ use Rattle.feast_base.specs.Outside.{File}
 use Rattle.report_text.specs.Entries.{Entries}
 use Rattle.feast_run.proofs.AuditedAgain.{audits_yes}
 use Rattle.feast_run.proofs.Machines.{left_named}
-use Rattle.feast_run.proofs.PlansFit.{HasSize, left_size, plan_fits}
+use Rattle.chain_run.proofs.Wholes.{HasSize}
+use Rattle.feast_run.proofs.PlansFit.{left_size, plan_fits}
 use Rattle.feast_run.proofs.ReportLength.{formed_short, report_short}
 use Rattle.feast_run.proofs.Rewound.{rewinds_to}
 use Rattle.feast_run.proofs.Sound.{AreSound}
 use Rattle.feast_run.specs.Again.{IsOwnReport, ReplaysTo, SaysJournal}
 use Rattle.feast_run.specs.Elements.{ElementsValue}
 use Rattle.feast_run.specs.Owing.{IsRun}
-use Rattle.feast_run.specs.Promises.{WorldTold}
+use Rattle.feast_run.specs.Told.{WorldTold}
 use Rattle.feast_run.specs.Stages.{ready_with}
 use Rattle.report_text.proofs.ReadAgain.{read_again}
 use Rattle.report_text.specs.Again.{IsLeft, entries_in}

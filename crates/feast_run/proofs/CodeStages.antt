@@ -14,7 +14,7 @@ use Rattle.feast_run.specs.CodeFiles.{IsCodeRefused, code_refused, codes_from, c
 use Rattle.feast_run.specs.Faults.{IsCodeHalt, IsHalt}
 use Rattle.feast_base.specs.Stages.{IsOne}
 use Rattle.feast_run.specs.Halting.{IsRefusal, RefusedValue}
-use Rattle.feast_run.specs.Promises.{IsCodeFile}
+use Rattle.feast_run.specs.Told.{IsCodeFile}
 use Rattle.feast_run.specs.Tellings.{Tells}
 use Rattle.feast_run.specs.declared.halt.Halt.{Halt}
 use Rattle.feast_run.specs.declared.halt.Halt.TheVariants.{Refused, Missing, NoMemory}

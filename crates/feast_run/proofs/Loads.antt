@@ -7,7 +7,7 @@ use Rattle.feast_base.specs.Outside.{File}
 use Rattle.feast_base.specs.Stages.{Stage}
 use Rattle.feast_run.proofs.Telling.{tells_exit, tells_more}
 use Rattle.feast_run.specs.Halting.{HaltValue}
-use Rattle.feast_run.specs.Promises.{AreFiles}
+use Rattle.feast_run.specs.Told.{AreFiles}
 use Rattle.feast_run.specs.Stages.{load, load_all, load_more}
 use Rattle.feast_run.specs.Tellings.{Tells}
 use Rattle.feast_run.specs.declared.halt.Halt.{Halt}

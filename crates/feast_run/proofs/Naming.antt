@@ -1,6 +1,6 @@
 -- The line of a refusal names a file word of the form.
-use Rattle.std.proofs.Common.{ℕ, zero, suc, ◌≡◌, ◌≤◌, ◌<◌, ◌+◌, List, [], ◌∷◌, ◌++◌, length, Option, Some, None, Ok, Err, refl, sym, ap, subst, inl, inr, arith}
-use Rattle.std.specs.Prelude.{slice_index_or}
+use Rattle.std.proofs.Common.{ℕ, zero, suc, ◌≡◌, ◌≤◌, ◌<◌, ◌+◌, Bool, true, false, List, [], ◌∷◌, ◌++◌, length, Option, Some, None, Result, Ok, Err, refl, sym, ap, subst, inl, inr, arith}
+use Rattle.std.specs.Prelude.{if◌then◌else◌, slice_index_or}
 use Rattle.std.proofs.lemmas.List.{length-append}
 use Rattle.feast_base.proofs.Stages.{went}
 use Rattle.feast_base.specs.Outside.{File, ShelfState, SinkState}
@@ -10,25 +10,34 @@ use Rattle.feast_base.specs.declared.place.Refusal.{Refusal}
 use Rattle.feast_run.proofs.Missing.{form_misses}
 use Rattle.feast_run.proofs.Placed.{HasPlace, line_placed, longer, placed, whole_placed}
 use Rattle.feast_run.proofs.RefusedElements.{files_placed}
+use Rattle.feast_run.proofs.RefusedChains.{AreChainLined, chain_lined, chain_named_refused, chain_refused, legs_refused_at}
 use Rattle.feast_run.proofs.RefusedTexts.{codes_refused, journal_refused_at, line_refused}
-use Rattle.feast_run.proofs.RefusedWorlds.{AreLined, named_refused, text_lined, text_refused}
-use Rattle.feast_run.specs.Answer.{form_answer, replay_of, rewind_of, rewinds}
+use Rattle.feast_run.proofs.RefusedWorlds.{AreLined, IsLined, named_refused, text_lined, text_refused}
+use Rattle.feast_run.proofs.SettingTexts.{is_chain_text, is_world_text}
+use Rattle.feast_run.proofs.Stops.{stopped_by}
+use Rattle.chain_run.specs.Reading.{LegSaid}
+use Rattle.chain_run.specs.Replays.{events_in}
+use Rattle.chain_text.specs.Drafts.{ChainDraft}
+use Rattle.chain_text.specs.Reading.{is_chain, read_text as read_chain_text}
+use Rattle.feast_run.specs.Answer.{audits_setting, form_answer, replay_of, replays_setting, rewind_of, rewinds, rewinds_setting, runs_setting, steps_setting}
+use Rattle.feast_run.specs.Chains.{legs_in, rewinds_legs}
 use Rattle.feast_run.specs.Audited.{audit_of}
 use Rattle.feast_run.specs.Changes.{Change}
 use Rattle.feast_run.specs.CodeFiles.{codes_from, codes_in, ready_packed}
 use Rattle.feast_run.specs.Elements.{ElementsValue, code_elements, source_elements}
-use Rattle.feast_run.specs.Ending.{Ends, Whole, status_of, status_of_input, text_of}
+use Rattle.feast_run.specs.Ending.{Ends, Stopped, Whole, status_of, status_of_input, text_of}
 use Rattle.call_form.specs.Forms.{FormValue, check, code, pack, run, step, replay, gen, audit, rewind, steppack, runpack}
 use Rattle.feast_run.specs.Generating.{own_set, summarizes}
 use Rattle.feast_run.specs.Halting.{FormOutcome, HaltValue, RefusedValue, misses, refusal_of, refuses}
 use Rattle.feast_run.specs.Naming.{IsAboutFile, Names, NamesFile, NamesIt, words_at}
 use Rattle.feast_run.specs.Promises.{Gains, IsWordOf}
-use Rattle.feast_run.specs.Stages.{ReadyValue, at_line, builds, draft_of, journal_in, journal_of, line_refusal, load, load_more, named_by, ready, ready_by, set_of, whole_file, with_elements}
+use Rattle.feast_run.specs.Stages.{ReadyChainValue, ReadyValue, SettingDraft, SettingValue, a_chain, a_world, as_chain, as_world, at_line, builds, chain_draft, draft_of, journal_in, journal_of, line_refusal, load, load_more, named_by, read_setting, ready, ready_by, set_of, whole_file, with_elements, world_draft}
 use Rattle.feast_run.specs.declared.halt.Input.{Input}
 use Rattle.feast_run.specs.declared.halt.Input.TheVariants as input
 use Rattle.feast_run.specs.declared.status.Status.{Status}
 use Rattle.world_text.specs.Drafts.{DraftValue}
 use Rattle.world_text.specs.Named.{WorldValue}
+use Rattle.world_text.specs.Reading.{read_text}
 use Rattle.feast_run.specs.declared.loading.TheConstants.{CODE_LIMIT, ELEMENT_LIMIT, JOURNAL_LIMIT, WORLD_LIMIT}
 
 -- which words are those of files that may be refused, by what is refused
@@ -114,18 +123,47 @@ codes_named W files word load_may may = then_named W (load files CODE_LIMIT word
 line_named : (W : MayName) (word : List ℕ) (r : RefusedValue) (number line : ℕ) → W input.World word → 3 ≤ number → 1 ≤ line → r ≡ refusal_of input.World word (at_line number line 0) → IsNamed W r
 line_named W word r number line w shown some is = subst (IsNamed W) (sym is) (named_at W input.World word (at_line number line 0) tt w (line_placed number line 0 shown some))
 
+-- the fault of a setting's text, by which of the two it is
+setting_refused : (bytes : List ℕ) (f : ℕ × ℕ) → read_setting bytes ≡ Err f → IsLined f
+setting_refused bytes f h = on (is_chain bytes) h
+  where
+    world : (r : Result DraftValue (ℕ × ℕ)) → read_text bytes ≡ r → as_world r ≡ Err f → IsLined f
+    world (Ok d) is g = cc
+    world (Err e) is g = let same : e ≡ f = cc in subst IsLined same (text_refused bytes e is)
+
+    chain : (r : Result ChainDraft (ℕ × ℕ)) → read_chain_text bytes ≡ r → as_chain r ≡ Err f → IsLined f
+    chain (Ok d) is g = cc
+    chain (Err e) is g = let same : e ≡ f = cc in subst IsLined same (chain_refused bytes e is)
+
+    on : (b : Bool) → if◌then◌else◌ {A = Result SettingDraft (ℕ × ℕ)} b (as_chain (read_chain_text bytes)) (as_world (read_text bytes)) ≡ Err f → IsLined f
+    on true g = chain (read_chain_text bytes) refl g
+    on false g = world (read_text bytes) refl g
+
 draft_named : (W : MayName) (files : Option (List File)) (word : List ℕ) → W input.File word → W input.World word → AllNamed W (draft_of files word)
 draft_named W files word load_may may =
     then_named W (load files WORLD_LIMIT word) _ (load_named W files WORLD_LIMIT word load_may)
-    (λ bytes loaded r h. let at = text_refused bytes h.0 h.1 in line_named W word r h.0.0 h.0.1 may at.code at.line h.2)
+    (λ bytes loaded r h. let at = setting_refused bytes h.0 h.1 in line_named W word r h.0.0 h.0.1 may at.code at.line h.2)
 
-draft_lined : (files : Option (List File)) (word : List ℕ) (d : DraftValue) → draft_of files word (Ok d) → AreLined d
-draft_lined files word d h = let g = went (load files WORLD_LIMIT word) _ d h in text_lined g.value d g.rest
+-- the lines of a draft's atoms and acts
+abbrev IsLinedDraft : SettingDraft → Type 0
+IsLinedDraft (world_draft d) = AreLined d
+IsLinedDraft (chain_draft d) = AreChainLined d
 
-with_named : {X : Type 0} (W : MayName) (elements : X → ElementsValue) (S : Stage X HaltValue) (word : List ℕ) (d : DraftValue) → AreLined d → W input.World word → AllNamed W S → AllNamed W (with_elements elements S word d)
-with_named W elements S word d lined may all =
-    then_named W S (λ x. named_by word d (elements x)) all
-    (λ x passed. then_named W _ _ (λ r h. let at = named_refused (elements x).names d h.0 lined h.1 in line_named W word r h.0.0 h.0.1 may at.code at.line h.2) (λ world is r h. absurd h))
+setting_lined : (bytes : List ℕ) (d : SettingDraft) → read_setting bytes ≡ Ok d → IsLinedDraft d
+setting_lined bytes (world_draft d) h = text_lined bytes d (is_world_text bytes d h).1
+setting_lined bytes (chain_draft d) h = chain_lined bytes d (is_chain_text bytes d h).1
+
+draft_lined : (files : Option (List File)) (word : List ℕ) (d : SettingDraft) → draft_of files word (Ok d) → IsLinedDraft d
+draft_lined files word d h = let g = went (load files WORLD_LIMIT word) _ d h in setting_lined g.value d g.rest
+
+named_named : (W : MayName) (word : List ℕ) (d : SettingDraft) (e : ElementsValue) → IsLinedDraft d → W input.World word → AllNamed W (named_by word d e)
+named_named W word (world_draft d) e lined may =
+    then_named W _ _ (λ r h. let at = named_refused e.names d h.0 lined h.1 in line_named W word r h.0.0 h.0.1 may at.code at.line h.2) (λ world is r h. absurd h)
+named_named W word (chain_draft d) e lined may =
+    then_named W _ _ (λ r h. let at = chain_named_refused e.names d h.0 lined h.1 in line_named W word r h.0.0 h.0.1 may at.code at.line h.2) (λ chain is r h. absurd h)
+
+with_named : {X : Type 0} (W : MayName) (elements : X → ElementsValue) (S : Stage X HaltValue) (word : List ℕ) (d : SettingDraft) → IsLinedDraft d → W input.World word → AllNamed W S → AllNamed W (with_elements elements S word d)
+with_named W elements S word d lined may all = then_named W S (λ x. named_by word d (elements x)) all (λ x passed. named_named W word d (elements x) lined may)
 
 ready_named : {X : Type 0} (W : MayName) (elements : X → ElementsValue) (S : Stage X HaltValue) (files : Option (List File)) (word : List ℕ) → W input.File word → W input.World word → AllNamed W S → AllNamed W (ready_by elements S files word)
 ready_named W elements S files word load_may may all =
@@ -169,6 +207,44 @@ rewind_named W files word k r load_may may =
     then_named W (journal_of files word r.world) (rewinds word k r) (journal_named W files word r.world load_may may)
     (λ j h s is. subst (IsNamed W) (sym is.1) (named_at W input.Journal word (whole_file 84 (length j.records)) tt may (whole_placed 84 (length j.records) (omega arith))))
 
+-- The reports of legs
+
+legs_in_named : (W : MayName) (word : List ℕ) (c : ReadyChainValue) (bytes : List ℕ) → W input.Journal word → AllNamed W (legs_in word c bytes)
+legs_in_named W word c bytes may = λ r h.
+    let some = legs_refused_at c.chain bytes h.0 h.1 in
+    subst (IsNamed W) (sym h.2) (named_at W input.Journal word (line_refusal h.0.0 h.0.1) tt may (line_refused h.0.0 h.0.1 some))
+
+-- loaded, and then a stage of what they say
+legs_named : (W : MayName) (files : Option (List File)) (word : List ℕ) (c : ReadyChainValue) (T : List LegSaid → Stage (List ℕ) HaltValue) → W input.File word → W input.Journal word → ((said : List LegSaid) → AllNamed W (T said)) →
+    AllNamed W (and_then (load files JOURNAL_LIMIT word) (λ bytes. and_then (legs_in word c bytes) T))
+legs_named W files word c T load_may may all =
+    then_named W (load files JOURNAL_LIMIT word) _ (load_named W files JOURNAL_LIMIT word load_may)
+    (λ bytes h. then_named W (legs_in word c bytes) T (legs_in_named W word c bytes may) (λ said is. all said))
+
+-- What is done with a setting
+
+runs_named : (W : MayName) (v : SettingValue) → AllNamed W (runs_setting v)
+runs_named W (a_world r) = λ s never. absurd never
+runs_named W (a_chain c) = λ s never. absurd never
+
+steps_named : (W : MayName) (v : SettingValue) → AllNamed W (steps_setting v)
+steps_named W (a_world r) = λ s never. absurd never
+steps_named W (a_chain c) = λ s never. absurd never
+
+replays_named : (W : MayName) (files : Option (List File)) (word : List ℕ) (v : SettingValue) → W input.File word → W input.Journal word → AllNamed W (replays_setting files word v)
+replays_named W files word (a_world r) load_may may = replay_named W files word r load_may may
+replays_named W files word (a_chain c) load_may may = legs_named W files word c _ load_may may (λ said s never. absurd never)
+
+audits_named : (W : MayName) (files : Option (List File)) (word : List ℕ) (v : SettingValue) → W input.File word → W input.Journal word → AllNamed W (audits_setting files word v)
+audits_named W files word (a_world r) load_may may = audit_named W files word r load_may may
+audits_named W files word (a_chain c) load_may may = legs_named W files word c _ load_may may (λ said s never. absurd never)
+
+rewinds_named : (W : MayName) (files : Option (List File)) (word : List ℕ) (k : ℕ) (v : SettingValue) → W input.File word → W input.Journal word → AllNamed W (rewinds_setting files word k v)
+rewinds_named W files word k (a_world r) load_may may = rewind_named W files word k r load_may may
+rewinds_named W files word k (a_chain c) load_may may =
+    legs_named W files word c (rewinds_legs word k c) load_may may
+    (λ said s is. subst (IsNamed W) (sym is.1) (named_at W input.Journal word (whole_file 84 (events_in said)) tt may (whole_placed 84 (events_in said) (omega arith))))
+
 -- Each form
 
 -- the words that a form may name
@@ -196,26 +272,26 @@ form_named files (code words) = then_named (MayNameOf (code words)) (set_of file
 form_named files (pack words) = then_named (MayNameOf (pack words)) (set_of files words) _ (set_named _ files words (λ w h. h) (λ w h. h)) (λ set h r never. absurd never)
 form_named files (run world words) =
     let W = MayNameOf (run world words) in
-    then_named W (ready files world words) _ (sources_named W files world words (run_may world words)) (λ r h s never. absurd never)
+    then_named W (ready files world words) runs_setting (sources_named W files world words (run_may world words)) (λ v h. runs_named W v)
 form_named files (step world words) =
     let W = MayNameOf (step world words) in
-    then_named W (ready files world words) _ (sources_named W files world words (step_may world words)) (λ r h s never. absurd never)
+    then_named W (ready files world words) steps_setting (sources_named W files world words (step_may world words)) (λ v h. steps_named W v)
 form_named files (replay world journal words) =
     let W = MayNameOf (replay world journal words) in
-    then_named W (ready files world words) (replay_of files journal) (sources_named W files world words (replay_may world journal words)) (λ r h. replay_named W files journal r (inr (inl refl)) (inl refl))
+    then_named W (ready files world words) (replays_setting files journal) (sources_named W files world words (replay_may world journal words)) (λ v h. replays_named W files journal v (inr (inl refl)) (inl refl))
 form_named files (gen number) = then_named (MayNameOf (gen number)) own_set (summarizes number) (λ r never. absurd never) (λ set h r never. absurd never)
 form_named files (audit world report words) =
     let W = MayNameOf (audit world report words) in
-    then_named W (ready files world words) (audit_of files report) (sources_named W files world words (audit_may world report words)) (λ r h. audit_named W files report r (inr (inl refl)) (inl refl))
+    then_named W (ready files world words) (audits_setting files report) (sources_named W files world words (audit_may world report words)) (λ v h. audits_named W files report v (inr (inl refl)) (inl refl))
 form_named files (rewind world report k words) =
     let W = MayNameOf (rewind world report k words) in
-    then_named W (ready files world words) (rewind_of files report k) (sources_named W files world words (rewind_may world report k words)) (λ r h. rewind_named W files report k r (inr (inl refl)) (inl refl))
+    then_named W (ready files world words) (rewinds_setting files report k) (sources_named W files world words (rewind_may world report k words)) (λ v h. rewinds_named W files report k v (inr (inl refl)) (inl refl))
 form_named files (steppack world file) =
     let W = MayNameOf (steppack world file) in
-    then_named W (ready_packed files world file) _ (packed_named W files world file (inl refl) (inl refl) (codes_named W files file (inr (inl refl)) (inl refl))) (λ r h s never. absurd never)
+    then_named W (ready_packed files world file) steps_setting (packed_named W files world file (inl refl) (inl refl) (codes_named W files file (inr (inl refl)) (inl refl))) (λ v h. steps_named W v)
 form_named files (runpack world file) =
     let W = MayNameOf (runpack world file) in
-    then_named W (ready_packed files world file) _ (packed_named W files world file (inl refl) (inl refl) (codes_named W files file (inr (inl refl)) (inl refl))) (λ r h s never. absurd never)
+    then_named W (ready_packed files world file) runs_setting (packed_named W files world file (inl refl) (inl refl) (codes_named W files file (inr (inl refl)) (inl refl))) (λ v h. runs_named W v)
 
 -- a call that put its text whole
 outcome_names : (f : FormValue) (shelf : Change ShelfState) (sink : Change SinkState) (o : FormOutcome) (status : Status) (text : List ℕ) → form_answer shelf.old.files f o → status ≡ status_of o → text ≡ text_of o → Gains sink text →
@@ -249,10 +325,16 @@ whole_names : (form : Option FormValue) (shelf : Change ShelfState) (sink : Chan
 whole_names None shelf sink status whole = λ about. absurd (subst IsAboutFile whole.comes.status_is about)
 whole_names (Some f) shelf sink status whole = λ about. outcome_names f shelf sink whole.comes.outcome status whole.text whole.comes.comes whole.comes.status_is whole.comes.text_is whole.put.grows about
 
+not_about : {form : Option FormValue} {shelf : Change ShelfState} {sink : Change SinkState} {status : Status} → Stopped form shelf sink status → IsAboutFile status → ⊥
+not_about s about = elim (stopped_by s) [ inl e ↦ subst IsAboutFile e about | inr e ↦ subst IsAboutFile e about ]
+
 -- which file a refusal names, from how a call ends
 pub names_of : (form : Option FormValue) (shelf : Change ShelfState) (sink : Change SinkState) (status : Status) → Ends form shelf sink status → Names form sink status
 names_of form shelf sink status ends =
     elim ends [
       | inl whole ↦ whole_names form shelf sink status whole
-      | inr rest ↦ elim rest [ inl b ↦ (λ about. absurd (subst IsAboutFile b.status_is about)) | inr w ↦ (λ about. absurd (subst IsAboutFile w.status_is about)) ]
+      | inr rest ↦ elim rest [
+        | inl b ↦ (λ about. absurd (subst IsAboutFile b.status_is about))
+        | inr last ↦ elim last [ inl w ↦ (λ about. absurd (subst IsAboutFile w.status_is about)) | inr s ↦ (λ about. absurd (not_about s about)) ]
+      ]
     ]

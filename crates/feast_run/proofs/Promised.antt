@@ -1,156 +1,36 @@
 -- The promises of a call, from how it ends.
 use Rattle.std.proofs.Common.{ℕ, ◌≡◌, List, [], ◌∷◌, ◌++◌, length, Option, Some, None, refl, sym, ap, subst, ◌∙◌, inl, inr, arith, Ok, Err}
 use Rattle.std.proofs.lemmas.List.{length-append, append_cancel_left}
-use Rattle.element_set.specs.Sets.{SetValue, check_text, code_text}
 use Rattle.feast_base.specs.Outside.{File, Grows, ShelfState, SinkState}
 use Rattle.feast_base.specs.Refusals.{refusal_line, unreadable_line}
 use Rattle.event_journal.specs.Logs.{abandoned_in, records_in}
-use Rattle.report_text.specs.Entries.{Entries}
-use Rattle.feast_run.proofs.Again.{own_report, replays_to}
+use Rattle.feast_run.proofs.Again.{own_report}
 use Rattle.feast_run.proofs.AuditedLater.{audited_later}
-use Rattle.feast_run.proofs.CodeStages.{codes_are}
-use Rattle.feast_base.proofs.Stages.{went}
 use Rattle.feast_run.proofs.Laws.{one_refusal}
 use Rattle.feast_run.proofs.Rewound.{rewound_later}
-use Rattle.feast_run.proofs.Runs.{ReadyTold, ready_told, set_is}
+use Rattle.feast_run.proofs.LegsAgain.{chain_again}
+use Rattle.feast_run.proofs.Stops.{not_stopped, stopped_by, stopped_kept}
 use Rattle.feast_run.proofs.Sound.{AreSound, codes_sound, set_sound}
 use Rattle.feast_run.proofs.Sure.{form_accepts, form_sure}
 use Rattle.feast_run.specs.Again.{IsOwnReport}
-use Rattle.feast_run.specs.Answer.{form_answer, replay_of, rewind_of, runs, shows, steps}
-use Rattle.feast_run.specs.Audited.{audit_of}
+use Rattle.feast_run.specs.Answer.{form_answer, shows}
+use Rattle.feast_run.specs.Chains.{are_stepped}
 use Rattle.feast_run.specs.Changes.{Change}
-use Rattle.feast_run.specs.CodeFiles.{codes_from}
 use Rattle.feast_run.specs.Elements.{ElementsValue, code_elements, source_elements}
 use Rattle.feast_run.specs.Ending.{Ends, Leaves, Whole, status_of, status_of_input, text_of}
-use Rattle.feast_run.specs.Packed.{pack_text}
 use Rattle.call_form.specs.Forms.{FormValue, check, code, pack, run, step, replay, gen, audit, rewind, steppack, runpack}
-use Rattle.feast_run.specs.Generating.{generates}
-use Rattle.feast_base.specs.Stages.{IsSure, Stage, and_then}
+use Rattle.feast_base.specs.Stages.{IsSure, Stage}
 use Rattle.feast_run.specs.Halting.{Accepts, FormOutcome, HaltValue, IsRefusal, RefusedValue, misses, refuses}
-use Rattle.feast_run.specs.Promises.{Agrees, AuditTold, Complete, Exactly, Gains, GainsLine, GenTold, HasShown, Headline, IsCodeFile, IsDue, IsReadAgain, IsSet, KnownReport, NoneNoted, RanTold, ReplayTold, ReportWords, RewindTold, SetTold, Shows, SteppedTold, UsageExactly, report_words}
-use Rattle.feast_run.specs.Owing.{Reports, entries_of}
-use Rattle.feast_run.specs.Stages.{ReadyValue, journal_in, load, ready_by, ready_with, set_of, ready_of_set}
-use Rattle.feast_run.specs.Stepped.{IsSteppedRun, machine_of, stepped_journal, stepped_logs, stepped_report}
+use Rattle.feast_run.specs.Promises.{Agrees, Complete, Exactly, Gains, GainsLine, HasShown, Headline, IsDue, IsReadAgain, IsRunAgain, IsRunPackAgain, IsStepAgain, IsStepPackAgain, NoneNoted, UsageExactly}
+use Rattle.feast_run.specs.Told.{IsCodeFile, IsSet, RanTold, RunShown, Shows, StepShown, SteppedTold}
+use Rattle.feast_run.specs.Owing.{entries_of}
+use Rattle.feast_run.specs.Stages.{chain_with, ready_of_set, ready_with}
+use Rattle.feast_run.specs.Stepped.{machine_of, stepped_journal, stepped_logs}
 use Rattle.feast_run.specs.declared.status.Status.{Status}
 use Rattle.feast_run.specs.declared.status.Status.TheVariants as how
 use Rattle.feast_run.specs.declared.halt.Input.{Input}
 use Rattle.feast_run.specs.declared.halt.Input.TheVariants as input
-use Rattle.feast_run.proofs.GeneratedSource.Accepted.{two_names}
-use Rattle.feast_run.specs.declared.loading.TheConstants.{JOURNAL_LIMIT}
-
--- a form of element files that showed a text, part by part
-set_told : (text : SetValue → List ℕ) (files : List File) (words : List (List ℕ)) (appended : List ℕ) → and_then (set_of (Some files) words) (shows text) (Ok appended) → SetTold text files words appended
-set_told text files words appended h =
-    let s = went _ _ appended h in
-    record { set = s.value; is_set = set_is files words s.value s.passed; shown = s.rest }
-
--- elements that are told come of a stage, and what they do is right
-pub record AreTold {X : Type 0} (elements : X → ElementsValue) (S : Stage X HaltValue) (IsTold : X → Type 0) : Type 0 where
-  pub told : (x : X) → S (Ok x) → IsTold x
-  pub sound : (x : X) → IsTold x → AreSound (elements x)
-
-sources_told : (files : List File) (words : List (List ℕ)) → AreTold source_elements (set_of (Some files) words) (IsSet files words)
-sources_told files words = record { told = set_is files words; sound = set_sound files words }
-
-codes_told : (files : List File) (file : List ℕ) → AreTold code_elements (codes_from (Some files) file) (IsCodeFile files file)
-codes_told files file = record { told = codes_are files file; sound = codes_sound files file }
-
--- a run that showed a text, part by part
-ran_told : {X : Type 0} (elements : X → ElementsValue) (S : Stage X HaltValue) (IsTold : X → Type 0) (files : List File) (world text : List ℕ) → AreTold elements S IsTold → and_then (ready_by elements S (Some files) world) runs (Ok text) → RanTold elements IsTold files world text
-ran_told elements S IsTold files world text are h =
-    let r = went _ _ text h in
-    let s = ready_told elements S files world r.value r.passed in
-    let is_told = are.told s.given s.passed in
-    let reports = subst (λ (v : ReadyValue). Reports v text) s.is r.rest in
-    record {
-      world = s.world;
-      given = s.given;
-      is_told = is_told;
-      told_world = s.told;
-      reports = reports;
-      replays = replays_to files world s.world (elements s.given) reports.grid reports.records reports.abandoned text (are.sound s.given is_told) s.told reports.run reports.shown;
-    }
-
--- a stepped run that showed a text, part by part
-stepped_told : {X : Type 0} (elements : X → ElementsValue) (S : Stage X HaltValue) (IsTold : X → Type 0) (files : List File) (world text : List ℕ) → AreTold elements S IsTold → and_then (ready_by elements S (Some files) world) steps (Ok text) → SteppedTold elements IsTold files world text
-stepped_told elements S IsTold files world text are h =
-    let r = went _ _ text h in
-    let s = ready_told elements S files world r.value r.passed in
-    let is_told = are.told s.given s.passed in
-    let run = subst IsSteppedRun s.is r.rest.0 in
-    let shown = r.rest.1 ∙ ap stepped_report s.is in
-    let ready = ready_with s.world (elements s.given) in
-    record {
-      world = s.world;
-      given = s.given;
-      is_told = is_told;
-      told_world = s.told;
-      run = run;
-      shown = shown;
-      replays = replays_to files world s.world (elements s.given) (machine_of ready).grid (records_in (stepped_logs ready)) (abandoned_in (stepped_logs ready)) text (are.sound s.given is_told) s.told run shown;
-    }
-
--- a world with the elements of a set, and the journal that its report says
-abbrev report_known : (files : List File) (words : ReportWords) (r : ReadyValue) (s : ReadyTold source_elements (set_of (Some files) words.elements) files words.world r) (bytes : List ℕ) (journal : Entries) →
-    load (Some files) JOURNAL_LIMIT words.report (Ok bytes) → journal_in words.report s.world bytes (Ok journal) → KnownReport files words
-report_known files words r s bytes journal loaded read = record {
-  world = s.world;
-  set = s.given;
-  is_set = set_is files words.elements s.given s.passed;
-  told_world = s.told;
-  bytes = bytes;
-  journal = journal;
-  told_report = record { file = loaded.0; within = loaded.1; reads = read };
-}
-
--- a replay that showed a text, part by part
-replay_told : (files : List File) (world journal : List ℕ) (words : List (List ℕ)) (text : List ℕ) → form_answer (Some files) (replay world journal words) (Ok text) → ReplayTold files (report_words world journal words) text
-replay_told files world journal words text h =
-    let r = went _ _ text h in
-    let s = ready_told source_elements (set_of (Some files) words) files world r.value r.passed in
-    let rest = subst (λ (v : ReadyValue). replay_of (Some files) journal v (Ok text)) s.is r.rest in
-    let j = went _ _ text rest in
-    let b = went _ _ j.value j.passed in
-    record { known = report_known files (report_words world journal words) r.value s b.value j.value b.passed b.rest; shown = j.rest }
-
--- a generated run that showed a text, part by part
-gen_told : (number : ℕ) (text : List ℕ) → generates number (Ok text) → GenTold number text
-gen_told number text h =
-    let s = went _ _ text h in
-    record { set = s.value; is_set = s.passed; names = two_names s.value s.passed; run = s.rest.0; shown = s.rest.1 }
-
--- an audit that showed a text, part by part
-audit_told : (files : List File) (world report : List ℕ) (words : List (List ℕ)) (text : List ℕ) → form_answer (Some files) (audit world report words) (Ok text) → AuditTold files (report_words world report words) text
-audit_told files world report words text h =
-    let r = went _ _ text h in
-    let s = ready_told source_elements (set_of (Some files) words) files world r.value r.passed in
-    let rest = subst (λ (v : ReadyValue). audit_of (Some files) report v (Ok text)) s.is r.rest in
-    let b = went _ _ text rest in
-    let j = went _ _ text b.rest in
-    record { known = report_known files (report_words world report words) r.value s b.value j.value b.passed j.passed; audits = j.rest }
-
--- a rewind that showed a text, part by part
-rewind_told : (files : List File) (world report : List ℕ) (k : ℕ) (words : List (List ℕ)) (text : List ℕ) → form_answer (Some files) (rewind world report k words) (Ok text) → RewindTold files (report_words world report words) k text
-rewind_told files world report k words text h =
-    let r = went _ _ text h in
-    let s = ready_told source_elements (set_of (Some files) words) files world r.value r.passed in
-    let rest = subst (λ (v : ReadyValue). rewind_of (Some files) report k v (Ok text)) s.is r.rest in
-    let j = went _ _ text rest in
-    let b = went _ _ j.value j.passed in
-    record { known = report_known files (report_words world report words) r.value s b.value j.value b.passed b.rest; enough = j.rest.0; shown = j.rest.1 }
-
-shows_of : (files : List File) (form : FormValue) (text : List ℕ) → form_answer (Some files) form (Ok text) → Shows files form text
-shows_of files (check words) text h = set_told check_text files words text h
-shows_of files (code words) text h = set_told code_text files words text h
-shows_of files (pack words) text h = set_told pack_text files words text h
-shows_of files (run world words) text h = ran_told source_elements (set_of (Some files) words) (IsSet files words) files world text (sources_told files words) h
-shows_of files (step world words) text h = stepped_told source_elements (set_of (Some files) words) (IsSet files words) files world text (sources_told files words) h
-shows_of files (replay world journal words) text h = replay_told files world journal words text h
-shows_of files (gen number) text h = gen_told number text h
-shows_of files (audit world report words) text h = audit_told files world report words text h
-shows_of files (rewind world report k words) text h = rewind_told files world report k words text h
-shows_of files (steppack world file) text h = stepped_told code_elements (codes_from (Some files) file) (IsCodeFile files file) files world text (codes_told files file) h
-shows_of files (runpack world file) text h = ran_told code_elements (codes_from (Some files) file) (IsCodeFile files file) files world text (codes_told files file) h
+use Rattle.feast_run.proofs.Told.{shows_of}
 
 -- the bytes of a run are its own report
 ran_again : {X : Type 0} (elements : X → ElementsValue) (IsTold : X → Type 0) (files : List File) (world text : List ℕ) → ((x : X) → IsTold x → AreSound (elements x)) → (told : RanTold elements IsTold files world text) →
@@ -167,25 +47,41 @@ stepped_again elements IsTold files world text sound told =
     let logs = stepped_logs ready in
     own_report files world told.world (elements told.given) (machine_of ready).grid (records_in logs) (abandoned_in logs) text (sound told.given told.is_told) told.told_world told.run told.shown
 
-again_of : (files : List File) (form : FormValue) (text : List ℕ) (told : Shows files form text) → IsReadAgain files form text told
-again_of files (check words) text told = tt
-again_of files (code words) text told = tt
-again_of files (pack words) text told = tt
-again_of files (run world words) text told =
+run_again : (files : List File) (world : List ℕ) (words : List (List ℕ)) (text : List ℕ) (told : RunShown source_elements (IsSet files words) files world text) → IsRunAgain files world words text told
+run_again files world words text (inl told) =
     let own = ran_again source_elements (IsSet files words) files world text (set_sound files words) told in
     let audited = audited_later files world words text told.world told.given told.is_told told.told_world own.audited in
     (own, audited, rewound_later files world words text told.world told.given (entries_of told.reports) told.is_told told.told_world own.rewound)
-again_of files (step world words) text told =
+run_again files world words text (inr told) = chain_again files world words text told.chain told.given told.is_told told.told_chain (told.reports.legs, told.reports.are, told.reports.shown)
+
+step_again : (files : List File) (world : List ℕ) (words : List (List ℕ)) (text : List ℕ) (told : StepShown source_elements (IsSet files words) files world text) → IsStepAgain files world words text told
+step_again files world words text (inl told) =
     let own = stepped_again source_elements (IsSet files words) files world text (set_sound files words) told in
     let journal = stepped_journal (ready_of_set told.world told.given) in
     let audited = audited_later files world words text told.world told.given told.is_told told.told_world own.audited in
     (own, audited, rewound_later files world words text told.world told.given journal told.is_told told.told_world own.rewound)
+step_again files world words text (inr told) = chain_again files world words text told.chain told.given told.is_told told.told_chain (are_stepped (chain_with told.chain (source_elements told.given)), told.run, told.shown)
+
+runpack_again : (files : List File) (world file text : List ℕ) (told : RunShown code_elements (IsCodeFile files file) files world text) → IsRunPackAgain files world file text told
+runpack_again files world file text (inl told) = ran_again code_elements (IsCodeFile files file) files world text (codes_sound files file) told
+runpack_again files world file text (inr told) = tt
+
+steppack_again : (files : List File) (world file text : List ℕ) (told : StepShown code_elements (IsCodeFile files file) files world text) → IsStepPackAgain files world file text told
+steppack_again files world file text (inl told) = stepped_again code_elements (IsCodeFile files file) files world text (codes_sound files file) told
+steppack_again files world file text (inr told) = tt
+
+again_of : (files : List File) (form : FormValue) (text : List ℕ) (told : Shows files form text) → IsReadAgain files form text told
+again_of files (check words) text told = tt
+again_of files (code words) text told = tt
+again_of files (pack words) text told = tt
+again_of files (run world words) text told = run_again files world words text told
+again_of files (step world words) text told = step_again files world words text told
 again_of files (replay world journal words) text told = tt
 again_of files (gen number) text told = tt
 again_of files (audit world report words) text told = tt
 again_of files (rewind world report k words) text told = tt
-again_of files (steppack world file) text told = stepped_again code_elements (IsCodeFile files file) files world text (codes_sound files file) told
-again_of files (runpack world file) text told = ran_again code_elements (IsCodeFile files file) files world text (codes_sound files file) told
+again_of files (steppack world file) text told = steppack_again files world file text told
+again_of files (runpack world file) text told = runpack_again files world file text told
 
 -- no refusal has one of the statuses of a whole call
 not_done : (i : Input) → status_of_input i ≡ how.Done → ⊥
@@ -236,7 +132,10 @@ headline_of form shelf sink status ends = λ files before told w done.
       | inl whole ↦ headline_by form files before shelf sink status told w whole done
       | inr rest ↦ elim rest [
         | inl broken ↦ (let x : how.SinkFault ≡ how.Done = sym broken.status_is ∙ done in cc)
-        | inr wanted ↦ (let x : how.NoMemory ≡ how.Done = sym wanted.status_is ∙ done in cc)
+        | inr last ↦ elim last [
+          | inl wanted ↦ (let x : how.NoMemory ≡ how.Done = sym wanted.status_is ∙ done in cc)
+          | inr stopped ↦ absurd (not_stopped stopped (λ e. cc e) (λ e. cc e) done)
+        ]
       ]
     ]
 
@@ -244,14 +143,20 @@ headline_of form shelf sink status ends = λ files before told w done.
 pub usage_of : (form : Option FormValue) (shelf : Change ShelfState) (sink : Change SinkState) (status : Status) → Ends form shelf sink status → UsageExactly form status
 usage_of None shelf sink status ends = record {
   only_where = λ e. refl;
-  wherever = λ e. elim ends [ inl whole ↦ inl whole.comes.status_is | inr rest ↦ inr (elim rest [ inl b ↦ inl b.status_is | inr w ↦ inr w.status_is ]) ];
+  wherever = λ e. elim ends [
+    | inl whole ↦ inl whole.comes.status_is
+    | inr rest ↦ inr (elim rest [ inl b ↦ inl b.status_is | inr last ↦ elim last [ inl w ↦ inr w.status_is | inr stopped ↦ stopped_by stopped ] ])
+  ];
 }
 usage_of (Some f) shelf sink status ends = record {
   only_where = λ e. elim ends [
     | inl whole ↦ absurd (no_usage whole.comes.outcome status whole.comes.status_is e)
     | inr rest ↦ elim rest [
       | inl b ↦ (let x : how.SinkFault ≡ how.Usage = sym b.status_is ∙ e in cc)
-      | inr w ↦ (let x : how.NoMemory ≡ how.Usage = sym w.status_is ∙ e in cc)
+      | inr last ↦ elim last [
+        | inl w ↦ (let x : how.NoMemory ≡ how.Usage = sym w.status_is ∙ e in cc)
+        | inr stopped ↦ absurd (not_stopped stopped (λ e. cc e) (λ e. cc e) e)
+      ]
     ]
   ];
   wherever = λ e. let x : None ≡ Some f = sym e in cc;
@@ -302,7 +207,7 @@ pub exactly_of : (form : Option FormValue) (shelf : Change ShelfState) (sink : C
 exactly_of form shelf sink status ends = λ same.
     elim ends [
       | inl whole ↦ inl (due_of form shelf sink status whole)
-      | inr rest ↦ elim rest [ inl b ↦ absurd (omega (arith, b.cut.more, same)) | inr w ↦ inr w.status_is ]
+      | inr rest ↦ elim rest [ inl b ↦ absurd (omega (arith, b.cut.more, same)) | inr last ↦ inr (elim last [ inl w ↦ w.status_is | inr stopped ↦ stopped_kept stopped same ]) ]
     ]
 
 done_of : (S : Stage (List ℕ) HaltValue) (shelf : Change ShelfState) (o : FormOutcome) (status : Status) → Accepts S → S o → Leaves shelf o → status ≡ status_of o → NoneNoted shelf → status ≡ how.Done
@@ -320,5 +225,5 @@ complete_of (Some g) shelf sink status ends = λ k good kept same.
           let fine = form_accepts k.files k.f good in
           let one : k.f ≡ g = (let e = sym k.form_is in cc) in
           inl (done_of (form_answer (Some k.files) g) shelf whole.comes.outcome status (subst (λ (v : FormValue). Accepts (form_answer (Some k.files) v)) one fine) comes whole.comes.leaves whole.comes.status_is kept)
-      | inr rest ↦ elim rest [ inl b ↦ absurd (omega (arith, b.cut.more, same)) | inr w ↦ inr w.status_is ]
+      | inr rest ↦ elim rest [ inl b ↦ absurd (omega (arith, b.cut.more, same)) | inr last ↦ inr (elim last [ inl w ↦ w.status_is | inr stopped ↦ stopped_kept stopped same ]) ]
     ]

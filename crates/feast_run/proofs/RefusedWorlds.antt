@@ -19,12 +19,12 @@ pub record IsLined (fault : ℕ × ℕ) : Type 0 where
   pub code : 3 ≤ fault.0
   pub line : 1 ≤ fault.1
 
-lined_as : (code line : ℕ) (f : ℕ × ℕ) → (code, line) ≡ f → 3 ≤ code → 1 ≤ line → IsLined f
+pub lined_as : (code line : ℕ) (f : ℕ × ℕ) → (code, line) ≡ f → 3 ≤ code → 1 ≤ line → IsLined f
 lined_as code line f is shown some = subst IsLined is (record { code = shown; line = some })
 
 -- The codes of lines
 
-misplaced_shown : (k : Kind) → 3 ≤ misplaced_code k
+pub misplaced_shown : (k : Kind) → 3 ≤ misplaced_code k
 misplaced_shown Start = omega arith
 misplaced_shown Header = omega arith
 misplaced_shown Tiles = omega arith
@@ -60,7 +60,7 @@ refused code = Err code
 refused_as : (a code : ℕ) → refused a ≡ Err code → 3 ≤ a → 3 ≤ code
 refused_as a code is shown = let same : a ≡ code = cc in omega (arith, same, shown)
 
-step_shown : (n : ℕ) (d : DraftValue) (o : Option Line) (code : ℕ) → step n d o ≡ Err code → 3 ≤ code
+pub step_shown : (n : ℕ) (d : DraftValue) (o : Option Line) (code : ℕ) → step n d o ≡ Err code → 3 ≤ code
 unfolding step
 step_shown n d None code h = refused_as (misplaced_code d.last) code h (misplaced_shown d.last)
 step_shown n d (Some l) code h = by (may_follow d.second d.last (kind_of l)) (in_range d.plane l) (too_many d l) h
@@ -100,7 +100,7 @@ put_lined n d (atom x y name s) some k = All-append HasLine d.atoms (raw_atom n 
 put_lined n d (order_seed s) some k = k
 put_lined n d (order ts) some k = k
 
-step_lined : (n : ℕ) (d e : DraftValue) (o : Option Line) → 1 ≤ n → AreLined d → step n d o ≡ Ok e → AreLined e
+pub step_lined : (n : ℕ) (d e : DraftValue) (o : Option Line) → 1 ≤ n → AreLined d → step n d o ≡ Ok e → AreLined e
 unfolding step
 step_lined n d e None some k h = cc
 step_lined n d e (Some l) some k h = by (may_follow d.second d.last (kind_of l)) (in_range d.plane l) (too_many d l) h
@@ -157,7 +157,7 @@ text_refused bytes f h = lines_refused 1 nothing_said (lines bytes) f (omega ari
 
 -- The names of atoms
 
-name_refused : (names : List (List ℕ)) (width : ℕ) (before : List ℕ) (atoms : List RawAtom) (f : ℕ × ℕ) → All HasLine atoms → name_fault names width before atoms ≡ Some f → IsLined f
+pub name_refused : (names : List (List ℕ)) (width : ℕ) (before : List ℕ) (atoms : List RawAtom) (f : ℕ × ℕ) → All HasLine atoms → name_fault names width before atoms ≡ Some f → IsLined f
 unfolding name_fault
 name_refused names width before [] f k h = cc
 name_refused names width before (a ∷ more) f k h =

@@ -1,17 +1,16 @@
 -- A rewind of the report of a run, and a later one by the same world and the same element files.
-use Rattle.std.proofs.Common.{ℕ, ◌≡◌, ◌≤◌, List, Some, Ok, length, ap, sym, subst, ◌∙◌, inr}
+use Rattle.std.proofs.Common.{ℕ, ◌≡◌, ◌≤◌, List, Some, Ok, length, ap, sym, subst, ◌∙◌, inl, inr}
 use Rattle.element_set.specs.Sets.{SetValue, element_names}
 use Rattle.report_text.specs.Reading.{entries_said, read_report}
-use Rattle.feast_base.proofs.Stages.{goes_at, went}
+use Rattle.feast_base.proofs.Stages.{went}
 use Rattle.feast_base.specs.Outside.{File, file_of}
-use Rattle.feast_base.specs.Stages.{Goes}
 use Rattle.report_text.specs.Entries.{Entries}
-use Rattle.feast_run.proofs.AuditedLater.{passes, passes_later}
-use Rattle.feast_run.proofs.Sure.{sources_one}
+use Rattle.feast_run.proofs.AuditedLater.{asked, chain_passes, passes, passes_later}
 use Rattle.feast_run.specs.Again.{RewindsTo, SaysJournal}
-use Rattle.feast_run.specs.Answer.{AreFirstAtoms, rewind_of}
-use Rattle.feast_run.specs.Promises.{IsRewoundLater, IsSet, RewindTold, WorldTold, report_words}
-use Rattle.feast_run.specs.Stages.{ReadyValue, ready, ready_of_set}
+use Rattle.feast_run.specs.Answer.{AreFirstAtoms, rewind_of, rewinds_setting}
+use Rattle.feast_run.specs.Promises.{IsRewoundLater}
+use Rattle.feast_run.specs.Told.{IsSet, RewindShown, WorldTold, chain_of_set, report_words}
+use Rattle.feast_run.specs.Stages.{ReadyValue, SettingValue, a_chain, a_world, ready, ready_of_set}
 use Rattle.world_text.specs.Named.{WorldValue}
 use Rattle.feast_run.specs.declared.loading.TheConstants.{JOURNAL_LIMIT}
 
@@ -32,21 +31,26 @@ rewinds_to r text j says within = record {
   only = only r text j says;
 }
 
--- a told rewind is of the same world with the same set
-same_rewind : (files : List File) (world report : List ℕ) (words : List (List ℕ)) (w : WorldValue) (set : SetValue) (k : ℕ) (atoms : List ℕ) → ready (Some files) world words (Ok (ready_of_set w set)) → RewindTold files (report_words world report words) k atoms →
-    rewind_of (Some files) report k (ready_of_set w set) (Ok atoms)
-same_rewind files world report words w set k atoms passed h =
+-- a told rewind is one of the setting that passed
+rewind_asked : (files : List File) (world report : List ℕ) (words : List (List ℕ)) (v : SettingValue) (k : ℕ) (atoms : List ℕ) → ready (Some files) world words (Ok v) → RewindShown files (report_words world report words) k atoms → rewinds_setting (Some files) report k v (Ok atoms)
+rewind_asked files world report words v k atoms passed (inl h) =
     let n = h.known in
-    let goes : Goes (ready (Some files) world words) (rewind_of (Some files) report k) (Ok atoms) = record {
-      value = ready_of_set n.world n.set;
+    asked files world words (rewinds_setting (Some files) report k) v atoms passed (record {
+      value = a_world (ready_of_set n.world n.set);
       passed = passes files world words n.world n.set n.told_world n.is_set;
       rest = inr (record { value = n.journal; passed = inr (record { value = n.bytes; passed = (n.told_report.file, n.told_report.within); rest = n.told_report.reads }); rest = (h.enough, h.shown) });
-    } in
-    goes_at _ _ (sources_one files world words) (ready_of_set w set) passed (Ok atoms) goes
+    })
+rewind_asked files world report words v k atoms passed (inr h) =
+    let n = h.known in
+    asked files world words (rewinds_setting (Some files) report k) v atoms passed (record {
+      value = a_chain (chain_of_set n.chain n.set);
+      passed = chain_passes files world words n.chain n.set n.told_chain n.is_set;
+      rest = inr (record { value = n.bytes; passed = (n.file, n.within); rest = inr (record { value = n.said; passed = n.reads; rest = (h.enough, h.shown) }) });
+    })
 
 pub rewound_later : (files : List File) (world : List ℕ) (words : List (List ℕ)) (text : List ℕ) (w : WorldValue) (set : SetValue) (j : Entries) → IsSet files words set → WorldTold files world (element_names set) w → RewindsTo (ready_of_set w set) text j →
     IsRewoundLater files world words text (AreFirstAtoms (ready_of_set w set) j)
 rewound_later files world words text w set j is_set told rewinds = record {
-  comes = λ later k atoms right. inr (record { value = ready_of_set w set; passed = passes_later files world words text w set is_set told later; rest = rewinds.comes later.others later.report k atoms later.report_is right });
-  only = λ later k atoms h. rewinds.only later.others later.report k atoms later.report_is (same_rewind later.others world later.report words w set k atoms (passes_later files world words text w set is_set told later) h);
+  comes = λ later k atoms right. inr (record { value = a_world (ready_of_set w set); passed = passes_later files world words text w set is_set told later; rest = rewinds.comes later.others later.report k atoms later.report_is right });
+  only = λ later k atoms h. rewinds.only later.others later.report k atoms later.report_is (rewind_asked later.others world later.report words (a_world (ready_of_set w set)) k atoms (passes_later files world words text w set is_set told later) h);
 }

@@ -1,6 +1,6 @@
 -- What a world with its elements is, from the stages that made it.
-use Rattle.std.proofs.Common.{ℕ, ◌≡◌, ◌≤◌, ◌<◌, ◌+◌, ◌*◌, ◌/◌, ◌%◌, true, List, [], ◌∷◌, All, Option, Some, None, Result, Ok, Err, get_or, length, refl, sym, ap, subst, ◌∙◌, arith, lt-ltb}
-use Rattle.std.specs.Prelude.{nat_lt, slice_index_or}
+use Rattle.std.proofs.Common.{ℕ, ◌≡◌, ◌≤◌, ◌<◌, ◌+◌, ◌*◌, ◌/◌, ◌%◌, true, List, [], All, Option, Some, None, Result, Ok, Err, get_or, length, refl, sym, ap, subst, ◌∙◌, arith, lt-ltb}
+use Rattle.std.specs.Prelude.{nat_lt}
 use Rattle.std.specs.Result.{IfOk}
 use Rattle.std.proofs.lemmas.Nat.{rows}
 use Rattle.draw_stream.proofs.Plans.{no_attempt}
@@ -8,7 +8,6 @@ use Rattle.list_laws.proofs.Tests.{together}
 use Rattle.cell_grid.specs.Grid.{GridValue}
 use Rattle.cell_grid.specs.declared.record.Record.{Record}
 use Rattle.draw_stream.specs.Plans.{attempts}
-use Rattle.event_journal.specs.Logs.{LogValue, log_of}
 use Rattle.report_text.specs.Reading.{IsFault, Said, entries_said, read_report}
 use Rattle.report_text.specs.declared.journal_fault.LineFault.{LineFault}
 use Rattle.feast_base.specs.Outside.{File, file_of}
@@ -21,8 +20,10 @@ use Rattle.feast_run.specs.Elements.{ElementsValue}
 use Rattle.feast_base.specs.Stages.{Stage}
 use Rattle.feast_run.specs.Halting.{HaltValue, RefusedValue, decides}
 use Rattle.feast_run.specs.Owing.{Reports}
-use Rattle.feast_run.specs.Promises.{IsSet, WorldTold}
-use Rattle.feast_run.specs.Stages.{ReadyValue, journal_in, journal_of, ready_by, ready_with, set_of, with_elements, world_refused}
+use Rattle.feast_run.proofs.SettingTexts.{is_chain_text, is_world_text}
+use Rattle.feast_run.specs.Told.{ChainTold, IsSet, WorldTold}
+use Rattle.chain_text.specs.Chain.{ChainValue}
+use Rattle.feast_run.specs.Stages.{ReadyChainValue, ReadyValue, SettingDraft, SettingValue, a_chain, a_world, chain_draft, chain_with, journal_in, journal_of, read_setting, ready_by, ready_with, set_of, with_elements, world_draft, world_refused}
 use Rattle.feast_run.specs.Tellings.{Tells}
 use Rattle.feast_run.specs.Values.{IsReady, elements_value}
 use Rattle.feast_run.specs.declared.halt.Halt.{Halt}
@@ -39,9 +40,8 @@ use Rattle.world_runs.proofs.Valid.{world_known, world_valid}
 use Rattle.cell_grid.specs.Known.{BringsNone, IsKnown}
 use Rattle.world_runs.specs.Known.{ArePlacedKnown}
 use Rattle.world_runs.specs.Worlds.{IsLiveEvent, IsWorld}
-use Rattle.world_text.specs.Drafts.{DraftValue}
-use Rattle.world_text.specs.Named.{WorldValue, world_with_names}
-use Rattle.world_text.specs.Reading.{read_text, IsFault as IsNameFault}
+use Rattle.world_text.specs.Named.{WorldValue}
+use Rattle.world_text.specs.Reading.{IsFault as IsNameFault}
 use Rattle.world_text.specs.Values.{world_value}
 use Rattle.world_text.specs.declared.world.Placed.{Placed}
 use Rattle.feast_run.specs.declared.loading.TheConstants.{WORLD_LIMIT}
@@ -57,24 +57,53 @@ pub record ReadyTold {X : Type 0} (elements : X → ElementsValue) (S : Stage X 
   pub is : r ≡ ready_with world (elements given)
   pub told : WorldTold files word (elements given).names world
 
-with_told : {X : Type 0} (elements : X → ElementsValue) (S : Stage X HaltValue) (files : List File) (word : List ℕ) (d : DraftValue) (bytes : List ℕ) (r : ReadyValue) → file_of word files ≡ Some bytes → length bytes ≤ WORLD_LIMIT → read_text bytes ≡ Ok d →
-    with_elements elements S word d (Ok r) → ReadyTold elements S files word r
-with_told elements S files word d bytes r file within reads h =
-    let w = went _ _ r h in
-    let n = went _ _ r w.rest in
-    record {
+-- and a chain
+pub record ReadyChainTold {X : Type 0} (elements : X → ElementsValue) (S : Stage X HaltValue) (files : List File) (word : List ℕ) (c : ReadyChainValue) : Type 0 where
+  pub chain : ChainValue
+  pub given : X
+  pub passed : S (Ok given)
+  pub is : c ≡ chain_with chain (elements given)
+  pub told : ChainTold files word (elements given).names chain
+
+abbrev pub SettingTold : {X : Type 0} → (X → ElementsValue) → Stage X HaltValue → List File → List ℕ → SettingValue → Type 0
+SettingTold elements S files word (a_world r) = ReadyTold elements S files word r
+SettingTold elements S files word (a_chain c) = ReadyChainTold elements S files word c
+
+-- the bytes of a file
+record HasBytes (files : List File) (word bytes : List ℕ) : Type 0 where
+  file : file_of word files ≡ Some bytes
+  within : length bytes ≤ WORLD_LIMIT
+
+with_told : {X : Type 0} (elements : X → ElementsValue) (S : Stage X HaltValue) (files : List File) (word : List ℕ) (d : SettingDraft) (bytes : List ℕ) (v : SettingValue) → HasBytes files word bytes → read_setting bytes ≡ Ok d →
+    with_elements elements S word d (Ok v) → SettingTold elements S files word v
+with_told elements S files word (world_draft d) bytes v has reads h =
+    let w = went _ _ v h in
+    let n = went _ _ v w.rest in
+    let text = is_world_text bytes d reads in
+    subst (SettingTold elements S files word) (sym n.rest) (record {
       world = n.value;
       given = w.value;
       passed = w.passed;
-      is = n.rest;
-      told = record { bytes = bytes; file = file; within = within; reads = (d, reads, n.passed) };
-    }
+      is = refl;
+      told = record { bytes = bytes; file = has.file; within = has.within; plain = text.0; reads = (d, text.1, n.passed) };
+    })
+with_told elements S files word (chain_draft d) bytes v has reads h =
+    let w = went _ _ v h in
+    let n = went _ _ v w.rest in
+    let text = is_chain_text bytes d reads in
+    subst (SettingTold elements S files word) (sym n.rest) (record {
+      chain = n.value;
+      given = w.value;
+      passed = w.passed;
+      is = refl;
+      told = record { bytes = bytes; file = has.file; within = has.within; begins = text.0; reads = (d, text.1, n.passed) };
+    })
 
-pub ready_told : {X : Type 0} (elements : X → ElementsValue) (S : Stage X HaltValue) (files : List File) (word : List ℕ) (r : ReadyValue) → ready_by elements S (Some files) word (Ok r) → ReadyTold elements S files word r
-ready_told elements S files word r h =
-    let a = went _ _ r h in
+pub ready_told : {X : Type 0} (elements : X → ElementsValue) (S : Stage X HaltValue) (files : List File) (word : List ℕ) (v : SettingValue) → ready_by elements S (Some files) word (Ok v) → SettingTold elements S files word v
+ready_told elements S files word v h =
+    let a = went _ _ v h in
     let b = went _ _ a.value a.passed in
-    with_told elements S files word a.value b.value r b.passed.0 b.passed.1 b.rest a.rest
+    with_told elements S files word a.value b.value v (record { file = b.passed.0; within = b.passed.1 }) b.rest a.rest
 
 -- a ready world is a world, whose atoms are known
 pub ready_valid : (r : Ready) → IsReady r → IsWorld (world_value r.world)
@@ -131,10 +160,6 @@ events_live w h one rs is = subst (All (IsLiveEvent w.plane)) (sym is) (each w.p
     let a = h.attempts 0 k no_attempt lt in
     site_live w.plane h.map one a.on (get_or (attempts w.plan 0) k no_attempt).centre a.centre))
 
--- the records of the first log
-pub first_records : (logs : List LogValue) (log : LogValue) (events now : List Record) → logs ≡ log_of 0 events [] ∷ [] → log ≡ slice_index_or logs 0 (log_of 0 [] []) → now ≡ log.records → now ≡ events
-first_records logs log events now a b c = c ∙ ap (λ (l : LogValue). l.records) (b ∙ ap (λ ls. slice_index_or ls 0 (log_of 0 [] [])) a)
-
 -- the grid that known atoms are left on
 pub known_grid : {E : Type 0} (names : List (List ℕ)) (atoms : List Placed) (means : WindowValue → ℕ → WindowValue) (r : Result GridValue E) → ArePlacedKnown (length names) atoms → BringsNone (length names) means →
     IfOk r (λ (g : GridValue). (n : ℕ) → ArePlacedKnown n atoms → BringsNone n means → All (IsKnown n) g.atoms) → IfOk r (λ (g : GridValue). AreNamed names g.atoms)
@@ -161,10 +186,10 @@ journal_halts word w bytes (Some fault) (Refused s) asked is = ((fault, ap entri
 journal_halts word w bytes (Some fault) (Missing v) asked is = absurd is
 journal_halts word w bytes (Some fault) NoMemory asked is = absurd is
 
-pub names_halt : {X : Type 0} (value : X → WorldValue) (word : List ℕ) (draft : DraftValue) (names : List (List ℕ)) (o : Option (ℕ × ℕ)) (halt : Halt) → IsNameFault (world_with_names names draft) o → IsWorldHalt word o halt → Tells value (decides (world_refused word) (world_with_names names draft)) (Err halt)
-names_halt value word draft names None (Refused s) asked is = absurd is
-names_halt value word draft names None (Missing v) asked is = absurd is
-names_halt value word draft names None NoMemory asked is = tt
-names_halt value word draft names (Some fault) (Refused s) asked is = ((fault, asked, is.0), subst Coded (sym (ap (λ (v : RefusedValue). v.refusal.code) is.0)) is.1)
-names_halt value word draft names (Some fault) (Missing v) asked is = absurd is
-names_halt value word draft names (Some fault) NoMemory asked is = absurd is
+pub names_halt : {X A : Type 0} (value : X → A) (word : List ℕ) (asked : Result A (ℕ × ℕ)) (o : Option (ℕ × ℕ)) (halt : Halt) → IsNameFault asked o → IsWorldHalt word o halt → Tells value (decides (world_refused word) asked) (Err halt)
+names_halt value word asked None (Refused s) said is = absurd is
+names_halt value word asked None (Missing v) said is = absurd is
+names_halt value word asked None NoMemory said is = tt
+names_halt value word asked (Some fault) (Refused s) said is = ((fault, said, is.0), subst Coded (sym (ap (λ (v : RefusedValue). v.refusal.code) is.0)) is.1)
+names_halt value word asked (Some fault) (Missing v) said is = absurd is
+names_halt value word asked (Some fault) NoMemory said is = absurd is

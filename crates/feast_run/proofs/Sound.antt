@@ -11,7 +11,7 @@ use Rattle.element_set.specs.Sets.{SetValue, element_names, program_of}
 use Rattle.feast_base.specs.Outside.{File}
 use Rattle.feast_base.specs.TypeNames.{is_type_name}
 use Rattle.feast_run.specs.Elements.{ElementsValue, code_elements, source_elements}
-use Rattle.feast_run.specs.Promises.{IsCodeFile, IsSet}
+use Rattle.feast_run.specs.Told.{IsCodeFile, IsSet}
 use Rattle.ulam_meaning.proofs.EventLaws.{stays_known}
 use Rattle.ulam_meaning.specs.Events.{after}
 use Rattle.cell_grid.specs.Known.{BringsNone}

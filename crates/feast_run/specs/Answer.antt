@@ -14,8 +14,9 @@ use Rattle.feast_run.specs.Generating.{generates}
 use Rattle.feast_base.specs.Stages.{Stage, and_then, gives, gives_any, gives_known}
 use Rattle.feast_run.specs.Halting.{HaltValue, misses, refuses}
 use Rattle.feast_run.specs.Audited.{audit_of}
+use Rattle.feast_run.specs.Chains.{audit_legs_of, replay_legs_of, rewind_legs_of, runs_legs, steps_legs}
 use Rattle.feast_run.specs.Owing.{Reports}
-use Rattle.feast_run.specs.Stages.{ReadyValue, journal_of, ready, records_refused, set_of}
+use Rattle.feast_run.specs.Stages.{ReadyChainValue, ReadyValue, SettingValue, a_chain, a_world, journal_of, ready, records_refused, set_of}
 use Rattle.feast_run.specs.Stepped.{IsSteppedRun, stepped_report}
 use Rattle.report_text.specs.Report.{atoms_text, report}
 use Rattle.world_runs.specs.OneTile.{events_of}
@@ -68,16 +69,45 @@ rewinds word k r journal (Err (misses w)) = ⊥
 abbrev pub rewind_of : Option (List File) → List ℕ → ℕ → ReadyValue → Stage (List ℕ) HaltValue
 rewind_of files word k r = and_then (journal_of files word r.world) (rewinds word k r)
 
+-- what each form does with a setting
+abbrev pub runs_setting : SettingValue → Stage (List ℕ) HaltValue
+runs_setting (a_world r) = runs r
+runs_setting (a_chain c) = runs_legs c
+
+abbrev pub steps_setting : SettingValue → Stage (List ℕ) HaltValue
+steps_setting (a_world r) = steps r
+steps_setting (a_chain c) = steps_legs c
+
+abbrev pub replays_setting : Option (List File) → List ℕ → SettingValue → Stage (List ℕ) HaltValue
+replays_setting files word (a_world r) = replay_of files word r
+replays_setting files word (a_chain c) = replay_legs_of files word c
+
+abbrev pub audits_setting : Option (List File) → List ℕ → SettingValue → Stage (List ℕ) HaltValue
+audits_setting files word (a_world r) = audit_of files word r
+audits_setting files word (a_chain c) = audit_legs_of files word c
+
+abbrev pub rewinds_setting : Option (List File) → List ℕ → ℕ → SettingValue → Stage (List ℕ) HaltValue
+rewinds_setting files word k (a_world r) = rewind_of files word k r
+rewinds_setting files word k (a_chain c) = rewind_legs_of files word k c
+
 -- the stages of a form, in the order of their refusals
 abbrev pub form_answer : Option (List File) → FormValue → Stage (List ℕ) HaltValue
 form_answer files (check words) = and_then (set_of files words) (shows check_text)
 form_answer files (code words) = and_then (set_of files words) (shows code_text)
 form_answer files (pack words) = and_then (set_of files words) (shows pack_text)
-form_answer files (run world words) = and_then (ready files world words) runs
-form_answer files (step world words) = and_then (ready files world words) steps
-form_answer files (replay world journal words) = and_then (ready files world words) (replay_of files journal)
+form_answer files (run world words) = and_then (ready files world words) runs_setting
+form_answer files (step world words) = and_then (ready files world words) steps_setting
+form_answer files (replay world journal words) = and_then (ready files world words) (replays_setting files journal)
 form_answer files (gen number) = generates number
-form_answer files (audit world report words) = and_then (ready files world words) (audit_of files report)
-form_answer files (rewind world report k words) = and_then (ready files world words) (rewind_of files report k)
-form_answer files (steppack world file) = and_then (ready_packed files world file) steps
-form_answer files (runpack world file) = and_then (ready_packed files world file) runs
+form_answer files (audit world report words) = and_then (ready files world words) (audits_setting files report)
+form_answer files (rewind world report k words) = and_then (ready files world words) (rewinds_setting files report k)
+form_answer files (steppack world file) = and_then (ready_packed files world file) steps_setting
+form_answer files (runpack world file) = and_then (ready_packed files world file) runs_setting
+
+-- a form runs or steps this chain
+abbrev pub RunsChain : Option (List File) → FormValue → ReadyChainValue → Type 0
+RunsChain files (run world words) c = ready files world words (Ok (a_chain c))
+RunsChain files (step world words) c = ready files world words (Ok (a_chain c))
+RunsChain files (steppack world file) c = ready_packed files world file (Ok (a_chain c))
+RunsChain files (runpack world file) c = ready_packed files world file (Ok (a_chain c))
+RunsChain files form c = ⊥

@@ -1,4 +1,4 @@
--- The stages of a code file, and of a world with its elements.
+-- The stages of a code file, and of a setting with its elements.
 use Rattle.std.specs.Prelude.{ℕ, ◌≡◌, List, min, Option, Ok, Err, ◌^◌, ◌-◌}
 use Rattle.code_file.specs.Form.{CodesValue}
 use Rattle.code_file.specs.Judging.{Reads}
@@ -9,9 +9,8 @@ use Rattle.feast_base.specs.declared.place.Refusal.{Refusal}
 use Rattle.feast_run.specs.Elements.{code_elements}
 use Rattle.feast_base.specs.Stages.{Stage, and_then}
 use Rattle.feast_run.specs.Halting.{HaltValue, RefusedValue, misses, refusal_of, refuses}
-use Rattle.feast_run.specs.Stages.{ReadyValue, load, ready_by, with_elements}
+use Rattle.feast_run.specs.Stages.{SettingDraft, SettingValue, load, ready_by, with_elements}
 use Rattle.feast_run.specs.declared.halt.Input.TheVariants as input
-use Rattle.world_text.specs.Drafts.{DraftValue}
 use Rattle.feast_run.specs.declared.loading.TheConstants.{CODE_LIMIT}
 
 -- a refusal of a byte, counted from 1; places number bytes up to 2^32 - 1, and no file that is loaded has more
@@ -40,10 +39,10 @@ codes_in word bytes (Err (misses w)) = ⊥
 abbrev pub codes_from : Option (List File) → List ℕ → Stage CodesValue HaltValue
 codes_from files word = and_then (load files CODE_LIMIT word) (codes_in word)
 
--- the elements of a world, which are those of a code file
-abbrev pub with_codes : Option (List File) → List ℕ → List ℕ → DraftValue → Stage ReadyValue HaltValue
+-- the elements of a setting, which are those of a code file
+abbrev pub with_codes : Option (List File) → List ℕ → List ℕ → SettingDraft → Stage SettingValue HaltValue
 with_codes files code word draft = with_elements code_elements (codes_from files code) word draft
 
--- a world with the elements of a code file
-abbrev pub ready_packed : Option (List File) → List ℕ → List ℕ → Stage ReadyValue HaltValue
+-- a setting with the elements of a code file
+abbrev pub ready_packed : Option (List File) → List ℕ → List ℕ → Stage SettingValue HaltValue
 ready_packed files word code = ready_by code_elements (codes_from files code) files word

@@ -1,10 +1,13 @@
 -- How a call ends.
-use Rattle.std.specs.Prelude.{ℕ, ◌≡◌, List, Option, Some, None, ◌⊎◌, Ok, Err}
+use Rattle.std.specs.Prelude.{ℕ, ◌≡◌, ◌<◌, List, [], ◌∷◌, ◌++◌, length, Option, Some, None, ◌⊎◌, Ok, Err}
+use Rattle.chain_run.specs.Legs.{Leg}
 use Rattle.feast_base.specs.Loading.{IsCut, IsPut}
-use Rattle.feast_base.specs.Outside.{ShelfState, SinkState}
+use Rattle.feast_base.specs.Outside.{Grows, ShelfState, SinkState}
 use Rattle.feast_base.specs.Refusals.{refusal_line, usage_line, unreadable_line}
-use Rattle.feast_run.specs.Answer.{form_answer}
+use Rattle.feast_run.specs.Answer.{RunsChain, form_answer}
+use Rattle.feast_run.specs.Chains.{AreFirstLegs, first_text}
 use Rattle.feast_run.specs.Changes.{Change}
+use Rattle.feast_run.specs.Stages.{ReadyChainValue}
 use Rattle.call_form.specs.Forms.{FormValue}
 use Rattle.feast_base.specs.Stages.{Stage}
 use Rattle.feast_run.specs.Halting.{FormOutcome, HaltValue, misses, refuses}
@@ -90,6 +93,38 @@ pub record OutOfMemory (form : Option FormValue) (shelf : Change ShelfState) (si
   pub same : sink.new.faults ≡ sink.old.faults
   pub status_is : status ≡ how.NoMemory
 
+-- a run of a chain whose memory ran out behind some legs, before the last: their reports were put whole
+pub record StopsBehind (c : ReadyChainValue) (sink : Change SinkState) : Type 0 where
+  pub legs : List Leg
+  pub are : AreFirstLegs c legs
+  pub fewer : length legs < c.chain.legs
+  pub grows : Grows sink.old.written sink.new.written (first_text c legs)
+  pub same : sink.new.faults ≡ sink.old.faults
+
+-- a run of a chain whose put failed: the reports of some legs were put whole, and a first part of that of the next leg
+pub record StopsWithin (c : ReadyChainValue) (sink : Change SinkState) : Type 0 where
+  pub legs : List Leg
+  pub leg : Leg
+  pub are : AreFirstLegs c (legs ++ leg ∷ [])
+  pub cut : IsCut sink.old sink.new (first_text c (legs ++ leg ∷ []))
+  pub part : List ℕ
+  pub behind : cut.front ≡ first_text c legs ++ part
+
+-- a run of a chain that stops with this status
+abbrev pub StopsRun : ReadyChainValue → Change SinkState → Status → Type 0
+StopsRun c sink how.SinkFault = StopsWithin c sink
+StopsRun c sink how.NoMemory = StopsBehind c sink
+StopsRun c sink status = ⊥
+
+-- a call that stopped in a leg of a chain
+pub record Stopped (form : Option FormValue) (shelf : Change ShelfState) (sink : Change SinkState) (status : Status) : Type 0 where
+  pub f : FormValue
+  pub form_is : form ≡ Some f
+  pub chain : ReadyChainValue
+  pub runs : RunsChain shelf.old.files f chain
+  pub leaves : Keeps shelf.old shelf.new
+  pub stops : StopsRun chain sink status
+
 -- how a call ends
 abbrev pub Ends : Option FormValue → Change ShelfState → Change SinkState → Status → Type 0
-Ends form shelf sink status = Whole form shelf sink status ⊎ (Broken form shelf sink status ⊎ OutOfMemory form shelf sink status)
+Ends form shelf sink status = Whole form shelf sink status ⊎ (Broken form shelf sink status ⊎ (OutOfMemory form shelf sink status ⊎ Stopped form shelf sink status))

@@ -2,6 +2,7 @@ pub mod Acting
 pub mod Again
 pub mod Answer
 pub mod Audited
+pub mod Chains
 pub mod Changes
 pub mod CodeFiles
 pub mod Codes
@@ -11,6 +12,7 @@ pub mod Faults
 pub mod GeneratedElements
 pub mod Generating
 pub mod Halting
+pub mod Legs
 pub mod Naming
 pub mod Outputs
 pub mod Owing
@@ -21,4 +23,5 @@ pub mod Stages
 pub mod Stepped
 pub mod Tellings
 pub mod Threaded
+pub mod Told
 pub mod Values

@@ -1,6 +1,10 @@
--- The stages that the forms are made of.
-use Rattle.std.specs.Prelude.{ℕ, ◌≡◌, ◌≤◌, List, [], ◌∷◌, ◌++◌, All, length, min, Option, Result, Ok, Err, slice_index_or, ◌^◌, ◌-◌}
+-- The stages that the forms are made of. A setting is what a call is about: a world, or a chain of runs of one.
+use Rattle.std.specs.Prelude.{ℕ, ◌≡◌, ◌≤◌, List, [], ◌∷◌, ◌++◌, All, length, min, Option, Result, Ok, Err, slice_index_or, ◌^◌, ◌-◌, if◌then◌else◌}
 use Rattle.cell_grid.specs.declared.record.Record.{Record}
+use Rattle.chain_text.specs.Chain.{ChainValue}
+use Rattle.chain_text.specs.Drafts.{ChainDraft}
+use Rattle.chain_text.specs.Named.{chain_with_names}
+use Rattle.chain_text.specs.Reading.{is_chain, read_text as read_chain_text}
 use Rattle.code_file.specs.Form.{CodesValue}
 use Rattle.element_set.specs.Sets.{SetValue, AcceptsFiles, RefusesFiles}
 use Rattle.event_journal.specs.declared.abandoned.Abandoned.{Abandoned}
@@ -76,15 +80,46 @@ builds words sources (Err (misses w)) = ⊥
 abbrev pub set_of : Option (List File) → List (List ℕ) → Stage SetValue HaltValue
 set_of files words = and_then (load_all files words) (builds words)
 
--- what the text of a world says, before its atoms have types
-abbrev pub draft_of : Option (List File) → List ℕ → Stage DraftValue HaltValue
-draft_of files word = and_then (load files WORLD_LIMIT word) (λ bytes. decides (world_refused word) (read_text bytes))
+-- what the text of a setting says, before its atoms have types
+pub data SettingDraft : Type 0 where
+  world_draft : DraftValue → SettingDraft
+  chain_draft : ChainDraft → SettingDraft
+
+abbrev pub as_world : Result DraftValue (ℕ × ℕ) → Result SettingDraft (ℕ × ℕ)
+as_world (Ok d) = Ok (world_draft d)
+as_world (Err fault) = Err fault
+
+abbrev pub as_chain : Result ChainDraft (ℕ × ℕ) → Result SettingDraft (ℕ × ℕ)
+as_chain (Ok d) = Ok (chain_draft d)
+as_chain (Err fault) = Err fault
+
+-- what a text says, or the code of its first fault and the number of its line: its first line tells a chain from a world
+abbrev pub read_setting : List ℕ → Result SettingDraft (ℕ × ℕ)
+read_setting bytes = if is_chain bytes then as_chain (read_chain_text bytes) else as_world (read_text bytes)
+
+abbrev pub draft_of : Option (List File) → List ℕ → Stage SettingDraft HaltValue
+draft_of files word = and_then (load files WORLD_LIMIT word) (λ bytes. decides (world_refused word) (read_setting bytes))
 
 -- a world, and what the elements of its atoms are called, by type number from 1, and do
 pub record ReadyValue : Type 0 where
   pub world : WorldValue
   pub names : List (List ℕ)
   pub meaning : WindowValue → ℕ → WindowValue
+
+-- a chain, and what the elements of its atoms are called, and do
+pub record ReadyChainValue : Type 0 where
+  pub chain : ChainValue
+  pub names : List (List ℕ)
+  pub meaning : WindowValue → ℕ → WindowValue
+
+-- a setting with its elements
+pub data SettingValue : Type 0 where
+  a_world : ReadyValue → SettingValue
+  a_chain : ReadyChainValue → SettingValue
+
+-- a chain with elements
+abbrev pub chain_with : ChainValue → ElementsValue → ReadyChainValue
+chain_with c e = record { chain = c; names = e.names; meaning = e.meaning }
 
 -- a world with elements
 abbrev pub ready_with : WorldValue → ElementsValue → ReadyValue
@@ -98,24 +133,25 @@ ready_of_set world set = ready_with world (source_elements set)
 abbrev pub ready_of_codes : WorldValue → CodesValue → ReadyValue
 ready_of_codes world es = ready_with world (code_elements es)
 
--- the names of a world's atoms, which are of these elements
-abbrev pub named_by : List ℕ → DraftValue → ElementsValue → Stage ReadyValue HaltValue
-named_by word draft e = and_then (decides (world_refused word) (world_with_names e.names draft)) (λ (world : WorldValue). gives (ready_with world e))
+-- the names of a setting's atoms, which are of these elements
+abbrev pub named_by : List ℕ → SettingDraft → ElementsValue → Stage SettingValue HaltValue
+named_by word (world_draft d) e = and_then (decides (world_refused word) (world_with_names e.names d)) (λ (world : WorldValue). gives (a_world (ready_with world e)))
+named_by word (chain_draft d) e = and_then (decides (world_refused word) (chain_with_names e.names d)) (λ (chain : ChainValue). gives (a_chain (chain_with chain e)))
 
--- the elements of a world, which a stage gives
-abbrev pub with_elements : {X : Type 0} → (X → ElementsValue) → Stage X HaltValue → List ℕ → DraftValue → Stage ReadyValue HaltValue
+-- the elements of a setting, which a stage gives
+abbrev pub with_elements : {X : Type 0} → (X → ElementsValue) → Stage X HaltValue → List ℕ → SettingDraft → Stage SettingValue HaltValue
 with_elements value S word draft = and_then S (λ x. named_by word draft (value x))
 
--- the elements of a world, which are those of element files
-abbrev pub with_sources : Option (List File) → List (List ℕ) → List ℕ → DraftValue → Stage ReadyValue HaltValue
+-- the elements of a setting, which are those of element files
+abbrev pub with_sources : Option (List File) → List (List ℕ) → List ℕ → SettingDraft → Stage SettingValue HaltValue
 with_sources files words word draft = with_elements source_elements (set_of files words) word draft
 
--- a world with the elements that a stage gives
-abbrev pub ready_by : {X : Type 0} → (X → ElementsValue) → Stage X HaltValue → Option (List File) → List ℕ → Stage ReadyValue HaltValue
+-- a setting with the elements that a stage gives
+abbrev pub ready_by : {X : Type 0} → (X → ElementsValue) → Stage X HaltValue → Option (List File) → List ℕ → Stage SettingValue HaltValue
 ready_by value S files word = and_then (draft_of files word) (with_elements value S word)
 
--- a world with the elements of files
-abbrev pub ready : Option (List File) → List ℕ → List (List ℕ) → Stage ReadyValue HaltValue
+-- a setting with the elements of files
+abbrev pub ready : Option (List File) → List ℕ → List (List ℕ) → Stage SettingValue HaltValue
 ready files word words = ready_by source_elements (set_of files words) files word
 
 -- the journal of a world in the bytes of a report

@@ -1,20 +1,23 @@
 //! The stages of an audit.
 ghost use Rattle.std.specs.Prelude.{◌≡◌, ◌<◌, ◌≤◌, ◌^◌, IfOk, length};
+ghost use Rattle.feast_run.specs.Answer.{audits_setting};
 ghost use Rattle.feast_run.specs.Audited.{Audits, audit_of, audit_with};
 ghost use Rattle.call_form.specs.Forms.{audit, texts};
 ghost use Rattle.feast_run.specs.Outputs.{IsWritable, output_text};
 ghost use Rattle.feast_run.specs.Replies.{TellsForm};
 ghost use Rattle.feast_run.specs.Tellings.{Moves, Tells};
-ghost use Rattle.feast_run.specs.Values.{IsReady, ready_value};
+ghost use Rattle.feast_run.specs.Values.{IsReady, IsReadySetting, ready_value, setting_value};
 ghost use Rattle.call_form.specs.declared.form.TheConstants.{MOST_FILES};
 ghost use Rattle.report_text.specs.Again.{SaysThese};
 ghost use Rattle.world_text.specs.Values.{world_value};
 
+use crate::chains::audit_chain;
 use crate::halt::Halt;
 use crate::journals::read_loaded;
 use crate::loading::{JOURNAL_LIMIT, load_file};
 use crate::output::Output;
-use crate::worlds::{Ready, make_ready};
+use crate::settings::{Setting, make_ready};
+use crate::worlds::Ready;
 use feast_base::{NoMemory, Shelf};
 use report_judge::{ReadReport, judge, judgement_line};
 use report_text::ReadJournal;
@@ -74,6 +77,25 @@ fn audit_rest<'a, F: Shelf>(
     audit_loaded(alloc, word, bytes.as_slice(), &ready)
 }
 
+/// The stages of an audit from its report on, of a world or of a chain.
+fn audit_setting<'a, F: Shelf>(
+    alloc: Global,
+    shelf: &mut F,
+    word: &'a str,
+    setting: Setting,
+) -> Result<Output, Halt<'a>>
+    requires { IsReadySetting setting }
+    ensures files { (F.state shelf.new).files ≡ (F.state shelf.old).files }
+    ensures moves { Moves (F.state shelf.old) (F.state shelf.new) result }
+    ensures tells { Tells output_text (audits_setting (F.state shelf.old).files word.now (setting_value setting)) result }
+    ensures writable { IfOk result IsWritable }
+{
+    match setting {
+        Setting::World(ready) => audit_rest(alloc, shelf, word, ready),
+        Setting::Chain(ready) => audit_chain(alloc, shelf, word, ready),
+    }
+}
+
 /// The stages of an audit, up to its line.
 pub fn audit_stages<'a, F: Shelf>(
     alloc: Global,
@@ -88,6 +110,6 @@ pub fn audit_stages<'a, F: Shelf>(
     ensures tells { TellsForm (F.state shelf.old) (audit world.now report.now (texts words.now)) result }
     ensures writable { IfOk result IsWritable }
 {
-    let ready = make_ready(alloc, shelf, world, words)?;
-    audit_rest(alloc, shelf, report, ready)
+    let setting = make_ready(alloc, shelf, world, words)?;
+    audit_setting(alloc, shelf, report, setting)
 }

@@ -32,7 +32,7 @@ pub fn journal_refusal<'a>(word: &'a str, refusal: Refusal) -> Halt<'a>
 }
 
 /// The halt at a fault of a journal.
-fn journal_halt<'a>(word: &'a str, fault: JournalFault) -> Halt<'a>
+pub fn journal_halt<'a>(word: &'a str, fault: JournalFault) -> Halt<'a>
     ensures { IsJournalHalt word.now (fault_of fault) result }
 {
     match fault {

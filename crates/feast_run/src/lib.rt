@@ -5,6 +5,7 @@
 
 mod acting;
 mod auditing;
+mod chains;
 mod code_files;
 mod element_files;
 mod elements;
@@ -15,6 +16,7 @@ mod halt;
 mod in_memory;
 mod journals;
 mod law;
+mod legs;
 mod loading;
 mod output;
 mod packing;
@@ -22,6 +24,7 @@ mod replaying;
 mod reply;
 mod rewinding;
 mod running;
+mod settings;
 mod stages;
 mod status;
 mod stepping;

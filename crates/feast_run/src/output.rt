@@ -1,6 +1,7 @@
 //! What a call writes.
 
-use crate::worlds::Ready;
+use crate::elements::Elements;
+use crate::worlds::{Ready, ReadyChain};
 use cell_grid::Grid;
 use event_journal::Journal;
 
@@ -23,16 +24,16 @@ impl Drop for FinishedRun {
     }
 }
 
-/// A grid that events left, and the world that they were made of with its elements.
+/// A grid that events left, and the elements of its atoms.
 pub struct ShownGrid {
     pub grid: Grid,
-    pub ready: Ready,
+    pub elements: Elements,
 }
 
 // Written by hand, not derived: so a caller drops it by one call.
 impl Drop for ShownGrid {
     fn drop(self) {
-        let ShownGrid { grid, ready } = self;
+        let ShownGrid { grid, elements } = self;
     }
 }
 
@@ -53,6 +54,38 @@ impl Drop for Output {
             Output::Text(text) => {}
             Output::Grid(shown) => {}
             Output::Report(finished) => {}
+        }
+    }
+}
+
+/// A chain whose legs are to be run, or stepped.
+pub struct LegsToRun {
+    pub ready: ReadyChain,
+    /// Whether each leg is stepped on one thread.
+    pub stepped: bool,
+}
+
+// Written by hand, not derived: so a caller drops it by one call.
+impl Drop for LegsToRun {
+    fn drop(self) {
+        let LegsToRun { ready, stepped } = self;
+    }
+}
+
+/// What is left to do once the stages of a form are passed.
+pub enum Job {
+    /// Something is written.
+    Write(Output),
+    /// The legs of a chain are run, and the report of each is put before the next one begins.
+    Legs(LegsToRun),
+}
+
+// Written by hand, not derived: so a caller drops it by one call.
+impl Drop for Job {
+    fn drop(self) {
+        match self {
+            Job::Write(output) => {}
+            Job::Legs(legs) => {}
         }
     }
 }

@@ -1,23 +1,25 @@
 //! The stages of a rewind.
 ghost use Rattle.std.specs.Prelude.{◌≡◌, ◌<◌, ◌≤◌, All, Err, IfOk, length, take};
-ghost use Rattle.feast_run.specs.Answer.{atoms_after, rewind_of, rewinds};
+ghost use Rattle.feast_run.specs.Answer.{atoms_after, rewind_of, rewinds, rewinds_setting};
 ghost use Rattle.feast_run.specs.Faults.{IsHalt};
 ghost use Rattle.call_form.specs.Forms.{rewind, texts};
 ghost use Rattle.feast_run.specs.Outputs.{IsWritable, output_text};
 ghost use Rattle.feast_run.specs.Replies.{TellsForm};
 ghost use Rattle.feast_run.specs.Stages.{records_refused};
 ghost use Rattle.feast_run.specs.Tellings.{Moves, Tells};
-ghost use Rattle.feast_run.specs.Values.{IsReady, ready_value};
+ghost use Rattle.feast_run.specs.Values.{IsReady, IsReadySetting, ready_value, setting_value};
 ghost use Rattle.world_runs.specs.Worlds.{IsLiveEvent};
 ghost use Rattle.world_text.specs.Values.{world_value};
 ghost use Rattle.call_form.specs.declared.form.TheConstants.{MOST_FILES};
 
+use crate::chains::rewind_chain;
 use crate::grids::grid_rewound;
 use crate::halt::Halt;
 use crate::journals::{journal_refusal, load_journal};
 use crate::loading::whole_file;
 use crate::output::{Output, ShownGrid};
-use crate::worlds::{Ready, make_ready};
+use crate::settings::{Setting, make_ready};
+use crate::worlds::Ready;
 use feast_base::Shelf;
 use report_text::ReadJournal;
 use std::alloc::Global;
@@ -25,11 +27,11 @@ use std::alloc::Global;
 /// The code of a report that has too few events.
 const TOO_FEW: u8 = 84;
 
-/// The halt at a journal with too few events.
-fn too_few<'a>(word: &'a str, journal: &ReadJournal) -> Halt<'a>
-    ensures { IsHalt (records_refused word.now (length journal.now.records)) result }
+/// The halt at a report with too few events, by how many it has.
+pub fn too_few<'a>(word: &'a str, count: u64) -> Halt<'a>
+    ensures { IsHalt (records_refused word.now count) result }
 {
-    journal_refusal(word, whole_file(TOO_FEW, journal.records().len() as u64))
+    journal_refusal(word, whole_file(TOO_FEW, count))
 }
 
 /// The halt at a journal that has fewer events than are to remain.
@@ -37,7 +39,7 @@ fn few<'a>(word: &'a str, left: u32, ready: &Ready, journal: &ReadJournal) -> Ha
     requires { length journal.now.records < left }
     ensures { Tells output_text (rewinds word.now left (ready_value ready.now) journal.now) (Err result) }
 {
-    too_few(word, journal)
+    too_few(word, journal.records().len() as u64)
 }
 
 /// The grid of a rewind to no more events than the journal has.
@@ -55,7 +57,10 @@ fn rewind_kept<'a>(
     ensures writable { IfOk result IsWritable }
 {
     let grid = grid_rewound(alloc, &ready, journal.records(), left as usize)?;
-    Ok(Output::Grid(ShownGrid { grid, ready }))
+    Ok(Output::Grid(ShownGrid {
+        grid,
+        elements: ready.into_elements(),
+    }))
 }
 
 /// The stages of a rewind once its journal is read.
@@ -96,6 +101,26 @@ fn rewind_rest<'a, F: Shelf>(
     rewind_loaded(alloc, word, left, ready, &journal)
 }
 
+/// The stages of a rewind from its report on, of a world or of a chain.
+fn rewind_setting<'a, F: Shelf>(
+    alloc: Global,
+    shelf: &mut F,
+    word: &'a str,
+    left: u32,
+    setting: Setting,
+) -> Result<Output, Halt<'a>>
+    requires { IsReadySetting setting }
+    ensures files { (F.state shelf.new).files ≡ (F.state shelf.old).files }
+    ensures moves { Moves (F.state shelf.old) (F.state shelf.new) result }
+    ensures tells { Tells output_text (rewinds_setting (F.state shelf.old).files word.now left (setting_value setting)) result }
+    ensures writable { IfOk result IsWritable }
+{
+    match setting {
+        Setting::World(ready) => rewind_rest(alloc, shelf, word, left, ready),
+        Setting::Chain(ready) => rewind_chain(alloc, shelf, word, left, ready),
+    }
+}
+
 /// The stages of a rewind, up to its grid.
 pub fn rewind_stages<'a, F: Shelf>(
     alloc: Global,
@@ -111,6 +136,6 @@ pub fn rewind_stages<'a, F: Shelf>(
     ensures tells { TellsForm (F.state shelf.old) (rewind world.now report.now left (texts words.now)) result }
     ensures writable { IfOk result IsWritable }
 {
-    let ready = make_ready(alloc, shelf, world, words)?;
-    rewind_rest(alloc, shelf, report, left, ready)
+    let setting = make_ready(alloc, shelf, world, words)?;
+    rewind_setting(alloc, shelf, report, left, setting)
 }

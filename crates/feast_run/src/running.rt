@@ -1,14 +1,14 @@
 //! The stages of a run.
 ghost use Rattle.std.specs.Prelude.{◌≡◌, ◌≢◌, ◌≤◌, [], IfOk, length};
 ghost use Rattle.event_journal.specs.Logs.{abandoned_in, records_in};
-ghost use Rattle.feast_run.specs.Answer.{lone_logs, run_report, runs};
+ghost use Rattle.feast_run.specs.Answer.{form_answer, lone_logs, run_report, runs, runs_setting};
 ghost use Rattle.call_form.specs.Forms.{run, runpack, texts};
-ghost use Rattle.feast_run.specs.Outputs.{IsWritable, output_text};
+ghost use Rattle.feast_run.specs.Outputs.{CanBeDone, IsWritable, output_text};
 ghost use Rattle.feast_run.specs.Owing.{Reports};
-ghost use Rattle.feast_run.specs.Replies.{TellsForm};
+ghost use Rattle.feast_run.specs.Replies.{RunsForm, RunsSetting, TellsJob};
 ghost use Rattle.feast_run.specs.Tellings.{Moves, Tells};
 ghost use Rattle.feast_run.specs.Threaded.{IsThreadedOf};
-ghost use Rattle.feast_run.specs.Values.{IsReady, ready_value};
+ghost use Rattle.feast_run.specs.Values.{IsReady, IsReadySetting, ready_value, setting_value};
 ghost use Rattle.world_runs.specs.OneTile.{events_of};
 ghost use Rattle.tile_map.specs.Plane.{tiles_of};
 ghost use Rattle.world_text.specs.Values.{world_value};
@@ -17,8 +17,9 @@ ghost use Rattle.call_form.specs.declared.form.TheConstants.{MOST_FILES};
 use crate::acting::{actors, tiles_in};
 use crate::grids::grid_after;
 use crate::halt::Halt;
-use crate::output::{FinishedRun, Output};
-use crate::worlds::{Ready, make_packed, make_ready};
+use crate::output::{FinishedRun, Job, LegsToRun, Output};
+use crate::settings::{Setting, make_packed, make_ready};
+use crate::worlds::Ready;
 use event_journal::Journal;
 use feast_base::{Gate, NoMemory, Shelf};
 use serial_order::Outcome;
@@ -122,7 +123,28 @@ pub fn run_rest<'a, R: Threads + Sync, G: Gate>(
     Ok(ran(rt, alloc, ready, gate)?)
 }
 
-/// The stages of a run, up to its report.
+/// What is run of a setting: a world at once, and the legs of a chain when they are written.
+fn run_setting<'a, R: Threads + Sync, G: Gate>(
+    rt: &R,
+    alloc: Global,
+    setting: Setting,
+    gate: &G,
+) -> Result<Job, Halt<'a>>
+    requires { IsReadySetting setting }
+    ensures tells { TellsJob (runs_setting (setting_value setting)) result }
+    ensures legs { IfOk result (RunsSetting (setting_value setting)) }
+    ensures can { IfOk result CanBeDone }
+{
+    match setting {
+        Setting::World(ready) => Ok(Job::Write(run_rest(rt, alloc, ready, gate)?)),
+        Setting::Chain(ready) => Ok(Job::Legs(LegsToRun {
+            ready,
+            stepped: false,
+        })),
+    }
+}
+
+/// The stages of a run, up to its report, or to the legs of a chain.
 pub fn run_stages<'a, R: Threads + Sync, F: Shelf, G: Gate>(
     rt: &R,
     alloc: Global,
@@ -130,18 +152,19 @@ pub fn run_stages<'a, R: Threads + Sync, F: Shelf, G: Gate>(
     world: &'a str,
     words: &'a [String],
     gate: &G,
-) -> Result<Output, Halt<'a>>
+) -> Result<Job, Halt<'a>>
     requires { length words.now ≤ MOST_FILES }
     ensures files { (F.state shelf.new).files ≡ (F.state shelf.old).files }
     ensures moves { Moves (F.state shelf.old) (F.state shelf.new) result }
-    ensures tells { TellsForm (F.state shelf.old) (run world.now (texts words.now)) result }
-    ensures writable { IfOk result IsWritable }
+    ensures tells { TellsJob (form_answer (F.state shelf.old).files (run world.now (texts words.now))) result }
+    ensures legs { IfOk result (RunsForm (F.state shelf.old).files (run world.now (texts words.now))) }
+    ensures can { IfOk result CanBeDone }
 {
-    let ready = make_ready(alloc, shelf, world, words)?;
-    run_rest(rt, alloc, ready, gate)
+    let setting = make_ready(alloc, shelf, world, words)?;
+    run_setting(rt, alloc, setting, gate)
 }
 
-/// The stages of a run with the elements of a code file, up to its report.
+/// The stages of a run with the elements of a code file, up to its report, or to the legs of a chain.
 pub fn runpack_stages<'a, R: Threads + Sync, F: Shelf, G: Gate>(
     rt: &R,
     alloc: Global,
@@ -149,12 +172,13 @@ pub fn runpack_stages<'a, R: Threads + Sync, F: Shelf, G: Gate>(
     world: &'a str,
     code: &'a str,
     gate: &G,
-) -> Result<Output, Halt<'a>>
+) -> Result<Job, Halt<'a>>
     ensures files { (F.state shelf.new).files ≡ (F.state shelf.old).files }
     ensures moves { Moves (F.state shelf.old) (F.state shelf.new) result }
-    ensures tells { TellsForm (F.state shelf.old) (runpack world.now code.now) result }
-    ensures writable { IfOk result IsWritable }
+    ensures tells { TellsJob (form_answer (F.state shelf.old).files (runpack world.now code.now)) result }
+    ensures legs { IfOk result (RunsForm (F.state shelf.old).files (runpack world.now code.now)) }
+    ensures can { IfOk result CanBeDone }
 {
-    let ready = make_packed(alloc, shelf, world, code)?;
-    run_rest(rt, alloc, ready, gate)
+    let setting = make_packed(alloc, shelf, world, code)?;
+    run_setting(rt, alloc, setting, gate)
 }

@@ -1,18 +1,19 @@
 //! The stages of a stepped run.
 ghost use Rattle.std.specs.Prelude.{◌≡◌, ◌≤◌, IfOk, length};
-ghost use Rattle.feast_run.specs.Answer.{steps};
+ghost use Rattle.feast_run.specs.Answer.{form_answer, steps, steps_setting};
 ghost use Rattle.call_form.specs.Forms.{step, steppack, texts};
-ghost use Rattle.feast_run.specs.Outputs.{IsWritable, output_text};
-ghost use Rattle.feast_run.specs.Replies.{TellsForm};
+ghost use Rattle.feast_run.specs.Outputs.{CanBeDone, IsWritable, output_text};
+ghost use Rattle.feast_run.specs.Replies.{RunsForm, RunsSetting, TellsJob};
 ghost use Rattle.feast_run.specs.Stepped.{IsOutcomeOf, IsSteppedRun, stepped_report};
 ghost use Rattle.feast_run.specs.Tellings.{Moves, Tells};
-ghost use Rattle.feast_run.specs.Values.{IsReady, ready_value};
+ghost use Rattle.feast_run.specs.Values.{IsReady, IsReadySetting, ready_value, setting_value};
 ghost use Rattle.call_form.specs.declared.form.TheConstants.{MOST_FILES};
 
 use crate::acting::{actors, tiles_in};
 use crate::halt::Halt;
-use crate::output::{FinishedRun, Output};
-use crate::worlds::{Ready, make_packed, make_ready};
+use crate::output::{FinishedRun, Job, LegsToRun, Output};
+use crate::settings::{Setting, make_packed, make_ready};
+use crate::worlds::Ready;
 use feast_base::{NoMemory, Shelf};
 use serial_order::Outcome;
 use std::alloc::Global;
@@ -53,35 +54,53 @@ fn step_rest<'a>(alloc: Global, ready: Ready) -> Result<Output, Halt<'a>>
     Ok(ran_stepped(alloc, ready)?)
 }
 
-/// The stages of a stepped run, up to its report.
+/// What is stepped of a setting: a world at once, and the legs of a chain when they are written.
+fn step_setting<'a>(alloc: Global, setting: Setting) -> Result<Job, Halt<'a>>
+    requires { IsReadySetting setting }
+    ensures tells { TellsJob (steps_setting (setting_value setting)) result }
+    ensures legs { IfOk result (RunsSetting (setting_value setting)) }
+    ensures can { IfOk result CanBeDone }
+{
+    match setting {
+        Setting::World(ready) => Ok(Job::Write(step_rest(alloc, ready)?)),
+        Setting::Chain(ready) => Ok(Job::Legs(LegsToRun {
+            ready,
+            stepped: true,
+        })),
+    }
+}
+
+/// The stages of a stepped run, up to its report, or to the legs of a chain.
 pub fn step_stages<'a, F: Shelf>(
     alloc: Global,
     shelf: &mut F,
     world: &'a str,
     words: &'a [String],
-) -> Result<Output, Halt<'a>>
+) -> Result<Job, Halt<'a>>
     requires { length words.now ≤ MOST_FILES }
     ensures files { (F.state shelf.new).files ≡ (F.state shelf.old).files }
     ensures moves { Moves (F.state shelf.old) (F.state shelf.new) result }
-    ensures tells { TellsForm (F.state shelf.old) (step world.now (texts words.now)) result }
-    ensures writable { IfOk result IsWritable }
+    ensures tells { TellsJob (form_answer (F.state shelf.old).files (step world.now (texts words.now))) result }
+    ensures legs { IfOk result (RunsForm (F.state shelf.old).files (step world.now (texts words.now))) }
+    ensures can { IfOk result CanBeDone }
 {
-    let ready = make_ready(alloc, shelf, world, words)?;
-    step_rest(alloc, ready)
+    let setting = make_ready(alloc, shelf, world, words)?;
+    step_setting(alloc, setting)
 }
 
-/// The stages of a stepped run with the elements of a code file, up to its report.
+/// The stages of a stepped run with the elements of a code file, up to its report, or to the legs of a chain.
 pub fn steppack_stages<'a, F: Shelf>(
     alloc: Global,
     shelf: &mut F,
     world: &'a str,
     code: &'a str,
-) -> Result<Output, Halt<'a>>
+) -> Result<Job, Halt<'a>>
     ensures files { (F.state shelf.new).files ≡ (F.state shelf.old).files }
     ensures moves { Moves (F.state shelf.old) (F.state shelf.new) result }
-    ensures tells { TellsForm (F.state shelf.old) (steppack world.now code.now) result }
-    ensures writable { IfOk result IsWritable }
+    ensures tells { TellsJob (form_answer (F.state shelf.old).files (steppack world.now code.now)) result }
+    ensures legs { IfOk result (RunsForm (F.state shelf.old).files (steppack world.now code.now)) }
+    ensures can { IfOk result CanBeDone }
 {
-    let ready = make_packed(alloc, shelf, world, code)?;
-    step_rest(alloc, ready)
+    let setting = make_packed(alloc, shelf, world, code)?;
+    step_setting(alloc, setting)
 }

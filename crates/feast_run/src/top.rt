@@ -4,15 +4,16 @@ ghost use Rattle.feast_run.specs.Changes.{change};
 ghost use Rattle.feast_run.specs.Ending.{Ends};
 ghost use Rattle.call_form.specs.Forms.{form_of_words};
 ghost use Rattle.feast_run.specs.Naming.{Names};
-ghost use Rattle.feast_run.specs.Outputs.{IsWritable, output_text};
+ghost use Rattle.feast_run.specs.Outputs.{CanBeDone, IsWritable, output_text};
 ghost use Rattle.feast_run.specs.Promises.{Complete, Exactly, Headline, Noted, UsageExactly};
-ghost use Rattle.feast_run.specs.Replies.{PutWith};
+ghost use Rattle.feast_run.specs.Replies.{PutJob, status_after};
 ghost use Rattle.feast_run.specs.Values.{elements_value};
 ghost use Rattle.report_text.specs.Report.{AreNamed, grid_text};
 ghost use Rattle.report_text.specs.Writing.{Writes};
 
 use crate::Status;
-use crate::output::{Output, ShownGrid};
+use crate::legs::put_legs;
+use crate::output::{Job, Output, ShownGrid};
 use crate::reply::{Reply, reply_to_words};
 use feast_base::{Gate, NoMemory, Shelf, Sink, SinkFailed};
 use report_text::{WriteFault, write_grid, write_report};
@@ -36,10 +37,10 @@ fn put_text<K: Sink>(sink: &mut K, text: &[u8]) -> Result<(), WriteFault>
 /// Puts the atoms of a grid in pieces.
 fn put_grid<K: Sink>(sink: &mut K, shown: &ShownGrid) -> Result<(), WriteFault>
     requires room { (K.state sink.old).faults < 2 ^ 64 - 1 }
-    requires named { AreNamed (elements_value shown.now.ready.elements).names shown.now.grid.atoms }
-    ensures { Writes (K.state sink.old) (K.state sink.new) (grid_text (elements_value shown.now.ready.elements).names shown.now.grid) result }
+    requires named { AreNamed (elements_value shown.now.elements).names shown.now.grid.atoms }
+    ensures { Writes (K.state sink.old) (K.state sink.new) (grid_text (elements_value shown.now.elements).names shown.now.grid) result }
 {
-    match write_grid(&shown.grid, shown.ready.elements.names(), sink) {
+    match write_grid(&shown.grid, shown.elements.names(), sink) {
         Ok(()) => Ok(()),
         Err(SinkFailed) => Err(WriteFault::Sink),
     }
@@ -72,16 +73,32 @@ fn write<R: Threads + Sync, K: Sink>(
     }
 }
 
-/// Writes a reply, and answers its status if it is put whole.
-fn put<R: Threads + Sync, K: Sink>(rt: &R, alloc: Global, sink: &mut K, reply: &Reply) -> Status
-    requires room { (K.state sink.old).faults < 2 ^ 64 - 1 }
-    requires writable { IsWritable reply.now.output }
-    ensures { PutWith reply.now (change K.state sink.old sink.new) result }
+/// The status of a call that put what it had to with one, or could not.
+fn status_after(right: Status, put: Result<(), WriteFault>) -> Status
+    ensures { result ≡ status_after right put }
 {
-    match write(rt, alloc, sink, &reply.output) {
-        Ok(()) => reply.status,
+    match put {
+        Ok(()) => right,
         Err(WriteFault::Sink) => Status::SinkFault,
         Err(WriteFault::NoMemory) => Status::NoMemory,
+    }
+}
+
+/// Does the job of a reply, and answers its status if all was put.
+fn put<R: Threads + Sync, K: Sink, G: Gate>(
+    rt: &R,
+    alloc: Global,
+    sink: &mut K,
+    reply: &Reply,
+    gate: &G,
+) -> Status
+    requires room { (K.state sink.old).faults < 2 ^ 64 - 1 }
+    requires can { CanBeDone reply.now.job }
+    ensures { PutJob reply.now.status reply.now.job (change K.state sink.old sink.new) result }
+{
+    match &reply.job {
+        Job::Write(output) => status_after(reply.status, write(rt, alloc, sink, output)),
+        Job::Legs(legs) => status_after(reply.status, put_legs(rt, alloc, sink, legs, gate)),
     }
 }
 
@@ -99,15 +116,16 @@ fn call<R: Threads + Sync, F: Shelf, K: Sink, G: Gate>(
     ensures ends { Ends (form_of_words words.now) (change F.state shelf.old shelf.new) (change K.state sink.old sink.new) result }
 {
     match reply_to_words(rt, alloc, shelf, words, gate) {
-        Ok(reply) => put(rt, alloc, sink, &reply),
+        Ok(reply) => put(rt, alloc, sink, &reply, gate),
         Err(NoMemory) => Status::NoMemory,
     }
 }
 
 /// Does what the words say, and answers how it ended.
 ///
-/// The words are those after the program's name. FILE stands for 1 to 64 element files. The words
-/// have eleven forms:
+/// The words are those after the program's name. FILE stands for 1 to 64 element files. WORLD is a world,
+/// or a chain, which the first line that isn't skipped tells: `chain 1`. A chain is many runs on one plane,
+/// its legs, with acts on the plane between them. The words have eleven forms:
 ///
 /// - `check FILE..`: the layout of each class in the files is written.
 /// - `code FILE..`: the compiled code of each element in the files is written.
@@ -133,6 +151,10 @@ fn call<R: Threads + Sync, F: Shelf, K: Sink, G: Gate>(
 ///   but the first K are undone, the last of them first, and the atoms are then written. K is up to
 ///   1,000,000.
 ///
+/// Of a chain, `run` and `step` run each leg so, from the grid that the one before it left, with its acts
+/// done, and put its report before the next leg begins; `replay`, `audit` and `rewind` take the reports of
+/// all legs, one after another, in REPORT.
+///
 /// The atoms that `replay` and `rewind` write are put in pieces of 4,096 bytes too, any other text in
 /// one piece, or not at all if it is empty. Any refusal is reported in one line, put in place of the
 /// text. If it is about a file, the line names a word of such a file:
@@ -151,7 +173,8 @@ fn call<R: Threads + Sync, F: Shelf, K: Sink, G: Gate>(
 /// WORLD is loaded and read before the element files or CODE are loaded, and the element files are
 /// all loaded before the first is read. Then the names of the world's atoms are looked up, and then
 /// JOURNAL or REPORT is loaded and read. The answer is the first cause. `SinkFault` comes if a put
-/// failed. `NoMemory` comes if memory runs out; then nothing is put.
+/// failed. `NoMemory` comes if memory runs out; then nothing is put, but of a chain that is run or stepped
+/// the reports of the legs before are put whole.
 ///
 /// The shelf appends to its failed names only a file word whose load failed. On `run` and `runpack`
 /// each worker calls the gate before each attempt, with the tile's number and the attempt's, and if

@@ -4,7 +4,7 @@ use Rattle.code_file.specs.Numbers.{be}
 use Rattle.element_set.specs.Sets.{SetValue, AcceptsFiles}
 use Rattle.element_set.specs.Stages.{Tree, tree_of}
 use Rattle.feast_run.specs.Packed.{pack_text}
-use Rattle.feast_run.specs.Promises.{IsSet}
+use Rattle.feast_run.specs.Told.{IsSet}
 use Rattle.pack_laws.specs.Example.{empty_word, example_files, no_elements, packed_word}
 use Rattle.pack_laws.specs.PackedFile.{IsPacked}
 

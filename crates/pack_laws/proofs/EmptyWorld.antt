@@ -1,7 +1,8 @@
 -- Runs of a world without atoms, in which nothing is tried, with no elements.
-use Rattle.std.proofs.Common.{ℕ, ◌≡◌, false, List, [], ◌∷◌, All, Ok, refl, ap, subst, ◌∙◌, arith}
+use Rattle.std.proofs.Common.{ℕ, ◌≡◌, false, List, [], ◌∷◌, All, Ok, refl, ap, inl, subst, ◌∙◌, arith}
 use Rattle.std.specs.Fmt.{digits}
 use Rattle.std.proofs.lemmas.List.Elements.{All-cons, All-nil}
+use Rattle.chain_text.specs.Reading.{begins_chain}
 use Rattle.event_journal.specs.Logs.{abandoned_in, records_in}
 use Rattle.event_journal.specs.Merged.{merged, merged_few}
 use Rattle.feast_run.proofs.Again.{replays_to}
@@ -11,11 +12,12 @@ use Rattle.feast_run.specs.Answer.{run_report}
 use Rattle.feast_run.specs.Elements.{ElementsValue, source_elements}
 use Rattle.call_form.specs.Forms.{run, step}
 use Rattle.feast_run.specs.Owing.{IsRun, Reports}
-use Rattle.feast_run.specs.Promises.{Shows, WorldTold}
+use Rattle.feast_run.specs.Told.{Shows, WorldTold}
 use Rattle.feast_run.specs.Stages.{ReadyValue, ready_with}
 use Rattle.feast_run.specs.Stepped.{IsSteppedRun, machine_of, stepped_logs, stepped_report}
 use Rattle.pack_laws.specs.Example.{empty_word, empty_world, example_files, world_word}
 use Rattle.pack_laws.proofs.Empty.{is_set, no_set}
+use Rattle.text_lines.specs.Lines.{lines_after, without_cr}
 use Rattle.world_text.proofs.Again.{text_again}
 use Rattle.world_text.specs.Drafts.{DraftValue, in_range, missing, nothing_said, only_plane, put, step as line_step, too_many}
 use Rattle.world_text.specs.Line.{Line, header, size, tiles}
@@ -61,7 +63,8 @@ unfolding name_fault
 is_named = refl
 
 told : WorldTold example_files world_word elements.names world
-told = record { bytes = empty_world; file = refl; within = omega arith; reads = (draft, reads, is_named) }
+unfolding begins_chain lines_after without_cr
+told = record { bytes = empty_world; file = refl; within = omega arith; plain = refl; reads = (draft, reads, is_named) }
 
 abbrev left : List ℕ
 left = run_report ready
@@ -78,14 +81,14 @@ reports = alone_reports ready left (record {
 pub shows : (text : List ℕ) × Shows example_files (run world_word (empty_word ∷ [])) text
 shows = (
   left,
-  record {
+  inl (record {
     world = world;
     given = no_set;
     is_told = is_set;
     told_world = told;
     reports = reports;
     replays = replays_to example_files world_word world elements reports.grid reports.records reports.abandoned left (set_sound example_files (empty_word ∷ []) no_set is_set) told reports.run reports.shown;
-  },
+  }),
 )
 
 -- and so does a stepped run
@@ -99,7 +102,7 @@ stepped_run =
 pub steps : (text : List ℕ) × Shows example_files (step world_word (empty_word ∷ [])) text
 steps = (
   stepped_report ready,
-  record {
+  inl (record {
     world = world;
     given = no_set;
     is_told = is_set;
@@ -107,5 +110,5 @@ steps = (
     run = stepped_run;
     shown = refl;
     replays = replays_to example_files world_word world elements (machine_of ready).grid (records_in (stepped_logs ready)) (abandoned_in (stepped_logs ready)) (stepped_report ready) (set_sound example_files (empty_word ∷ []) no_set is_set) told stepped_run refl;
-  },
+  }),
 )

@@ -4,7 +4,7 @@ use Rattle.feast_base.specs.Outside.{File}
 use Rattle.feast_run.specs.Elements.{ElementsValue}
 use Rattle.feast_base.specs.Stages.{Stage, Goes, IsOne, and_then}
 use Rattle.feast_run.specs.Halting.{HaltValue, IsRefusal, RefusedValue, misses, refuses}
-use Rattle.feast_run.specs.Stages.{ReadyValue, draft_of, named_by, ready_by, with_elements}
+use Rattle.feast_run.specs.Stages.{SettingValue, draft_of, named_by, ready_by, with_elements}
 use Rattle.pack_laws.specs.PackedFile.{IsLoaded}
 
 -- a stage passes with this value alone, and refuses nothing
@@ -32,19 +32,19 @@ into S T x h o t = inr (record { value = x; passed = h.passed; rest = t })
 -- Two stages of elements that are the same ones
 
 module _ (X Y : Type 0) (value : X → ElementsValue) (other : Y → ElementsValue) (S : Stage X HaltValue) (U : Stage Y HaltValue) (x : X) (u : Y) (s : Only S x) (t : Only U u) (same : value x ≡ other u) (files : Option (List File)) (word : List ℕ) where
-  ready_goes : (o : Result ReadyValue HaltValue) → IsLoaded o → Goes (draft_of files word) (with_elements value S word) o → ready_by other U files word o
+  ready_goes : (o : Result SettingValue HaltValue) → IsLoaded o → Goes (draft_of files word) (with_elements value S word) o → ready_by other U files word o
   ready_goes o l g =
       let here = through S (λ a. named_by word g.value (value a)) x s o l g.rest in
       let there = subst (λ (e : ElementsValue). named_by word g.value e o) same here in
       inr (record { value = g.value; passed = g.passed; rest = into U (λ a. named_by word g.value (other a)) u t o there })
 
-  ready_same : (o : Result ReadyValue HaltValue) → IsLoaded o → ready_by value S files word o → ready_by other U files word o
+  ready_same : (o : Result SettingValue HaltValue) → IsLoaded o → ready_by value S files word o → ready_by other U files word o
   ready_same (Ok a) l h = elim h [ inl never ↦ absurd never | inr g ↦ ready_goes (Ok a) l g ]
   ready_same (Err (refuses r)) l h = elim h [ inl halt ↦ inl halt | inr g ↦ ready_goes (Err (refuses r)) l g ]
   ready_same (Err (misses w)) l h = absurd l
 
-  -- and whatever is done with the world
-  pub form_same : (F : ReadyValue → Stage (List ℕ) HaltValue) (o : Result (List ℕ) HaltValue) → IsLoaded o → and_then (ready_by value S files word) F o → and_then (ready_by other U files word) F o
+  -- and whatever is done with the setting
+  pub form_same : (F : SettingValue → Stage (List ℕ) HaltValue) (o : Result (List ℕ) HaltValue) → IsLoaded o → and_then (ready_by value S files word) F o → and_then (ready_by other U files word) F o
   form_same F (Ok text) l h = elim h [ inl never ↦ absurd never | inr g ↦ inr (record { value = g.value; passed = ready_same (Ok g.value) tt g.passed; rest = g.rest }) ]
   form_same F (Err (refuses r)) l h = elim h [
     | inl halt ↦ inl (ready_same (Err (refuses r)) tt halt)

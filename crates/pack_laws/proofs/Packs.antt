@@ -14,13 +14,13 @@ use Rattle.call_form.specs.Forms.{run, runpack, step, steppack}
 use Rattle.feast_base.specs.Stages.{Stage, and_then}
 use Rattle.feast_run.specs.Halting.{HaltValue}
 use Rattle.feast_run.specs.Packed.{pack_text}
-use Rattle.feast_run.specs.Promises.{IsCodeFile, IsSet, Shows}
-use Rattle.feast_run.specs.Stages.{ReadyValue, load_all, ready_by, set_of}
+use Rattle.feast_run.specs.Told.{IsCodeFile, IsSet, Shows}
+use Rattle.feast_run.specs.Stages.{SettingValue, load_all, ready_by, set_of}
 use Rattle.pack_laws.specs.Packed.{codes_of_set}
 use Rattle.pack_laws.proofs.Accepted.{again, names, same}
 use Rattle.pack_laws.specs.PackedFile.{IsLoaded, IsPacked}
 use Rattle.pack_laws.proofs.Only.{Only, form_same, only_one}
-use Rattle.pack_laws.proofs.Shown.{OneTold, one_report, ran_same, stepped_same}
+use Rattle.pack_laws.proofs.Shown.{OneTold, one_text, run_same, step_same}
 
 -- The set that was packed
 
@@ -69,31 +69,31 @@ module _ (files : List File) (words : List (List ℕ)) (file : List ℕ) (packs 
   }
 
   -- a form with the code file, and the same with the element files
-  abbrev WithCodes : List ℕ → (ReadyValue → Stage (List ℕ) HaltValue) → Stage (List ℕ) HaltValue
+  abbrev WithCodes : List ℕ → (SettingValue → Stage (List ℕ) HaltValue) → Stage (List ℕ) HaltValue
   WithCodes world F = and_then (ready_by code_elements (codes_from (Some files) file) (Some files) world) F
 
-  abbrev WithSources : List ℕ → (ReadyValue → Stage (List ℕ) HaltValue) → Stage (List ℕ) HaltValue
+  abbrev WithSources : List ℕ → (SettingValue → Stage (List ℕ) HaltValue) → Stage (List ℕ) HaltValue
   WithSources world F = and_then (ready_by source_elements (set_of (Some files) words) (Some files) world) F
 
-  pub from_pack : (world : List ℕ) (F : ReadyValue → Stage (List ℕ) HaltValue) (o : Result (List ℕ) HaltValue) → IsLoaded o → WithCodes world F o → WithSources world F o
+  pub from_pack : (world : List ℕ) (F : SettingValue → Stage (List ℕ) HaltValue) (o : Result (List ℕ) HaltValue) → IsLoaded o → WithCodes world F o → WithSources world F o
   from_pack world F o l h = form_same CodesValue SetValue code_elements source_elements (codes_from (Some files) file) (set_of (Some files) words) (codes_of_set set) set codes_only set_only elements_same (Some files) world F o l h
 
-  pub to_pack : (world : List ℕ) (F : ReadyValue → Stage (List ℕ) HaltValue) (o : Result (List ℕ) HaltValue) → IsLoaded o → WithSources world F o → WithCodes world F o
+  pub to_pack : (world : List ℕ) (F : SettingValue → Stage (List ℕ) HaltValue) (o : Result (List ℕ) HaltValue) → IsLoaded o → WithSources world F o → WithCodes world F o
   to_pack world F o l h = form_same SetValue CodesValue source_elements code_elements (set_of (Some files) words) (codes_from (Some files) file) set (codes_of_set set) set_only codes_only (sym elements_same) (Some files) world F o l h
 
   -- what a call shows
 
   pub steps_from : (world text : List ℕ) → Shows files (steppack world file) text → Shows files (step world words) text
-  steps_from world text = stepped_same files world text CodesValue SetValue code_elements source_elements (IsCodeFile files file) (IsSet files words) (codes_of_set set) set codes_told set_told elements_same
+  steps_from world text = step_same files world text CodesValue SetValue code_elements source_elements (IsCodeFile files file) (IsSet files words) (codes_of_set set) set codes_told set_told elements_same
 
   pub steps_to : (world text : List ℕ) → Shows files (step world words) text → Shows files (steppack world file) text
-  steps_to world text = stepped_same files world text SetValue CodesValue source_elements code_elements (IsSet files words) (IsCodeFile files file) set (codes_of_set set) set_told codes_told (sym elements_same)
+  steps_to world text = step_same files world text SetValue CodesValue source_elements code_elements (IsSet files words) (IsCodeFile files file) set (codes_of_set set) set_told codes_told (sym elements_same)
 
   pub one_shown : (world a b : List ℕ) → Shows files (steppack world file) a → Shows files (step world words) b → a ≡ b
-  one_shown world a b p q = one_report files world a b SetValue source_elements (IsSet files words) set set_told (steps_from world a p) q
+  one_shown world a b p q = one_text files world a b SetValue source_elements (IsSet files words) set set_told (steps_from world a p) q
 
   pub runs_from : (world text : List ℕ) → Shows files (runpack world file) text → Shows files (run world words) text
-  runs_from world text = ran_same files world text CodesValue SetValue code_elements source_elements (IsCodeFile files file) (IsSet files words) (codes_of_set set) set codes_told set_told elements_same
+  runs_from world text = run_same files world text CodesValue SetValue code_elements source_elements (IsCodeFile files file) (IsSet files words) (codes_of_set set) set codes_told set_told elements_same
 
   pub runs_to : (world text : List ℕ) → Shows files (run world words) text → Shows files (runpack world file) text
-  runs_to world text = ran_same files world text SetValue CodesValue source_elements code_elements (IsSet files words) (IsCodeFile files file) set (codes_of_set set) set_told codes_told (sym elements_same)
+  runs_to world text = run_same files world text SetValue CodesValue source_elements code_elements (IsSet files words) (IsCodeFile files file) set (codes_of_set set) set_told codes_told (sym elements_same)

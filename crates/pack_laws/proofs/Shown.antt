@@ -1,11 +1,16 @@
 -- What is told of a text that a form showed is told with the other elements too, where these are called and do the same.
-use Rattle.std.proofs.Common.{ℕ, ◌≡◌, List, Option, Some, None, Result, Ok, Err, sym, ap, subst, ◌∙◌}
+use Rattle.std.proofs.Common.{ℕ, ◌≡◌, false, true, List, Option, Some, None, Result, Ok, Err, inl, inr, sym, ap, subst, ◌∙◌}
+use Rattle.chain_run.specs.Chains.{AreLegsOf}
+use Rattle.chain_text.specs.Chain.{ChainValue}
+use Rattle.chain_text.specs.Named.{chain_with_names}
+use Rattle.chain_text.specs.Reading.{is_chain, read_text as read_chain_text}
 use Rattle.feast_base.specs.Outside.{File, file_of}
 use Rattle.feast_run.specs.Again.{ReplaysTo}
+use Rattle.feast_run.specs.Chains.{ReportsLegs, are_stepped, stepped_text}
 use Rattle.feast_run.specs.Elements.{ElementsValue}
 use Rattle.feast_run.specs.Owing.{Reports}
-use Rattle.feast_run.specs.Promises.{RanTold, SteppedTold, WorldTold}
-use Rattle.feast_run.specs.Stages.{ready_with}
+use Rattle.feast_run.specs.Told.{ChainRanTold, ChainSteppedTold, ChainTold, RanTold, RunShown, StepShown, SteppedTold, WorldTold}
+use Rattle.feast_run.specs.Stages.{chain_with, ready_with}
 use Rattle.feast_run.specs.Stepped.{IsSteppedRun, machine_of, stepped_report}
 use Rattle.world_text.specs.Named.{WorldValue, world_with_names}
 use Rattle.world_text.specs.Reading.{read_text}
@@ -28,18 +33,45 @@ module _ (files : List File) (word text : List ℕ) where
     pub reports : Reports (ready_with world e) text
     pub replays : ReplaysTo (ready_with world e) text reports.grid
 
+  record SteppedLegs (chain : ChainValue) (e : ElementsValue) : Type 0 where
+    pub told_chain : ChainTold files word e.names chain
+    pub run : AreLegsOf chain e.meaning (are_stepped (chain_with chain e))
+    pub shown : text ≡ stepped_text (chain_with chain e)
+
+  record RanLegs (chain : ChainValue) (e : ElementsValue) : Type 0 where
+    pub told_chain : ChainTold files word e.names chain
+    pub reports : ReportsLegs (chain_with chain e) text
+
   module _ (X Y : Type 0) (value : X → ElementsValue) (other : Y → ElementsValue) (T : X → Type 0) (U : Y → Type 0) (x : X) (y : Y) (s : OneTold T x) (t : OneTold U y) (same : value x ≡ other y) where
-    pub stepped_same : SteppedTold value T files word text → SteppedTold other U files word text
+    stepped_same : SteppedTold value T files word text → SteppedTold other U files word text
     stepped_same h =
         let here : Stepped h.world (value h.given) = record { told_world = h.told_world; run = h.run; shown = h.shown; replays = h.replays } in
         let there = subst (Stepped h.world) same (subst (λ (a : X). Stepped h.world (value a)) (s.one h.given h.is_told) here) in
         record { world = h.world; given = y; is_told = t.told; told_world = there.told_world; run = there.run; shown = there.shown; replays = there.replays }
 
-    pub ran_same : RanTold value T files word text → RanTold other U files word text
+    ran_same : RanTold value T files word text → RanTold other U files word text
     ran_same h =
         let here : Ran h.world (value h.given) = record { told_world = h.told_world; reports = h.reports; replays = h.replays } in
         let there = subst (Ran h.world) same (subst (λ (a : X). Ran h.world (value a)) (s.one h.given h.is_told) here) in
         record { world = h.world; given = y; is_told = t.told; told_world = there.told_world; reports = there.reports; replays = there.replays }
+
+    legs_stepped_same : ChainSteppedTold value T files word text → ChainSteppedTold other U files word text
+    legs_stepped_same h =
+        let here : SteppedLegs h.chain (value h.given) = record { told_chain = h.told_chain; run = h.run; shown = h.shown } in
+        let there = subst (SteppedLegs h.chain) same (subst (λ (a : X). SteppedLegs h.chain (value a)) (s.one h.given h.is_told) here) in
+        record { chain = h.chain; given = y; is_told = t.told; told_chain = there.told_chain; run = there.run; shown = there.shown }
+
+    legs_ran_same : ChainRanTold value T files word text → ChainRanTold other U files word text
+    legs_ran_same h =
+        let here : RanLegs h.chain (value h.given) = record { told_chain = h.told_chain; reports = h.reports } in
+        let there = subst (RanLegs h.chain) same (subst (λ (a : X). RanLegs h.chain (value a)) (s.one h.given h.is_told) here) in
+        record { chain = h.chain; given = y; is_told = t.told; told_chain = there.told_chain; reports = there.reports }
+
+    pub step_same : StepShown value T files word text → StepShown other U files word text
+    step_same h = elim h [ inl w ↦ inl (stepped_same w) | inr c ↦ inr (legs_stepped_same c) ]
+
+    pub run_same : RunShown value T files word text → RunShown other U files word text
+    run_same h = elim h [ inl w ↦ inl (ran_same w) | inr c ↦ inr (legs_ran_same c) ]
 
 -- A stepped run has one report
 
@@ -75,8 +107,43 @@ record ReportOf (files : List File) (word text : List ℕ) (e : ElementsValue) :
 report_of : (files : List File) (word text : List ℕ) (X : Type 0) (value : X → ElementsValue) (T : X → Type 0) (x : X) → OneTold T x → SteppedTold value T files word text → ReportOf files word text (value x)
 report_of files word text X value T x s h = subst (λ (a : X). ReportOf files word text (value a)) (s.one h.given h.is_told) (record { world = h.world; told = h.told_world; shown = h.shown })
 
-pub one_report : (files : List File) (word a b : List ℕ) (X : Type 0) (value : X → ElementsValue) (T : X → Type 0) (x : X) → OneTold T x → SteppedTold value T files word a → SteppedTold value T files word b → a ≡ b
+one_report : (files : List File) (word a b : List ℕ) (X : Type 0) (value : X → ElementsValue) (T : X → Type 0) (x : X) → OneTold T x → SteppedTold value T files word a → SteppedTold value T files word b → a ≡ b
 one_report files word a b X value T x s h k =
     let p = report_of files word a X value T x s h in
     let q = report_of files word b X value T x s k in
     p.shown ∙ ap (λ (w : WorldValue). stepped_report (ready_with w (value x))) (one_world files word (value x).names p.world q.world p.told q.told) ∙ sym q.shown
+
+-- a file says one chain, or a world
+one_chain : (files : List File) (word : List ℕ) (names : List (List ℕ)) (v w : ChainValue) → ChainTold files word names v → ChainTold files word names w → v ≡ w
+one_chain files word names v w p q =
+    let bytes = one_content (file_of word files) p.bytes q.bytes p.file q.file in
+    let draft = one_ok (read_chain_text q.bytes) p.reads.0 q.reads.0 (ap read_chain_text (sym bytes) ∙ p.reads.1) q.reads.1 in
+    one_ok (chain_with_names names q.reads.0) v w (ap (chain_with_names names) (sym draft) ∙ p.reads.2) q.reads.2
+
+not_both : (files : List File) (word : List ℕ) (names others : List (List ℕ)) (w : WorldValue) (c : ChainValue) → WorldTold files word names w → ChainTold files word others c → ⊥
+not_both files word names others w c p q =
+    let bytes = one_content (file_of word files) p.bytes q.bytes p.file q.file in
+    let no : false ≡ true = sym p.plain ∙ ap is_chain bytes ∙ q.begins in
+    cc
+
+-- the reports of stepped legs with the elements that alone are told
+record LegsOf (files : List File) (word text : List ℕ) (e : ElementsValue) : Type 0 where
+  pub chain : ChainValue
+  pub told : ChainTold files word e.names chain
+  pub shown : text ≡ stepped_text (chain_with chain e)
+
+legs_of : (files : List File) (word text : List ℕ) (X : Type 0) (value : X → ElementsValue) (T : X → Type 0) (x : X) → OneTold T x → ChainSteppedTold value T files word text → LegsOf files word text (value x)
+legs_of files word text X value T x s h = subst (λ (a : X). LegsOf files word text (value a)) (s.one h.given h.is_told) (record { chain = h.chain; told = h.told_chain; shown = h.shown })
+
+one_legs : (files : List File) (word a b : List ℕ) (X : Type 0) (value : X → ElementsValue) (T : X → Type 0) (x : X) → OneTold T x → ChainSteppedTold value T files word a → ChainSteppedTold value T files word b → a ≡ b
+one_legs files word a b X value T x s h k =
+    let p = legs_of files word a X value T x s h in
+    let q = legs_of files word b X value T x s k in
+    p.shown ∙ ap (λ (c : ChainValue). stepped_text (chain_with c (value x))) (one_chain files word (value x).names p.chain q.chain p.told q.told) ∙ sym q.shown
+
+-- so a stepped run shows one text
+pub one_text : (files : List File) (word a b : List ℕ) (X : Type 0) (value : X → ElementsValue) (T : X → Type 0) (x : X) → OneTold T x → StepShown value T files word a → StepShown value T files word b → a ≡ b
+one_text files word a b X value T x s h k = elim h [
+  | inl w ↦ elim k [ inl v ↦ one_report files word a b X value T x s w v | inr d ↦ absurd (not_both files word _ _ w.world d.chain w.told_world d.told_chain) ]
+  | inr c ↦ elim k [ inl v ↦ absurd (not_both files word _ _ v.world c.chain v.told_world c.told_chain) | inr d ↦ one_legs files word a b X value T x s c d ]
+]

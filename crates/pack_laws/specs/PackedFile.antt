@@ -4,7 +4,7 @@ use Rattle.feast_base.specs.Outside.{File, file_of}
 use Rattle.feast_run.specs.Answer.{form_answer}
 use Rattle.call_form.specs.Forms.{FormValue, pack, run, runpack, step, steppack}
 use Rattle.feast_run.specs.Halting.{HaltValue, misses, refuses}
-use Rattle.feast_run.specs.Promises.{Shows}
+use Rattle.feast_run.specs.Told.{Shows}
 use Rattle.feast_run.specs.declared.loading.TheConstants.{CODE_LIMIT}
 
 -- the first file of a name holds what `pack` writes for some element files, and is no longer than a

@@ -6,7 +6,7 @@ ghost use Rattle.element_set.specs.Sets.{AcceptsFiles, SetValue, element_names, 
 ghost use Rattle.code_file.specs.Form.{IsSayable, codes_of, names_of};
 ghost use Rattle.code_file.specs.Right.{AreRight};
 ghost use Rattle.call_form.specs.Forms.{runpack, steppack};
-ghost use Rattle.feast_run.specs.Promises.{Shows};
+ghost use Rattle.feast_run.specs.Told.{Shows};
 ghost use Rattle.pack_laws.specs.Example.{empty_word, example_files, packed_word, world_word};
 ghost use Rattle.pack_laws.specs.Packed.{ActsAs, ReadsAsOnly, ReadsBack, codes_of_set};
 ghost use Rattle.pack_laws.specs.PackedFile.{AnswerAlike, IsPacked, PackedCall, ShowAlike, WriteOneText, packed_run, packed_step, plain_run, plain_step};

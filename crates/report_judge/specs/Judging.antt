@@ -10,6 +10,8 @@ use Rattle.text_lines.specs.Lines.{text_of}
 use Rattle.tile_map.specs.Plane.{MapValue}
 use Rattle.journal_check.specs.Clocks.{IsFirstMisstamped}
 use Rattle.journal_check.specs.Excuses.{IsFirstUnexcused}
+use Rattle.report_judge.specs.declared.judging.Judged.{Judged}
+use Rattle.report_judge.specs.declared.judging.Judged.TheVariants.{Yes as Got, No}
 use Rattle.report_judge.specs.declared.judgement.Judgement.{Judgement}
 use Rattle.report_judge.specs.declared.judgement.Judgement.TheVariants.{Yes, NoAccounted, NoStamped, NoExcused, NoAtoms}
 
@@ -44,6 +46,16 @@ Judges s bytes e (NoStamped line) = IsAccounted s.course.map s.course.plan e.rec
 Judges s bytes e (NoExcused line) =
     IsAccounted s.course.map s.course.plan e.records e.abandoned × IsStamped s.course.map e.records × ((k : ℕ) × IsFirstUnexcused s.course.map s.course.plan e.records e.abandoned k × (line ≡ abandoned_line e k))
 Judges s bytes e NoAtoms = OwesNothing s.course.map s.course.plan e.records e.abandoned × (bytes ≢ own_report s e)
+
+-- the judgement that stands in an answer
+abbrev pub judgement_of : Judged → Judgement
+judgement_of (Got grid) = Yes
+judgement_of (No judgement) = judgement
+
+-- a judgement is right, and with yes comes the grid that the events make of the start
+abbrev pub JudgesOn : NamedCourse → List ℕ → Entries → Judged → Type 0
+JudgesOn s bytes e (Got grid) = Judges s bytes e Yes × (grid ≡ replay s.course.meaning s.course.start e.records)
+JudgesOn s bytes e (No judgement) = Judges s bytes e judgement × (judgement ≢ Yes)
 
 -- the words of a judgement
 abbrev pub judgement_fields : Judgement → List (List ℕ)

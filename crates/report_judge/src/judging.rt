@@ -5,7 +5,7 @@ ghost use Rattle.event_journal.specs.Serial.{course};
 ghost use Rattle.report_text.specs.Report.{AreNamed, grid_text, report};
 ghost use Rattle.plane_grid.specs.PlaneGrids.{IsPlaneGrid};
 ghost use Rattle.journal_check.specs.Entries.{IsPlanOf};
-ghost use Rattle.report_judge.specs.Judging.{Judges, named_course};
+ghost use Rattle.report_judge.specs.Judging.{Judges, JudgesOn, judgement_of, named_course};
 ghost use Rattle.report_text.specs.EntryLines.{AreOnLines};
 
 use crate::comparing::Comparison;
@@ -39,6 +39,60 @@ fn is_own(read: &ReadReport, names: &[Name], grid: &Grid) -> bool
     is_grid(read.grid_part(), names, grid)
 }
 
+/// A judgement on a report, with the grid that the events make of the start if it is yes.
+#[derive(Drop)]
+pub enum Judged {
+    /// The judgement is yes, and this is the grid.
+    Yes(Grid),
+    /// The judgement is this one, and not yes.
+    No(Judgement),
+}
+
+impl Judged {
+    /// The judgement alone.
+    pub fn judgement(&self) -> Judgement
+        ensures { result ≡ judgement_of self.now }
+    {
+        match self {
+            Judged::Yes(_) => Judgement::Yes,
+            Judged::No(judgement) => *judgement,
+        }
+    }
+}
+
+/// Judges a report as `judge` does, for a caller that goes on with the grid that the events leave, as the
+/// next leg of a chain does: at yes the answer has that grid. Otherwise it has the judgement, which is
+/// not yes. `NoMemory` if there is none for the audit.
+pub fn judge_on<B: Behave>(
+    alloc: Global,
+    report: &ReadReport,
+    names: &[Name],
+    start: Grid,
+    behave: &mut B,
+) -> Result<Judged, NoMemory>
+    requires plan { IsPlanOf report.now.map report.now.plan }
+    requires start { IsPlaneGrid report.now.map start }
+    requires named { AreNamed names.now (replay (B.after behave.old) start report.now.entries.records).atoms }
+    ensures judges { IfOk result (JudgesOn (named_course (course report.now.map report.now.plan (B.after behave.old) start) names.now)
+        report.now.bytes report.now.entries) }
+    ensures lines { AreOnLines report.now.bytes report.now.entries }
+    ensures meaning { B.after behave.new ≡ B.after behave.old }
+{
+    let journal = report.journal();
+    match audit(alloc, report.map(), report.plan(), start, journal, behave)? {
+        Verdict::NotAccounted => Ok(Judged::No(Judgement::NoAccounted)),
+        Verdict::NotStamped(k) => Ok(Judged::No(Judgement::NoStamped(journal.event_line(k)))),
+        Verdict::NotExcused(k) => Ok(Judged::No(Judgement::NoExcused(journal.abandoned_line(k)))),
+        Verdict::Yes(grid) => {
+            if is_own(report, names, &grid) {
+                Ok(Judged::Yes(grid))
+            } else {
+                Ok(Judged::No(Judgement::NoAtoms))
+            }
+        }
+    }
+}
+
 /// Judges a report: whether each attempt of its plan is accounted for, each event has its stamp and
 /// each abandoned attempt is excused, and whether its bytes are the report of its own events and
 /// abandoned attempts over the grid that the events make of the start. The answer is the first of
@@ -59,17 +113,6 @@ pub fn judge<B: Behave>(
         report.now.bytes report.now.entries) }
     ensures lines { AreOnLines report.now.bytes report.now.entries }
 {
-    let journal = report.journal();
-    match audit(alloc, report.map(), report.plan(), start, journal, behave)? {
-        Verdict::NotAccounted => Ok(Judgement::NoAccounted),
-        Verdict::NotStamped(k) => Ok(Judgement::NoStamped(journal.event_line(k))),
-        Verdict::NotExcused(k) => Ok(Judgement::NoExcused(journal.abandoned_line(k))),
-        Verdict::Yes(grid) => {
-            if is_own(report, names, &grid) {
-                Ok(Judgement::Yes)
-            } else {
-                Ok(Judgement::NoAtoms)
-            }
-        }
-    }
+    let judged = judge_on(alloc, report, names, start, behave)?;
+    Ok(judged.judgement())
 }

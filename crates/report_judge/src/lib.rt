@@ -7,5 +7,5 @@ mod judging;
 mod read_report;
 
 pub use judgement::{Judgement, judgement_line};
-pub use judging::judge;
+pub use judging::{Judged, judge, judge_on};
 pub use read_report::ReadReport;

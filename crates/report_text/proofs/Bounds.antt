@@ -107,7 +107,7 @@ abandoned_words a p = (
 
 module _ (m : MapValue) (plan : PlanValue) (p : IsDrawablePlan m plan) where
   -- the sites of the plane are few
-  site_small : (t i x y : ℕ) (a : Attempt) → IsOfPlan m plan t i x y a → (t < 2 ^ 32) × (x < 2 ^ 32) × (y < 2 ^ 32)
+  pub site_small : (t i x y : ℕ) (a : Attempt) → IsOfPlan m plan t i x y a → (t < 2 ^ 32) × (x < 2 ^ 32) × (y < 2 ^ 32)
   site_small t i x y a is =
       let tiles = tiles_few m p.map in
       let wide = size_low m.tx m.w p.map.sizes.tx_high p.map.sizes.w_high in

@@ -27,7 +27,7 @@ use Rattle.text_lines.specs.Printed.{IsLine}
 
 -- Answers that are there
 
-if_some : {A : Type 0} (b : Bool) (x y : A) → if◌then◌else◌ {A = Option A} b (Some x) None ≡ Some y → (b ≡ true) × (x ≡ y)
+pub if_some : {A : Type 0} (b : Bool) (x y : A) → if◌then◌else◌ {A = Option A} b (Some x) None ≡ Some y → (b ≡ true) × (x ≡ y)
 if_some true x y h = (refl, cc)
 if_some false x y h = cc
 
@@ -35,11 +35,11 @@ if_then : {A : Type 0} (b : Bool) (o : Option A) (y : A) → if◌then◌else◌
 if_then true o y h = (refl, h)
 if_then false o y h = cc
 
-with_some : {X Y : Type 0} (o : Option X) (next : X → Option Y) (y : Y) → with o next ≡ Some y → (x : X) × (o ≡ Some x) × (next x ≡ Some y)
+pub with_some : {X Y : Type 0} (o : Option X) (next : X → Option Y) (y : Y) → with o next ≡ Some y → (x : X) × (o ≡ Some x) × (next x ≡ Some y)
 with_some None next y h = cc
 with_some (Some x) next y h = (x, refl, h)
 
-map_some : {X Y : Type 0} (f : X → Y) (o : Option X) (y : Y) → option_map f o ≡ Some y → (x : X) × (o ≡ Some x) × (f x ≡ y)
+pub map_some : {X Y : Type 0} (f : X → Y) (o : Option X) (y : Y) → option_map f o ≡ Some y → (x : X) × (o ≡ Some x) × (f x ≡ y)
 map_some f None y h = cc
 map_some f (Some x) y h = (x, refl, cc)
 
@@ -101,7 +101,7 @@ hex_exact k f n h =
 
 -- Fields
 
-below_exact : (bound : ℕ) (fs : List (List ℕ)) (p : ℕ × List (List ℕ)) → bound ≤ 2 ^ 64 → take_below bound fs ≡ Some p → (fs ≡ decimal p.0 ∷ p.1) × (p.0 < bound)
+pub below_exact : (bound : ℕ) (fs : List (List ℕ)) (p : ℕ × List (List ℕ)) → bound ≤ 2 ^ 64 → take_below bound fs ≡ Some p → (fs ≡ decimal p.0 ∷ p.1) × (p.0 < bound)
 unfolding take_number
 below_exact bound [] p most h = cc
 below_exact bound (f ∷ fs) p most h = on (field_number f) refl h
@@ -115,13 +115,13 @@ below_exact bound (f ∷ fs) p most h = on (field_number f) refl h
         let rest : fs ≡ p.1 = ap (λ z. z.1) q.1 in
         ((λ i. number_exact f n (omega (arith, low, most)) is i ∷ fs) ∙ (λ i. decimal (first i) ∷ rest i), subst (λ k. k < bound) first low)
 
-one_exact : (fs : List (List ℕ)) (f : List ℕ) → one_field fs ≡ Some f → fs ≡ f ∷ []
+pub one_exact : (fs : List (List ℕ)) (f : List ℕ) → one_field fs ≡ Some f → fs ≡ f ∷ []
 unfolding one_field
 one_exact [] f h = cc
 one_exact (g ∷ []) f h = let e : g ≡ f = cc in ap (λ z. z ∷ []) e
 one_exact (g ∷ k ∷ fs) f h = cc
 
-last_exact : (bound : ℕ) (fs : List (List ℕ)) (n : ℕ) → bound ≤ 2 ^ 64 → below bound (one_number fs) ≡ Some n → (fs ≡ decimal n ∷ []) × (n < bound)
+pub last_exact : (bound : ℕ) (fs : List (List ℕ)) (n : ℕ) → bound ≤ 2 ^ 64 → below bound (one_number fs) ≡ Some n → (fs ≡ decimal n ∷ []) × (n < bound)
 last_exact bound fs n most h = on (one_number fs) refl h
   where
     on : (o : Option ℕ) → one_number fs ≡ o → below bound o ≡ Some n → (fs ≡ decimal n ∷ []) × (n < bound)
@@ -256,7 +256,7 @@ site_line fs s =
 -- Texts
 
 -- the fields of a text, joined, are the text
-joined_after : (front bs : List ℕ) → line_text (fields_after front bs) ≡ front ++ bs
+pub joined_after : (front bs : List ℕ) → line_text (fields_after front bs) ≡ front ++ bs
 unfolding fields_after
 joined_after front [] = refl
 joined_after front (b ∷ bs) = elim (eqb_tells b 32) [

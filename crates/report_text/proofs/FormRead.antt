@@ -32,11 +32,11 @@ pub small_taken : (bound n : ℕ) (fs : List (List ℕ)) → n < bound → bound
 unfolding take_number
 small_taken bound n fs low most = rw (number_decimal n (omega (arith, low, most)), lt-ltb n bound low) refl
 
-count_again : (word : List ℕ) (k : ℕ) → bytes_eq word word ≡ true → k < 2 ^ 32 → count_form word (count_fields word k) ≡ Some k
+pub count_again : (word : List ℕ) (k : ℕ) → bytes_eq word word ≡ true → k < 2 ^ 32 → count_form word (count_fields word k) ≡ Some k
 unfolding count_form one_field
 count_again word k same low = rw (same, number_decimal k (omega (arith, low)), lt-ltb k (2 ^ 32) low) refl
 
-record_again : (r : Record) → IsSmallRecord r → record_form (record_fields r) ≡ Some r
+pub record_again : (r : Record) → IsSmallRecord r → record_form (record_fields r) ≡ Some r
 unfolding record_form one_field
 record_again r p =
     let stamp = small_taken (2 ^ 32) r.stamp (decimal r.tile ∷ decimal r.attempt ∷ decimal r.x ∷ decimal r.y ∷ hex 16 r.seed ∷ []) p.stamp (omega arith) in
@@ -46,7 +46,7 @@ record_again r p =
     let y = small_taken (2 ^ 32) r.y (hex 16 r.seed ∷ []) p.y (omega arith) in
     rw (stamp, tile, attempt, x, y, hex_hex 16 r.seed p.seed) refl
 
-abandoned_again : (a : Abandoned) → IsSmallAbandoned a → abandoned_form (abandoned_fields a) ≡ Some a
+pub abandoned_again : (a : Abandoned) → IsSmallAbandoned a → abandoned_form (abandoned_fields a) ≡ Some a
 unfolding abandoned_form one_field
 abandoned_again a p =
     let tile = small_taken (2 ^ 32) a.tile (decimal a.attempt ∷ decimal a.x ∷ decimal a.y ∷ decimal a.edge ∷ decimal a.holder ∷ decimal a.holder_attempt ∷ []) p.tile (omega arith) in

@@ -11,7 +11,7 @@ use Rattle.report_text.specs.Again.{SaysThese}
 use Rattle.report_text.specs.Entries.{Entries}
 use Rattle.report_text.specs.GridPart.{IsBeforeJournal, LeavesLines}
 use Rattle.report_text.specs.JournalText.{abandoned_lines, count_fields, journal_text, record_lines}
-use Rattle.report_text.specs.ReportForm.{IsReportOf, lines_of}
+use Rattle.report_text.specs.ReportForm.{lines_of}
 use Rattle.text_lines.proofs.Cuts.{ended_none}
 use Rattle.text_lines.proofs.Joined.{ended_again}
 use Rattle.text_lines.specs.Fields.{Lacks}

@@ -2,8 +2,10 @@ pub mod Ahead
 pub mod Bounds
 pub mod Counting
 pub mod Exact
+pub mod Firsts
 pub mod FormRead
 pub mod GridParts
+pub mod InARow
 pub mod Lists
 pub mod OnLines
 pub mod Pairs
@@ -16,6 +18,13 @@ pub mod ReadLines
 pub mod ReadSteps
 pub mod Reported
 pub mod Shorter
+pub mod ShortForms
+pub mod ShortOne
+pub mod ShortWhole
+pub mod Spellings
 pub mod Stamps
 pub mod Takings
+pub mod WideKinds
+pub mod WideLines
+pub mod WideSaid
 pub mod WrittenLines

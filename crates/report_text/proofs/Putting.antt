@@ -11,25 +11,25 @@ grows_none : (w : Option (List ℕ)) → Grows w w []
 grows_none None = refl
 grows_none (Some w) = ap (λ z. Some z) (sym (append-nil w))
 
-grows_then : (a b c : Option (List ℕ)) (x y : List ℕ) → Grows a b x → Grows b c y → Grows a c (x ++ y)
+pub grows_then : (a b c : Option (List ℕ)) (x y : List ℕ) → Grows a b x → Grows b c y → Grows a c (x ++ y)
 grows_then None b c x y p q = subst (λ o. Grows o c y) p q
 grows_then (Some w) b c x y p q = subst (λ o. Grows o c y) p q ∙ ap (λ z. Some z) (append_assoc w x y)
 
-put_none : (t : SinkState) → IsPut t t []
+pub put_none : (t : SinkState) → IsPut t t []
 put_none t = record { grows = grows_none t.written; same = refl; later = λ m h. subst t.may_fail (omega arith) h }
 
 pub put_nothing : (t : SinkState) (text : List ℕ) → length text ≡ 0 → IsPut t t text
 put_nothing t [] none = put_none t
 put_nothing t (x ∷ xs) none = absurd (omega (arith, none))
 
-put_then : (a b c : SinkState) (x y : List ℕ) → IsPut a b x → IsPut b c y → IsPut a c (x ++ y)
+pub put_then : (a b c : SinkState) (x y : List ℕ) → IsPut a b x → IsPut b c y → IsPut a c (x ++ y)
 put_then a b c x y p q = record {
   grows = grows_then a.written b.written c.written x y p.grows q.grows;
   same = q.same ∙ p.same;
   later = λ m h. subst a.may_fail (let e = length-append x y in omega (arith, e)) (p.later (length y + m) (q.later m h));
 }
 
-cut_then : (a b c : SinkState) (x t text : List ℕ) → text ≡ x ++ t → IsPut a b x → IsCut b c t → IsCut a c text
+pub cut_then : (a b c : SinkState) (x t text : List ℕ) → text ≡ x ++ t → IsPut a b x → IsCut b c t → IsCut a c text
 cut_then a b c x t text is p q = record {
   front = x ++ q.front;
   rest = q.rest;

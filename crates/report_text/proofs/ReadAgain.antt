@@ -8,23 +8,23 @@ use Rattle.list_laws.proofs.Members.{order-pairs}
 use Rattle.bit_field.specs.Atom.{AtomValue, empty_atom}
 use Rattle.cell_grid.specs.declared.record.Record.{Record}
 use Rattle.draw_stream.specs.Plans.{PlanValue}
-use Rattle.report_text.specs.ReportForm.{Comes, IsSiteLine}
+use Rattle.report_text.specs.ReportForm.{Comes, IsReportOf, IsSiteLine}
 use Rattle.feast_base.specs.TypeNames.{is_type_name, name_of}
 use Rattle.tile_map.specs.Plane.{MapValue}
 use Rattle.report_text.proofs.Ahead.{events_come, in_place}
 use Rattle.report_text.proofs.FormRead.{form_read}
 use Rattle.report_text.proofs.Bounds.{abandoned_small, event_of_plan, events_few, given_up_few, records_small}
 use Rattle.report_text.proofs.Stamps.{stamps_low}
-use Rattle.report_text.specs.Again.{AreFormed, AreReadAgain, IsDrawablePlan, entries_in}
-use Rattle.report_text.specs.Report.{AreNamed, Shown, atom_fields, report_of, shown_atoms, shown_at, shown_from}
+use Rattle.report_text.specs.Again.{AreFormed, AreReadAgain, IsDrawablePlan, IsLeft, entries_in}
+use Rattle.report_text.specs.Report.{AreNamed, ReportValue, Shown, atom_fields, report_of, shown_atoms, shown_at, shown_from}
 
 -- an atom whose line can be printed and read
-record IsToldAtom (names : List (List ℕ)) (s : Shown) : Type 0 where
-  x : s.x < 2 ^ 32
-  y : s.y < 2 ^ 32
-  name : is_type_name (name_of names s.atom.kind) ≡ true
+pub record IsToldAtom (names : List (List ℕ)) (s : Shown) : Type 0 where
+  pub x : s.x < 2 ^ 32
+  pub y : s.y < 2 ^ 32
+  pub name : is_type_name (name_of names s.atom.kind) ≡ true
 
-each_site : (names : List (List ℕ)) (ss : List Shown) → All (IsToldAtom names) ss → All IsSiteLine (map (atom_fields names) ss)
+pub each_site : (names : List (List ℕ)) (ss : List Shown) → All (IsToldAtom names) ss → All IsSiteLine (map (atom_fields names) ss)
 each_site names [] all = All-nil _
 each_site names (s ∷ ss) all =
     let told = All-head (IsToldAtom names) s ss all in
@@ -33,9 +33,9 @@ each_site names (s ∷ ss) all =
     (each_site names ss (All-tail (IsToldAtom names) s ss all))
 
 -- the atoms of a grid, from place i on
-record AreTold (names : List (List ℕ)) (width i : ℕ) (more : List AtomValue) : Type 0 where
-  each : All (IsToldAtom names) (shown_from width i more)
-  few : length (shown_from width i more) ≤ length more
+pub record AreTold (names : List (List ℕ)) (width i : ℕ) (more : List AtomValue) : Type 0 where
+  pub each : All (IsToldAtom names) (shown_from width i more)
+  pub few : length (shown_from width i more) ≤ length more
 
 told_atom : (names : List (List ℕ)) (width i : ℕ) (a : AtomValue) → AreFormed names → 1 ≤ width → i < 2 ^ 32 → (a.kind == 0) ≡ false → (a ≡ empty_atom) ⊎ ((1 ≤ a.kind) × (a.kind ≤ length names)) → IsToldAtom names (shown_at width i a)
 told_atom names width i a formed wide small some (inl empty) = absurd (none a.kind some (ap (λ (b : AtomValue). b.kind) empty))
@@ -54,7 +54,7 @@ told_atom names width i a formed wide small some (inr named) = record {
     part_low : (i w : ℕ) → 1 ≤ w → i / w ≤ i
     part_low i w some = let e = div-add-mod' i w in grind (arith, e)
 
-told_atoms : (names : List (List ℕ)) (width i : ℕ) (more : List AtomValue) → AreFormed names → 1 ≤ width → i + length more ≤ 2 ^ 32 → AreNamed names more → AreTold names width i more
+pub told_atoms : (names : List (List ℕ)) (width i : ℕ) (more : List AtomValue) → AreFormed names → 1 ≤ width → i + length more ≤ 2 ^ 32 → AreNamed names more → AreTold names width i more
 unfolding shown_from
 told_atoms names width i [] formed wide small named = record { each = All-nil _; few = omega arith }
 told_atoms names width i (a ∷ more) formed wide small named =
@@ -68,9 +68,9 @@ told_atoms names width i (a ∷ more) formed wide small named =
       few = rw e (let f = rest.few in omega (arith, f));
     }
 
--- the report of what a run left says its entries
-pub read_again : (names : List (List ℕ)) (m : MapValue) (plan : PlanValue) → AreFormed names → IsDrawablePlan m plan → AreReadAgain names m plan
-read_again names m plan formed p = λ v left.
+-- the report of what a run left is that of its entries
+unfoldable pub form_left : (names : List (List ℕ)) (m : MapValue) (plan : PlanValue) → AreFormed names → IsDrawablePlan m plan → (v : ReportValue) → IsLeft names m plan v → IsReportOf m plan (report_of names v) (entries_in v)
+form_left names m plan formed p v left =
     let g = v.grid in
     let rs = v.records in
     let gs = v.abandoned in
@@ -88,7 +88,7 @@ read_again names m plan formed p = λ v left.
     let records_few = events_few m plan p rs gs left.owes.accounted in
     let ends_few = given_up_few m plan p rs gs left.owes.accounted in
     let sites = map (atom_fields names) (shown_atoms g) in
-    form_read m plan p.map (report_of names v) (entries_in v) (record {
+    record {
       sites = sites;
       text = refl;
       each = each_site names (shown_atoms g) told.each;
@@ -100,4 +100,8 @@ read_again names m plan formed p = λ v left.
       few_sites = omega (arith, atoms_few, plane_sites, plane.1);
       few_records = omega (arith, records_few);
       few_abandoned = omega (arith, ends_few);
-    })
+    }
+
+-- so it says them
+pub read_again : (names : List (List ℕ)) (m : MapValue) (plan : PlanValue) → AreFormed names → IsDrawablePlan m plan → AreReadAgain names m plan
+read_again names m plan formed p = λ v left. form_read m plan p.map (report_of names v) (entries_in v) (form_left names m plan formed p v left)

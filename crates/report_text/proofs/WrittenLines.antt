@@ -13,7 +13,11 @@ use Rattle.feast_base.specs.TypeNames.{name_of}
 use Rattle.cell_grid.specs.Grid.{GridValue}
 use Rattle.cell_grid.specs.declared.record.Record.{Record}
 use Rattle.report_text.specs.JournalText.{abandoned_fields, abandoned_lines, count_fields, journal_text, record_lines}
-use Rattle.report_text.specs.Report.{atom_fields, atom_lines, atoms_text, report, shown_atoms, shown_at, shown_one}
+use Rattle.report_text.specs.Report.{atom_fields, atom_lines, atoms_text, report, report_value, shown_atoms, shown_at, shown_one}
+use Rattle.report_text.specs.Details.{header_by, journal_text_by, report_by}
+use Rattle.report_text.specs.Short.{counts_report, short_abandoned_lines, short_header, short_record_lines}
+use Rattle.report_text.specs.declared.detail.Detail.{Detail}
+use Rattle.report_text.specs.declared.detail.Detail.TheVariants.{Whole, Short}
 use Rattle.event_journal.specs.declared.abandoned.Abandoned.{Abandoned}
 
 -- how many digits a number of 32 bits has, and one of 64
@@ -60,14 +64,14 @@ walk_written f old new x n start line first long is =
     ap (λ z. text_of (map f z)) first ∙ ap (λ z. z ++ text_of (map f new)) (sym (end_written n start line (ended_line (f x)) long is))
 
 -- the abandoned attempts of logs from one on, by those of the first
-pub next_log : (i : ℕ) (logs : List LogValue) (log : LogValue) (list : List Abandoned) → i < length logs → log ≡ get_or logs i log → list ≡ abandoned_of log
-    → text_of (map abandoned_fields (abandoned_in (drop i logs))) ≡ text_of (map abandoned_fields list) ++ text_of (map abandoned_fields (abandoned_in (drop (i + 1) logs)))
-next_log i logs log list lt is own =
+pub next_log : (f : Abandoned → List (List ℕ)) (i : ℕ) (logs : List LogValue) (log : LogValue) (list : List Abandoned) → i < length logs → log ≡ get_or logs i log → list ≡ abandoned_of log
+    → text_of (map f (abandoned_in (drop i logs))) ≡ text_of (map f list) ++ text_of (map f (abandoned_in (drop (i + 1) logs)))
+next_log f i logs log list lt is own =
     let rest = abandoned_in (drop (i + 1) logs) in
     let next : abandoned_in (drop i logs) ≡ list ++ rest = ap abandoned_in (drop_more logs i log lt)
     ∙ ap (λ l. abandoned_of l ++ rest) (sym is) ∙ ap (λ l. l ++ rest) (sym own) in
-    ap (λ l. text_of (map abandoned_fields l)) next ∙ ap text_of (map-append abandoned_fields list rest)
-    ∙ flat_map-append ended_line (map abandoned_fields list) (map abandoned_fields rest)
+    ap (λ l. text_of (map f l)) next ∙ ap text_of (map-append f list rest)
+    ∙ flat_map-append ended_line (map f list) (map f rest)
 
 -- one more line of a list
 pub lines_more : {X : Type 0} (f : X → List (List ℕ)) (i : ℕ) (xs : List X) (out new whole : List ℕ) (d : X)
@@ -124,10 +128,32 @@ atom_parts names width place a some =
     ∙ sym (append-nil (ended_line (atom_fields names (shown_at width place a))))
     ∙ ap (λ s. text_of (map (atom_fields names) s)) (sym one)
 
+-- the text of a header, of atoms, and of two parts of a journal
+text_parts : (header : List (List ℕ)) (atoms records abandoned : List (List (List ℕ)))
+    → text_of (header ∷ (atoms ++ (records ++ abandoned))) ≡ ended_line header ++ (text_of atoms ++ (text_of records ++ text_of abandoned))
+text_parts header atoms records abandoned =
+    ap (λ z. ended_line header ++ z) (flat_map-append ended_line atoms (records ++ abandoned)
+    ∙ ap (λ z. text_of atoms ++ z) (flat_map-append ended_line records abandoned))
+
 -- the text of a report, by its grid and its journal
 pub report_parts : (names : List (List ℕ)) (g : GridValue) (rs : List Record) (gs : List Abandoned)
     → report names g rs gs ≡ (codes "feast 1\n" ++ atoms_text names g) ++ journal_text rs gs
-report_parts names g rs gs =
-    let atoms = atom_lines names (shown_atoms g) in
-    ap (λ z. codes "feast 1\n" ++ z) (flat_map-append ended_line atoms (record_lines rs ++ abandoned_lines gs)
-    ∙ ap (λ z. text_of atoms ++ z) (flat_map-append ended_line (record_lines rs) (abandoned_lines gs)))
+report_parts names g rs gs = text_parts (codes "feast" ∷ codes "1" ∷ []) (atom_lines names (shown_atoms g)) (record_lines rs) (abandoned_lines gs)
+
+-- the same, whatever it tells of its entries
+pub report_parts_by : (detail : Detail) (names : List (List ℕ)) (g : GridValue) (rs : List Record) (gs : List Abandoned)
+    → report_by detail names (report_value g rs gs) ≡ (header_by detail ++ atoms_text names g) ++ journal_text_by detail rs gs
+report_parts_by Whole names g rs gs = report_parts names g rs gs
+report_parts_by Short names g rs gs = text_parts short_header (atom_lines names (shown_atoms g)) (short_record_lines rs) (short_abandoned_lines gs)
+
+-- the text of a report of counts, by its grid and its counts
+pub counts_parts : (names : List (List ℕ)) (g : GridValue) (events abandoned : ℕ)
+    → counts_report names g events abandoned
+    ≡ (codes "feast 3\n" ++ atoms_text names g) ++ (ended_line (count_fields (codes "journal") events) ++ ended_line (count_fields (codes "abandoned") abandoned))
+counts_parts names g events abandoned =
+    let grid = codes "feast 3\n" ++ atoms_text names g in
+    let first = count_fields (codes "journal") events in
+    let last = count_fields (codes "abandoned") abandoned in
+    text_parts (codes "feast" ∷ codes "3" ∷ []) (atom_lines names (shown_atoms g)) (first ∷ []) (last ∷ [])
+    ∙ ap (λ z. grid ++ (z ++ text_of (last ∷ []))) (append-nil (ended_line first))
+    ∙ ap (λ z. grid ++ (ended_line first ++ z)) (append-nil (ended_line last))

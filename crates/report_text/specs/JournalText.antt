@@ -3,9 +3,6 @@ use Rattle.std.specs.Prelude.{ℕ, List, [], ◌∷◌, ◌++◌, codes, decimal
 use Rattle.feast_base.specs.Digits.{hex}
 use Rattle.text_lines.specs.Lines.{text_of}
 use Rattle.cell_grid.specs.declared.record.Record.{Record}
-use Rattle.event_journal.specs.Logs.{LogValue, abandoned_in, records_in}
-use Rattle.event_journal.specs.Walks.{rest_of}
-use Rattle.event_journal.specs.declared.walk.Walk.{Walk}
 use Rattle.event_journal.specs.declared.abandoned.Abandoned.{Abandoned}
 
 -- a word and a count
@@ -31,11 +28,3 @@ abandoned_lines abandoned = count_fields (codes "abandoned") (length abandoned) 
 -- the text of a journal: its events, and then its abandoned attempts
 abbrev pub journal_text : List Record → List Abandoned → List ℕ
 journal_text records abandoned = text_of (record_lines records) ++ text_of (abandoned_lines abandoned)
-
--- the text of the journal of some logs
-abbrev pub logs_text : List LogValue → List ℕ
-logs_text logs = journal_text (records_in logs) (abandoned_in logs)
-
--- the lines of the events that a walk has left
-abbrev pub rest_text : Walk → List ℕ
-rest_text w = text_of (map record_fields (rest_of w))

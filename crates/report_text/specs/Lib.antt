@@ -1,8 +1,10 @@
 pub mod Again
 pub mod Cursors
 pub mod Cuts
+pub mod Details
 pub mod Entries
 pub mod EntryLines
+pub mod First
 pub mod Forms
 pub mod GridPart
 pub mod JournalText
@@ -10,4 +12,8 @@ pub mod OneReport
 pub mod Reading
 pub mod Report
 pub mod ReportForm
+pub mod Short
+pub mod ShortLaws
+pub mod Tables
+pub mod Widened
 pub mod Writing

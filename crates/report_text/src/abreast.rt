@@ -1,11 +1,11 @@
 //! The events of a journal, printed side by side and put in order.
-ghost use Rattle.std.specs.Prelude.{◌≡◌, ◌-◌, ◌^◌, ◌<◌, ◌++◌, IfOk, map};
-ghost use Rattle.text_lines.specs.Lines.{text_of};
+ghost use Rattle.std.specs.Prelude.{◌≡◌, ◌-◌, ◌^◌, ◌<◌, ◌++◌, IfOk};
 ghost use Rattle.event_journal.specs.Logs.{records_in};
 ghost use Rattle.event_journal.specs.Merged.{concat};
-ghost use Rattle.report_text.specs.JournalText.{record_fields, rest_text};
+ghost use Rattle.report_text.specs.Details.{events_value, rest_text};
 ghost use Rattle.report_text.specs.Writing.{Streams, StreamsFirst, heading};
 
+use crate::detail::Detail;
 use crate::page::Page;
 use crate::part::{Part, put_walk};
 use event_journal::{Journal, Walk};
@@ -29,9 +29,11 @@ const BYTES_AN_EVENT: usize = 48;
 
 /// The events of a journal that are not put yet, and what they are printed in: in rounds, in each of
 /// which as many parts are printed side by side as there are processors, and then put in order.
-/// Contracts see the text of their lines.
+/// Contracts see what is told of them, and the text of their lines.
 pub(crate) struct Events<'a> {
     walk: Walk<'a>,
+    /// How much is told of each event.
+    detail: Detail,
     /// The parts of a round. There are none if one thread prints all events.
     parts: Vec<Part<'a>>,
     /// How many events of each tile a part has at most.
@@ -45,6 +47,7 @@ impl<'a> Drop for Events<'a> {
     fn drop(self) {
         let Events {
             walk,
+            detail: _,
             parts,
             most: _,
             rounds: _,
@@ -53,12 +56,12 @@ impl<'a> Drop for Events<'a> {
 }
 
 impl<'a> Model for Events<'a> {
-    ghost use Rattle.std.specs.Prelude.{ℕ, List};
-    ghost use Rattle.report_text.specs.JournalText.{rest_text};
+    ghost use Rattle.event_journal.specs.Walks.{rest_of};
+    ghost use Rattle.report_text.specs.Details.{EventsValue, events_value};
 
-    ghost Value = { List ℕ };
+    ghost Value = { EventsValue };
 
-    ghost view = { λ e. rest_text e.walk };
+    ghost view = { λ e. events_value e.detail (rest_of e.walk) };
 }
 
 /// How many parts of a journal are printed side by side.
@@ -97,19 +100,22 @@ fn make_parts<'a>(
 }
 
 impl<'a> Events<'a> {
-    /// All events of a journal. `NoMemory` if there is none for what they are printed in.
+    /// All events of a journal, of each of which so much is told. `NoMemory` if there is none for what
+    /// they are printed in.
     pub(crate) fn new<R: Threads>(
         rt: &R,
         alloc: Global,
         journal: &'a Journal,
+        detail: Detail,
     ) -> Result<Events<'a>, NoMemory>
-        ensures { IfOk result (λ e. e ≡ text_of (map record_fields (records_in journal.now))) }
+        ensures { IfOk result (λ e. e ≡ events_value detail (records_in journal.now)) }
     {
         let count = part_count(rt, journal);
         let bytes = ROOM / count.max(1);
         let most = (bytes / BYTES_AN_EVENT / busy_tiles(journal).max(1)).max(1);
         Ok(Events {
             walk: journal.walk(alloc)?,
+            detail,
             parts: make_parts(alloc, journal, count, bytes)?,
             most,
             rounds: if count == 0 {
@@ -120,6 +126,13 @@ impl<'a> Events<'a> {
         })
     }
 
+    /// How much is told of each event.
+    pub(crate) fn detail(&self) -> Detail
+        ensures { result ≡ self.now.detail }
+    {
+        self.detail
+    }
+
     /// Prints and puts one round, if an event is left.
     fn put_round<R: Threads + Sync, K: Sink>(
         &mut self,
@@ -128,24 +141,24 @@ impl<'a> Events<'a> {
         page: &mut Page,
     ) -> Result<(), SinkFailed>
         requires { (K.state sink.old).faults < 2 ^ 64 - 1 }
-        ensures { StreamsFirst (heading (K.state sink.old) page.old) (heading (K.state sink.new) page.new) self.old self.new result }
+        ensures { StreamsFirst (heading (K.state sink.old) page.old) (heading (K.state sink.new) page.new) self.old.text self.new.text result }
     {
         if self.walk.is_over() {
             return Ok(());
         }
         let parts = self.parts.as_mut_slice();
-        fill_all(parts, &mut self.walk, self.most);
+        fill_all(parts, &mut self.walk, self.most, self.detail);
         print_all(rt, parts);
         put_all(sink, page, parts)
     }
 }
 
 /// Fills parts, one after another, with the events that come first in a walk.
-fn fill_all<'a>(parts: &mut [Part<'a>], walk: &mut Walk<'a>, most: usize)
-    ensures { rest_text walk.old ≡ concat parts.new ++ rest_text walk.new }
+fn fill_all<'a>(parts: &mut [Part<'a>], walk: &mut Walk<'a>, most: usize, detail: Detail)
+    ensures { rest_text detail walk.old ≡ concat parts.new ++ rest_text detail walk.new }
 {
     for k in 0..parts.len() {
-        parts[k].fill(walk, most);
+        parts[k].fill(walk, most, detail);
     }
 }
 
@@ -176,10 +189,10 @@ pub(crate) fn put_events<R: Threads + Sync, K: Sink>(
     events: &mut Events<'_>,
 ) -> Result<(), SinkFailed>
     requires { (K.state sink.old).faults < 2 ^ 64 - 1 }
-    ensures { Streams (heading (K.state sink.old) page.old) (heading (K.state sink.new) page.new) events.old result }
+    ensures { Streams (heading (K.state sink.old) page.old) (heading (K.state sink.new) page.new) events.old.text result }
 {
     for _ in 0..events.rounds {
         events.put_round(rt, sink, page)?;
     }
-    put_walk(sink, page, &mut events.walk)
+    put_walk(sink, page, &mut events.walk, events.detail)
 }

@@ -11,7 +11,7 @@ use feast_base::is_type_name;
 use text_lines::{first_field, one_field, one_number, one_seed, state, take_number};
 
 /// The first field as a number below 2^32, and the other fields.
-fn take_small(args: Option<&[u8]>) -> Option<(u32, Option<&[u8]>)>
+pub(crate) fn take_small(args: Option<&[u8]>) -> Option<(u32, Option<&[u8]>)>
     ensures { number_and_fields result ≡ take_small (fields_left args.entry) }
 {
     let (n, rest) = take_number(args)?;
@@ -23,7 +23,7 @@ fn take_small(args: Option<&[u8]>) -> Option<(u32, Option<&[u8]>)>
 }
 
 /// The first field as a number below 2^64, and the other fields.
-fn take_attempt(args: Option<&[u8]>) -> Option<(u64, Option<&[u8]>)>
+pub(crate) fn take_attempt(args: Option<&[u8]>) -> Option<(u64, Option<&[u8]>)>
     ensures { number_and_fields result ≡ take_attempt (fields_left args.entry) }
 {
     let (n, rest) = take_number(args)?;
@@ -64,7 +64,7 @@ pub(crate) fn record_form(args: Option<&[u8]>) -> Option<Record>
 }
 
 /// The last field of a line as the number of an attempt.
-fn last_attempt(args: Option<&[u8]>) -> Option<u64>
+pub(crate) fn last_attempt(args: Option<&[u8]>) -> Option<u64>
     ensures { result ≡ below (2 ^ 64) (one_number (fields_left args.entry)) }
 {
     let n = one_number(args)?;

@@ -5,6 +5,7 @@ ghost use Rattle.report_text.specs.Cuts.{AreCutShort};
 ghost use Rattle.report_text.specs.OneReport.{AreTypeNames, IsOneReport, IsReported};
 ghost use Rattle.report_text.specs.Report.{AreNamed, of_logs};
 ghost use Rattle.report_text.specs.ReportForm.{AreReports};
+ghost use Rattle.report_text.specs.ShortLaws.{AreInARow, IsTheShortOne, StandsForWhole};
 
 use crate::fitting::is_reported;
 use cell_grid::Grid;
@@ -63,4 +64,32 @@ pub fn cuts(map: &Map, plan: &AttemptPlan)
     // Only the contract speaks of the arguments; they are read so that none is unused.
     let _tiles = map.tiles();
     let _origin = plan.origin();
+}
+
+/// What holds of short reports of a map and a plan, with these names of types. That of what a run of the
+/// plan left stands for the whole one, and no other bytes do. The call does nothing: its contract is the
+/// law.
+pub fn short_reports(map: &Map, plan: &AttemptPlan, names: &[Name])
+    requires names { AreFormed names.now }
+    requires plan { IsDrawablePlan map.now plan.now }
+    ensures whole { StandsForWhole names.now map.now plan.now }
+    ensures short { IsTheShortOne names.now map.now plan.now }
+{
+    // Only the contract speaks of the arguments; they are read so that none is unused.
+    let _tiles = map.tiles();
+    let _origin = plan.origin();
+    let _names = names.len();
+}
+
+/// The report of what a run of a plan left, whole or short, is told from whatever follows it by its
+/// counts. The call does nothing: its contract is the law.
+pub fn reports_in_a_row(map: &Map, plan: &AttemptPlan, names: &[Name])
+    requires names { AreFormed names.now }
+    requires plan { IsDrawablePlan map.now plan.now }
+    ensures { AreInARow names.now map.now plan.now }
+{
+    // Only the contract speaks of the arguments; they are read so that none is unused.
+    let _tiles = map.tiles();
+    let _origin = plan.origin();
+    let _names = names.len();
 }

@@ -7,6 +7,8 @@
 
 mod abreast;
 mod cursors;
+mod detail;
+mod first;
 mod fitting;
 mod forms;
 mod journal_fault;
@@ -18,13 +20,20 @@ mod part;
 mod placing;
 mod reader;
 mod reading;
+mod short;
+mod short_forms;
 mod shown;
 mod streamed;
+mod table;
+mod widening;
 mod write_fault;
 mod writer;
 
+pub use first::{FirstReport, first_report};
 pub use journal_fault::{JournalFault, LineFault};
-pub use law::{cuts, one_report, reads_again, reports};
+pub use law::{cuts, one_report, reads_again, reports, reports_in_a_row, short_reports};
 pub use reader::{ReadJournal, read};
+pub use short::{write_counts, write_short};
+pub use widening::widened;
 pub use write_fault::WriteFault;
 pub use writer::{write_grid, write_report};

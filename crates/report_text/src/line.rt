@@ -4,6 +4,7 @@ ghost use Rattle.std.specs.Prelude.{◌≡◌, ◌+◌, ◌/◌, ◌%◌, ◌<�
 ghost use Rattle.feast_base.specs.Digits.{glyph, hex};
 ghost use Rattle.text_lines.specs.Lines.{ended_line};
 ghost use Rattle.report_text.specs.JournalText.{abandoned_fields, record_fields};
+ghost use Rattle.report_text.specs.Short.{short_abandoned_fields, short_record_fields};
 
 use cell_grid::Record;
 use event_journal::Abandoned;
@@ -182,6 +183,17 @@ pub(crate) fn write_record(entry: &Record, line: &mut [u8; LONGEST_RECORD]) -> u
     write_number(entry.stamp, line, at)
 }
 
+/// Writes the short line of an event, without its site and its seed, and returns where it starts.
+pub(crate) fn write_short_record(entry: &Record, line: &mut [u8; LONGEST_RECORD]) -> usize
+    ensures within { result ≤ 82 }
+    ensures written { drop result line.new ≡ ended_line (short_record_fields entry.now) }
+{
+    let at = write_byte(b'\n', line, LONGEST_RECORD);
+    let at = write_next_long(entry.attempt, line, at);
+    let at = write_next(entry.tile, line, at);
+    write_number(entry.stamp, line, at)
+}
+
 /// Writes the line of an abandoned attempt, and returns where it starts.
 pub(crate) fn write_abandoned(entry: &Abandoned, line: &mut [u8; LONGEST_ABANDONED]) -> usize
     ensures within { result ≤ 97 }
@@ -193,6 +205,19 @@ pub(crate) fn write_abandoned(entry: &Abandoned, line: &mut [u8; LONGEST_ABANDON
     let at = write_next(entry.edge, line, at);
     let at = write_next(entry.y, line, at);
     let at = write_next(entry.x, line, at);
+    let at = write_next_long(entry.attempt, line, at);
+    write_number(entry.tile, line, at)
+}
+
+/// Writes the short line of an abandoned attempt, without its site, and returns where it starts.
+pub(crate) fn write_short_abandoned(entry: &Abandoned, line: &mut [u8; LONGEST_ABANDONED]) -> usize
+    ensures within { result ≤ 97 }
+    ensures written { drop result line.new ≡ ended_line (short_abandoned_fields entry.now) }
+{
+    let at = write_byte(b'\n', line, LONGEST_ABANDONED);
+    let at = write_next_long(entry.holder_attempt, line, at);
+    let at = write_next(entry.holder, line, at);
+    let at = write_next(entry.edge, line, at);
     let at = write_next_long(entry.attempt, line, at);
     write_number(entry.tile, line, at)
 }

@@ -1,9 +1,10 @@
 //! A part of a journal's events, printed into memory of its own.
 ghost use Rattle.std.specs.Prelude.{◌≡◌, ◌+◌, ◌-◌, ◌^◌, ◌<◌, ◌≤◌, ◌++◌, length, vec_capacity, vec_len};
-ghost use Rattle.report_text.specs.JournalText.{rest_text};
+ghost use Rattle.report_text.specs.Details.{rest_text};
 ghost use Rattle.report_text.specs.Writing.{Streams, heading};
 
-use crate::line::{LONGEST_RECORD, write_record};
+use crate::detail::Detail;
+use crate::line::LONGEST_RECORD;
 use crate::page::{Page, put_bytes};
 use event_journal::{Journal, Walk};
 use feast_base::{NoMemory, Sink, SinkFailed};
@@ -24,16 +25,18 @@ pub(crate) struct Part<'a> {
     idle_before: [u64; IDLE],
     printed: Vec<u8>,
     walk: Walk<'a>,
+    /// How much is told of each event.
+    detail: Detail,
     idle_behind: Vec<u64>,
 }
 
 impl<'a> Model for Part<'a> {
     ghost use Rattle.std.specs.Prelude.{ℕ, ◌++◌, List};
-    ghost use Rattle.report_text.specs.JournalText.{rest_text};
+    ghost use Rattle.report_text.specs.Details.{rest_text};
 
     ghost Value = { List ℕ };
 
-    ghost view = { λ p. p.printed.items ++ rest_text p.walk };
+    ghost view = { λ p. p.printed.items ++ rest_text p.detail p.walk };
 }
 
 impl<'a> Part<'a> {
@@ -47,16 +50,18 @@ impl<'a> Part<'a> {
             idle_before: [0; IDLE],
             printed: Vec::with_capacity(alloc, bytes)?,
             walk: journal.walk(alloc)?,
+            detail: Detail::Whole,
             idle_behind: Vec::with_capacity(alloc, IDLE)?,
         })
     }
 
     /// Takes over the events that come first in a walk, at most `most` of each tile, and drops its
-    /// own.
-    pub(crate) fn fill(&mut self, walk: &mut Walk<'a>, most: usize)
-        ensures { rest_text walk.old ≡ self.new ++ rest_text walk.new }
+    /// own. So much is told of each.
+    pub(crate) fn fill(&mut self, walk: &mut Walk<'a>, most: usize, detail: Detail)
+        ensures { rest_text detail walk.old ≡ self.new ++ rest_text detail walk.new }
     {
         self.printed.clear();
+        self.detail = detail;
         walk.split_front(&mut self.walk, most);
     }
 
@@ -64,7 +69,7 @@ impl<'a> Part<'a> {
     pub(crate) fn print(&mut self)
         ensures { self.new ≡ self.old }
     {
-        print_lines(&mut self.printed, &mut self.walk);
+        print_lines(&mut self.printed, &mut self.walk, self.detail);
     }
 
     /// Puts the lines of its events.
@@ -73,7 +78,7 @@ impl<'a> Part<'a> {
         ensures { Streams (heading (K.state sink.old) page.old) (heading (K.state sink.new) page.new) self.old result }
     {
         put_bytes(sink, page, self.printed.as_slice())?;
-        put_walk(sink, page, &mut self.walk)
+        put_walk(sink, page, &mut self.walk, self.detail)
     }
 }
 
@@ -88,15 +93,15 @@ fn append(out: &mut Vec<u8>, bytes: &[u8])
 
 /// Appends the lines of the events that a walk has left, until none is left or there may be no room
 /// for one more.
-fn print_lines(out: &mut Vec<u8>, walk: &mut Walk<'_>)
-    ensures { out.new.items ++ rest_text walk.new ≡ out.old.items ++ rest_text walk.old }
+fn print_lines(out: &mut Vec<u8>, walk: &mut Walk<'_>, detail: Detail)
+    ensures { out.new.items ++ rest_text detail walk.new ≡ out.old.items ++ rest_text detail walk.old }
 {
     let mut line = [0; LONGEST_RECORD];
     while out.capacity() - out.len() >= LONGEST_RECORD {
         let Some(entry) = walk.next() else {
             return;
         };
-        let start = write_record(&entry, &mut line);
+        let start = detail.write_record(&entry, &mut line);
         append(out, &line[start..]);
     }
 }
@@ -106,13 +111,14 @@ pub(crate) fn put_walk<K: Sink>(
     sink: &mut K,
     page: &mut Page,
     walk: &mut Walk<'_>,
+    detail: Detail,
 ) -> Result<(), SinkFailed>
     requires { (K.state sink.old).faults < 2 ^ 64 - 1 }
-    ensures { Streams (heading (K.state sink.old) page.old) (heading (K.state sink.new) page.new) (rest_text walk.old) result }
+    ensures { Streams (heading (K.state sink.old) page.old) (heading (K.state sink.new) page.new) (rest_text detail walk.old) result }
 {
     let mut line = [0; LONGEST_RECORD];
     while let Some(entry) = walk.next() {
-        let start = write_record(&entry, &mut line);
+        let start = detail.write_record(&entry, &mut line);
         put_bytes(sink, page, &line[start..])?;
     }
     Ok(())

@@ -1,16 +1,19 @@
 //! A report that goes to a sink line by line.
-ghost use Rattle.std.specs.Prelude.{◌≡◌, ◌≤◌, ◌-◌, ◌^◌, ◌<◌, ◌⊎◌, length, map};
+ghost use Rattle.std.specs.Prelude.{◌≡◌, ◌≤◌, ◌-◌, ◌^◌, ◌<◌, ◌++◌, ◌⊎◌, length, map};
 ghost use Rattle.bit_field.specs.Atom.{empty_atom};
 ghost use Rattle.text_lines.specs.Lines.{ended_line, text_of};
 ghost use Rattle.event_journal.specs.Logs.{abandoned_in, records_in};
-ghost use Rattle.report_text.specs.JournalText.{abandoned_fields, count_fields, logs_text, record_fields};
-ghost use Rattle.report_text.specs.Report.{AreNamed, atom_fields, grid_text, of_logs, report_of, shown_from, shown_one};
+ghost use Rattle.report_text.specs.Details.{abandoned_text, logs_text_by, records_text, report_by};
+ghost use Rattle.report_text.specs.JournalText.{count_fields};
+ghost use Rattle.report_text.specs.Report.{AreNamed, atom_fields, atoms_text, of_logs, shown_from, shown_one};
+ghost use Rattle.report_text.specs.Short.{counts_report};
 ghost use Rattle.report_text.specs.Writing.{PutsAll, Streams, heading};
 
 use crate::abreast::{Events, put_events};
+use crate::detail::Detail;
 use crate::line::{
-    ATOM_END, LONGEST_ABANDONED, LONGEST_COUNT, LONGEST_SITE, write_abandoned, write_atom_end,
-    write_count, write_site,
+    ATOM_END, LONGEST_ABANDONED, LONGEST_COUNT, LONGEST_SITE, write_atom_end, write_count,
+    write_site,
 };
 use crate::page::{Page, put_bytes, put_last};
 use crate::shown::{count, name_of};
@@ -85,41 +88,48 @@ fn put_abandoned<K: Sink>(
     sink: &mut K,
     page: &mut Page,
     abandoned: &[Abandoned],
+    detail: Detail,
 ) -> Result<(), SinkFailed>
     requires { (K.state sink.old).faults < 2 ^ 64 - 1 }
-    ensures { Streams (heading (K.state sink.old) page.old) (heading (K.state sink.new) page.new) (text_of (map abandoned_fields abandoned.now)) result }
+    ensures { Streams (heading (K.state sink.old) page.old) (heading (K.state sink.new) page.new) (abandoned_text detail abandoned.now) result }
 {
     let mut line = [0; LONGEST_ABANDONED];
     for entry in abandoned {
-        let start = write_abandoned(entry, &mut line);
+        let start = detail.write_abandoned(entry, &mut line);
         put_bytes(sink, page, &line[start..])?;
     }
     Ok(())
 }
 
 /// Puts the lines of the abandoned attempts of logs.
-fn put_logs<K: Sink>(sink: &mut K, page: &mut Page, logs: &[TileLog]) -> Result<(), SinkFailed>
+fn put_logs<K: Sink>(
+    sink: &mut K,
+    page: &mut Page,
+    logs: &[TileLog],
+    detail: Detail,
+) -> Result<(), SinkFailed>
     requires { (K.state sink.old).faults < 2 ^ 64 - 1 }
-    ensures { Streams (heading (K.state sink.old) page.old) (heading (K.state sink.new) page.new) (text_of (map abandoned_fields (abandoned_in logs.now))) result }
+    ensures { Streams (heading (K.state sink.old) page.old) (heading (K.state sink.new) page.new) (abandoned_text detail (abandoned_in logs.now)) result }
 {
     for log in logs {
-        put_abandoned(sink, page, log.abandoned())?;
+        put_abandoned(sink, page, log.abandoned(), detail)?;
     }
     Ok(())
 }
 
-/// Puts the text that shows a grid.
+/// Puts a header, and the text of a grid's atoms.
 pub(crate) fn put_grid<K: Sink>(
     sink: &mut K,
     page: &mut Page,
+    header: &[u8],
     grid: &Grid,
     names: &[Name],
 ) -> Result<(), SinkFailed>
     requires room { (K.state sink.old).faults < 2 ^ 64 - 1 }
     requires named { AreNamed names.now grid.now.atoms }
-    ensures { Streams (heading (K.state sink.old) page.old) (heading (K.state sink.new) page.new) (grid_text names.now grid.now) result }
+    ensures { Streams (heading (K.state sink.old) page.old) (heading (K.state sink.new) page.new) (header.now ++ atoms_text names.now grid.now) result }
 {
-    put_bytes(sink, page, b"feast 1\n")?;
+    put_bytes(sink, page, header)?;
     put_count(sink, page, b"atoms", count(grid))?;
     put_atoms(sink, page, names, grid.width(), grid.atoms())
 }
@@ -134,16 +144,17 @@ fn put_journal<R: Threads + Sync, K: Sink>(
     events: &mut Events<'_>,
 ) -> Result<(), SinkFailed>
     requires room { (K.state sink.old).faults < 2 ^ 64 - 1 }
-    requires all { events.old ≡ text_of (map record_fields (records_in journal.now)) }
-    ensures { Streams (heading (K.state sink.old) page.old) (heading (K.state sink.new) page.new) (logs_text journal.now) result }
+    requires all { events.old.text ≡ records_text events.old.detail (records_in journal.now) }
+    ensures { Streams (heading (K.state sink.old) page.old) (heading (K.state sink.new) page.new) (logs_text_by events.old.detail journal.now) result }
 {
+    let detail = events.detail();
     put_count(sink, page, b"journal", journal.len())?;
     put_events(rt, sink, page, events)?;
     put_count(sink, page, b"abandoned", journal.abandoned_len())?;
-    put_logs(sink, page, journal.logs())
+    put_logs(sink, page, journal.logs(), detail)
 }
 
-/// Puts the report of a run. `events` are those of its journal.
+/// Puts the report of a run. `events` are those of its journal, and say how much it tells.
 pub(crate) fn put_report<R: Threads + Sync, K: Sink>(
     rt: &R,
     sink: &mut K,
@@ -154,11 +165,30 @@ pub(crate) fn put_report<R: Threads + Sync, K: Sink>(
 ) -> Result<(), SinkFailed>
     requires room { (K.state sink.old).faults < 2 ^ 64 - 1 }
     requires named { AreNamed names.now grid.now.atoms }
-    requires all { events.old ≡ text_of (map record_fields (records_in journal.now)) }
-    ensures { PutsAll (K.state sink.old) (K.state sink.new) (report_of names.now (of_logs grid.now journal.now)) result }
+    requires all { events.old.text ≡ records_text events.old.detail (records_in journal.now) }
+    ensures { PutsAll (K.state sink.old) (K.state sink.new) (report_by events.old.detail names.now (of_logs grid.now journal.now)) result }
 {
+    let header = events.detail().header();
     let mut page = Page::new();
-    put_grid(sink, &mut page, grid, names)?;
+    put_grid(sink, &mut page, header, grid, names)?;
     put_journal(rt, sink, &mut page, journal, events)?;
     put_last(sink, page)
+}
+
+/// Puts the atoms of a grid, and the numbers of events and of abandoned attempts.
+pub(crate) fn put_counts<K: Sink>(
+    sink: &mut K,
+    page: &mut Page,
+    grid: &Grid,
+    names: &[Name],
+    events: u64,
+    abandoned: u64,
+) -> Result<(), SinkFailed>
+    requires room { (K.state sink.old).faults < 2 ^ 64 - 1 }
+    requires named { AreNamed names.now grid.now.atoms }
+    ensures { Streams (heading (K.state sink.old) page.old) (heading (K.state sink.new) page.new) (counts_report names.now grid.now events abandoned) result }
+{
+    put_grid(sink, page, b"feast 3\n", grid, names)?;
+    put_count(sink, page, b"journal", events)?;
+    put_count(sink, page, b"abandoned", abandoned)
 }

@@ -4,6 +4,7 @@ ghost use Rattle.report_text.specs.Report.{AreNamed, grid_text, of_logs, report_
 ghost use Rattle.report_text.specs.Writing.{PutsAll, Writes};
 
 use crate::abreast::Events;
+use crate::detail::Detail;
 use crate::page::{Page, put_last};
 use crate::streamed::{put_grid, put_report};
 use crate::write_fault::WriteFault;
@@ -25,7 +26,7 @@ pub fn write_grid<K: Sink>(grid: &Grid, names: &[Name], sink: &mut K) -> Result<
     ensures { PutsAll (K.state sink.old) (K.state sink.new) (grid_text names.now grid.now) result }
 {
     let mut page = Page::new();
-    put_grid(sink, &mut page, grid, names)?;
+    put_grid(sink, &mut page, b"feast 1\n", grid, names)?;
     put_last(sink, page)
 }
 
@@ -52,7 +53,7 @@ pub fn write_report<R: Threads + Sync, K: Sink>(
     requires room { (K.state sink.old).faults < 2 ^ 64 - 1 }
     ensures { Writes (K.state sink.old) (K.state sink.new) (report_of names.now (of_logs grid.now journal.now)) result }
 {
-    let mut events = Events::new(rt, alloc, journal)?;
+    let mut events = Events::new(rt, alloc, journal, Detail::Whole)?;
     put_report(rt, sink, grid, journal, names, &mut events)?;
     Ok(())
 }

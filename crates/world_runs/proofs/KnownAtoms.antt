@@ -18,7 +18,7 @@ use Rattle.world_runs.specs.Start.{start_grid, with_placed}
 use Rattle.world_text.specs.declared.world.Placed.{Placed}
 
 -- the atom at any place, also at none
-at_known : (n : ℕ) (atoms : List AtomValue) → All (IsKnown n) atoms → (i : ℕ) → IsKnown n (get_or atoms i empty_atom)
+pub at_known : (n : ℕ) (atoms : List AtomValue) → All (IsKnown n) atoms → (i : ℕ) → IsKnown n (get_or atoms i empty_atom)
 at_known n atoms all i = elim (cases_lt i (length atoms)) [
   | inl inside ↦ all i empty_atom inside
   | inr past ↦ inl (get_or-eq_default atoms empty_atom {n = i} past)

@@ -41,7 +41,7 @@ drawn_are m k seed count t inside false is = λ i d lt.
     let centre = ap (λ (a : Attempt). a.centre) here in
     record { on = on; centre = subst (λ n. n < m.w * m.h) (sym centre) (mod-lt _ (positive m k)) }
 
-seeded_are : (m : MapValue) → IsMap m → (seed count t : ℕ) → All (IsAttempt m t) (attempts (seeded seed count m.off (m.w * m.h)) t)
+pub seeded_are : (m : MapValue) → IsMap m → (seed count t : ℕ) → All (IsAttempt m t) (attempts (seeded seed count m.off (m.w * m.h)) t)
 seeded_are m k seed count t = elim (cases_lt t (length m.off)) [
   | inl inside ↦ subst (All (IsAttempt m t)) (sym (seeded_lists_at seed count m.off (m.w * m.h) t inside)) (drawn_are m k seed count t (omega (arith, inside, k.marks)) (get_or m.off t true) refl)
   | inr past ↦ subst (All (IsAttempt m t)) (sym (get_or-eq_default (seeded seed count m.off (m.w * m.h)).lists [] {n = t} (omega (arith, past, length_seeded_lists seed count m.off (m.w * m.h))))) (All-nil (IsAttempt m t))

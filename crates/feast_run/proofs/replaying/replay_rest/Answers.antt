@@ -7,6 +7,7 @@ use Rattle.cell_grid.specs.declared.record.Record.{Record}
 use Rattle.feast_run.proofs.Runs.{journal_events, ready_valid}
 use Rattle.feast_run.specs.Answer.{atoms_after}
 use Rattle.feast_run.specs.Values.{elements_value, ready_value}
+use Rattle.feast_run.specs.declared.elements.Elements.{Elements}
 use Rattle.world_runs.specs.Worlds.{IsLiveEvent}
 use Rattle.world_text.specs.Values.{world_value}
 use Rattle.feast_run.proofs.replaying.replay_rest.Goals as goal
@@ -25,7 +26,7 @@ returns-clause-tells g c =
     inr (record {
       value = c.in_ok-journal.journal;
       passed = c.in_ok-journal.ensures.tells;
-      rest = ap (grid_text (elements_value c.args.ready.elements).names) c.in_ok-grid.ensures.grid ∙ ap (atoms_after (ready_value c.args.ready)) c.records.ensures;
+      rest = ap (λ (e : Elements). grid_text (elements_value e).names c.in_ok-grid.grid) c.into_elements.ensures ∙ ap (grid_text (elements_value c.args.ready.elements).names) c.in_ok-grid.ensures.grid ∙ ap (atoms_after (ready_value c.args.ready)) c.records.ensures;
     })
 
 pub returns-in_err-journal-clause-tells : goal.returns-in_err-journal-clause-tells

@@ -1,18 +1,18 @@
 use Rattle.feast_run.proofs.Telling.{moves_then, tells_then, tells_exit}
 use Rattle.feast_run.specs.Outputs.{output_text}
-use Rattle.feast_run.specs.Values.{ready_value}
+use Rattle.feast_run.specs.Values.{setting_value}
 use Rattle.feast_run.proofs.rewinding.rewind_stages.Goals as goal
 
 pub returns-clause-tells : goal.returns-clause-tells
 returns-clause-tells g c =
-    let rest = rw c.in_ok-ready.ensures.files at c.rewind_rest.ensures.tells in
-    tells_then output_text _ _ (ready_value c.in_ok-ready.ready) c.rewind_rest.result c.in_ok-ready.ensures.tells rest
+    let rest = rw c.in_ok-setting.ensures.files at c.rewind_setting.ensures.tells in
+    tells_then output_text _ _ (setting_value c.in_ok-setting.setting) c.rewind_setting.result c.in_ok-setting.ensures.tells rest
 
-pub returns-in_err-ready-clause-tells : goal.returns-in_err-ready-clause-tells
-returns-in_err-ready-clause-tells g c =
+pub returns-in_err-setting-clause-tells : goal.returns-in_err-setting-clause-tells
+returns-in_err-setting-clause-tells g c =
     let exit = c.from_residual in
-    tells_exit ready_value output_text _ _ c.in_err-ready.field-0.0 exit.result exit.ensures.1
-    c.in_err-ready.ensures.tells
+    tells_exit setting_value output_text _ _ c.in_err-setting.field-0.0 exit.result exit.ensures.1
+    c.in_err-setting.ensures.tells
 
 pub returns-clause-moves : goal.returns-clause-moves
-returns-clause-moves g c = moves_then _ _ _ c.rewind_rest.result c.in_ok-ready.ensures.moves c.rewind_rest.ensures.moves
+returns-clause-moves g c = moves_then _ _ _ c.rewind_setting.result c.in_ok-setting.ensures.moves c.rewind_setting.ensures.moves

@@ -1,5 +1,6 @@
 use Rattle.std.proofs.Common.{◌∙◌, ap}
-use Rattle.feast_run.proofs.Runs.{alone_reports, events_live, first_records, is_alone, ready_valid}
+use Rattle.chain_run.proofs.Legs.{lone_events}
+use Rattle.feast_run.proofs.Runs.{alone_reports, events_live, is_alone, ready_valid}
 use Rattle.feast_run.specs.Answer.{grid_after}
 use Rattle.feast_run.specs.Values.{elements_value, ready_value}
 use Rattle.report_text.specs.Report.{report}
@@ -11,14 +12,14 @@ pub grid_after-requires-clause-live : goal.grid_after-requires-clause-live
 grid_after-requires-clause-live g c =
     let w = world_value c.args.ready.world in
     let valid = ready_valid c.args.ready c.requires.ready in
-    let all = first_records c.in_ok-journal.journal c.log.result.now (events_of w.plane w.plan) c.records.result.now c.in_ok-journal.ensures.logs c.log.ensures c.records.ensures in
+    let all = lone_events c.in_ok-journal.journal c.log.result.now (events_of w.plane w.plan) c.records.result.now c.in_ok-journal.ensures.logs c.log.ensures c.records.ensures in
     events_live w valid c.requires.alone c.records.result.now all
 
 pub returns-clause-text : goal.returns-clause-text
 returns-clause-text g c =
     let w = world_value c.args.ready.world in
     let names = (elements_value c.args.ready.elements).names in
-    let all = first_records c.in_ok-journal.journal c.log.result.now (events_of w.plane w.plan) c.records.result.now c.in_ok-journal.ensures.logs c.log.ensures c.records.ensures in
+    let all = lone_events c.in_ok-journal.journal c.log.result.now (events_of w.plane w.plan) c.records.result.now c.in_ok-journal.ensures.logs c.log.ensures c.records.ensures in
     let grid = c.in_ok-grid.ensures.grid ∙ ap (grid_after (ready_value c.args.ready)) all in
     (λ i. report names (grid i) (c.in_ok-journal.ensures.records i) (c.in_ok-journal.ensures.abandoned i))
 

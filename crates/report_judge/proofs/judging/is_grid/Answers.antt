@@ -1,6 +1,6 @@
-use Rattle.std.proofs.Common.{[], subst, sym}
+use Rattle.std.proofs.Common.{subst}
 use Rattle.report_judge.proofs.Differing.{text_compared}
-use Rattle.report_judge.specs.Comparing.{Compared, compared, compared_state}
+use Rattle.report_judge.specs.Comparing.{Compared, compared_state}
 use Rattle.report_text.specs.Report.{grid_text}
 use Rattle.report_text.specs.Writing.{PutsAll}
 use Rattle.report_judge.proofs.judging.is_grid.Goals as goal

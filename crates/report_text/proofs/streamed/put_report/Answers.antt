@@ -1,21 +1,24 @@
-use Rattle.std.proofs.Common.{◌≡◌, [], ◌++◌, append-nil, codes, refl, subst, sym}
+use Rattle.std.proofs.Common.{◌≡◌, [], ◌++◌, ap, append-nil, refl, subst, sym, ◌∙◌}
 use Rattle.event_journal.specs.Logs.{abandoned_in, records_in}
 use Rattle.feast_base.specs.Loading.{IsCut}
-use Rattle.report_text.specs.JournalText.{logs_text}
-use Rattle.report_text.specs.Report.{atoms_text, of_logs, report_of}
+use Rattle.report_text.specs.Details.{header_by, logs_text_by, report_by}
+use Rattle.report_text.specs.Report.{atoms_text, of_logs}
 use Rattle.report_text.specs.Writing.{IsTurned}
 use Rattle.report_text.proofs.Putting.{puts_cut, puts_last, underway_cut, underway_done, underway_more, underway_none}
-use Rattle.report_text.proofs.WrittenLines.{report_parts}
+use Rattle.report_text.proofs.WrittenLines.{report_parts_by}
 use Rattle.report_text.proofs.streamed.put_report.Goals as goal
 
 pub returns-in_err-put_grid : goal.returns-in_err-put_grid
 returns-in_err-put_grid g c =
-    let grid = codes "feast 1\n" ++ atoms_text c.args.names.now c.args.grid.now in
-    let journal = logs_text c.args.journal.now in
-    let text = report_of c.args.names.now (of_logs c.args.grid.now c.args.journal.now) in
+    let detail = c.args.events.now.detail in
+    let atoms = atoms_text c.args.names.now c.args.grid.now in
+    let grid = c.header-header.result.now ++ atoms in
+    let journal = logs_text_by detail c.args.journal.now in
+    let text = report_by detail c.args.names.now (of_logs c.args.grid.now c.args.journal.now) in
     let a = g.K.Sink.state c.args.sink.now in
     let b = g.K.Sink.state c.put_grid.new.sink in
-    let parts : text ≡ grid ++ journal = report_parts c.args.names.now c.args.grid.now (records_in c.args.journal.now) (abandoned_in c.args.journal.now) in
+    let parts : text ≡ grid ++ journal = report_parts_by detail c.args.names.now c.args.grid.now (records_in c.args.journal.now) (abandoned_in c.args.journal.now)
+    ∙ ap (λ z. (z ++ atoms) ++ journal) (sym (c.header-header.ensures ∙ ap header_by c.detail.ensures)) in
     let begun = underway_none a [] text in
     let cut : IsCut a b grid = subst (λ p. IsCut a b (p ++ grid)) c.new-page.ensures c.in_err-put_grid.ensures in
     puts_cut a b [] text c.from_residual.result c.from_residual.ensures.0
@@ -23,12 +26,15 @@ returns-in_err-put_grid g c =
 
 pub returns-in_err-put_journal : goal.returns-in_err-put_journal
 returns-in_err-put_journal g c =
-    let grid = codes "feast 1\n" ++ atoms_text c.args.names.now c.args.grid.now in
-    let journal = logs_text c.args.journal.now in
-    let text = report_of c.args.names.now (of_logs c.args.grid.now c.args.journal.now) in
+    let detail = c.args.events.now.detail in
+    let atoms = atoms_text c.args.names.now c.args.grid.now in
+    let grid = c.header-header.result.now ++ atoms in
+    let journal = logs_text_by detail c.args.journal.now in
+    let text = report_by detail c.args.names.now (of_logs c.args.grid.now c.args.journal.now) in
     let a = g.K.Sink.state c.args.sink.now in
     let b = g.K.Sink.state c.put_grid.new.sink in
-    let parts : text ≡ grid ++ journal = report_parts c.args.names.now c.args.grid.now (records_in c.args.journal.now) (abandoned_in c.args.journal.now) in
+    let parts : text ≡ grid ++ journal = report_parts_by detail c.args.names.now c.args.grid.now (records_in c.args.journal.now) (abandoned_in c.args.journal.now)
+    ∙ ap (λ z. (z ++ atoms) ++ journal) (sym (c.header-header.ensures ∙ ap header_by c.detail.ensures)) in
     let begun = underway_none a [] text in
     let d = g.K.Sink.state c.put_journal.new.sink in
     let turned : IsTurned a b [] c.put_grid.new.page grid = subst (λ p. IsTurned a b p c.put_grid.new.page grid) c.new-page.ensures c.in_ok-put_grid.ensures in
@@ -39,12 +45,15 @@ returns-in_err-put_journal g c =
 
 pub returns : goal.returns
 returns g c =
-    let grid = codes "feast 1\n" ++ atoms_text c.args.names.now c.args.grid.now in
-    let journal = logs_text c.args.journal.now in
-    let text = report_of c.args.names.now (of_logs c.args.grid.now c.args.journal.now) in
+    let detail = c.args.events.now.detail in
+    let atoms = atoms_text c.args.names.now c.args.grid.now in
+    let grid = c.header-header.result.now ++ atoms in
+    let journal = logs_text_by detail c.args.journal.now in
+    let text = report_by detail c.args.names.now (of_logs c.args.grid.now c.args.journal.now) in
     let a = g.K.Sink.state c.args.sink.now in
     let b = g.K.Sink.state c.put_grid.new.sink in
-    let parts : text ≡ grid ++ journal = report_parts c.args.names.now c.args.grid.now (records_in c.args.journal.now) (abandoned_in c.args.journal.now) in
+    let parts : text ≡ grid ++ journal = report_parts_by detail c.args.names.now c.args.grid.now (records_in c.args.journal.now) (abandoned_in c.args.journal.now)
+    ∙ ap (λ z. (z ++ atoms) ++ journal) (sym (c.header-header.ensures ∙ ap header_by c.detail.ensures)) in
     let begun = underway_none a [] text in
     let d = g.K.Sink.state c.put_journal.new.sink in
     let turned : IsTurned a b [] c.put_grid.new.page grid = subst (λ p. IsTurned a b p c.put_grid.new.page grid) c.new-page.ensures c.in_ok-put_grid.ensures in

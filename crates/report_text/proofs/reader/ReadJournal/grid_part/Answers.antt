@@ -1,4 +1,4 @@
-use Rattle.std.proofs.Common.{◌≡◌, ◌+◌, ap, refl, subst, sym, ◌∙◌}
+use Rattle.std.proofs.Common.{◌≡◌, ◌+◌, ap, refl, subst, ◌∙◌}
 use Rattle.report_text.proofs.GridParts.{before_journal}
 use Rattle.report_text.specs.Entries.{Entries}
 use Rattle.report_text.specs.GridPart.{LeavesLines}
