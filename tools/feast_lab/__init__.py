@@ -13,7 +13,7 @@ from lab.base.errors import LabError
 from feast_lab.arrays import frame  # says what to do without NumPy, so it comes before what needs that
 from feast_lab import plots, statistics
 from feast_lab.chains import Chain
-from feast_lab.clusters import clusters
+from feast_lab.clusters import clusters, labels
 from feast_lab.films import Film
 from feast_lab.making import chain, fork, go_on, walk
 from feast_lab.moments import Moment
@@ -23,4 +23,4 @@ from feast_lab.worlds import World
 from feast_lab.version import VERSION as __version__
 
 __all__ = ["Chain", "Film", "LabError", "Moment", "Run", "Sweep", "World", "__version__", "chain", "clusters", "fork", "frame",
-           "go_on", "parts", "plots", "read", "run", "statistics", "sweep", "walk"]
+           "go_on", "labels", "parts", "plots", "read", "run", "statistics", "sweep", "walk"]

@@ -90,12 +90,3 @@ def series(pandas: Any, column: Array, is_optional: bool) -> Any:
     if is_optional and column.dtype.kind == "f":
         return masked.filled(column, numpy.nan)
     return [None if lack else value for value, lack in zip(column, lacks)] if is_optional else numpy.array(masked.getdata(column))
-
-
-def grid(width: int, height: int, values: Mapping[int, int], kind: str) -> Array:
-    """Values of sites, numbered row by row, as a masked array by row and column; sites that have none are masked."""
-    found = masked.array(numpy.zeros(width * height, kind), mask=True)
-    sites = list(values)
-    found[sites] = list(values.values())
-    shaped: Array = found.reshape(height, width)
-    return shaped

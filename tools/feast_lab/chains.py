@@ -1,5 +1,5 @@
 """Chains, as `./lab chain` makes them."""
-from collections.abc import Callable, Iterator
+from collections.abc import Callable, Iterator, Sequence
 from pathlib import Path
 from tempfile import TemporaryDirectory
 from typing import Any
@@ -18,9 +18,10 @@ from lab.formats.outcome import atom_lines
 from lab.formats.world import World
 from lab.measure.measures import Measure, measures_of
 
-from feast_lab import arrays, recordings
+from feast_lab import arrays, datasets, recordings
 from feast_lab.arrays import Array
 from feast_lab.films import Film
+from feast_lab.measured import Measure as Measured, said, with_columns
 from feast_lab.moments import Moment
 from feast_lab.programs import found
 from feast_lab.runs import Run
@@ -86,11 +87,32 @@ class Chain:
             raise LabError(f"plane({leg}): the chain has the legs 0 to {len(course.legs) - 1}")
         events = course.upto(leg).events
         lines = atom_lines(read_text(self.folder.atoms(leg)))
-        return Moment(f"leg {leg} of {self.folder.path.name}", World.read(self.folder.start), self.layout, self.texts, events, lines)
+        return Moment.of(f"leg {leg} of {self.folder.path.name}", World.read(self.folder.start), self.layout, self.texts, events, lines)
+
+    def planes(self) -> Iterator[Moment]:
+        """The plane at the start, and at the end of each leg."""
+        return map(self.plane, range(len(self) + 1))
 
     def measure(self, of: Callable[[Moment], Any]) -> Array:
         """What a function says of the plane at the end of each leg, from the start on: a row of an array for each."""
-        return numpy.array([of(self.plane(leg)) for leg in range(len(self) + 1)])
+        return numpy.array([of(plane) for plane in self.planes()])
+
+    def measured(self, **measures: Measured) -> Array:
+        """The course with a further column for each function: what it says of the plane at the end of each leg."""
+        return with_columns(self.course, said(measures, self.planes()))
+
+    def to_xarray(self, every: int | None = None, members: Sequence[str] | None = None) -> Any:
+        """The planes at the start and at the ends of legs, or those that `frames(every)` gives, as a dataset of xarray; see
+        `Run.to_xarray`."""
+        if every is None:
+            return datasets.dataset(self.planes(), members, range(len(self) + 1))
+        return datasets.dataset(self.frames(every), members)
+
+    def _repr_svg_(self) -> str | None:
+        return self.plane(len(self))._repr_svg_()
+
+    def _repr_png_(self) -> bytes | None:
+        return self.plane(len(self))._repr_png_()
 
     def frames(self, every: int) -> Iterator[Moment]:
         """The plane at the start, after every so many events of all legs, and at the end."""

@@ -3,7 +3,7 @@ from collections.abc import Callable, Iterator, Sequence
 from pathlib import Path
 from tempfile import TemporaryDirectory
 
-from lab.base.progress import Progress, ProgressLine, Stop
+from lab.base.progress import Progress, Stop
 from lab.chain.branch import Origin
 from lab.chain.making import WantedChain, made
 
@@ -11,36 +11,41 @@ from feast_lab.chains import Chain
 from feast_lab.moments import Moment
 from feast_lab.programs import Paths, plain_names
 from feast_lab.runs import elements_of, world_file
+from feast_lab.waiting import Hearer, reporter
 from feast_lab.worlds import World
+
+Until = str | Callable[[Moment], bool]  # a rule as `./lab chain --until` has it, or a function of the plane at the end of a leg
 
 
 def chain(world: str | Path | World, elements: Paths | None = None, *, legs: int, folder: str | Path | None = None, step: bool = False,
-          seed: int | None = None, at: Sequence[str] = (), until: str | None = None, measures: Sequence[str] = (),
-          failures: bool = False, drift: bool = False, keep: str = "none", progress: bool = False) -> Chain:
+          seed: int | None = None, at: Sequence[str] = (), until: Until | None = None, measures: Sequence[str] = (),
+          failures: bool = False, drift: bool = False, keep: str = "none", progress: Hearer = False) -> Chain:
     """Makes a chain, or goes on with the one of a folder; the words mean what those of `./lab chain` do.
 
-    Without a folder the chain goes away with the object. With `progress` a line on standard error says how far it is. The
-    program is the one that `./lab` would call.
+    `until` is a rule, or a function of a plane: once it holds at the end of a leg the chain is over. Without a folder the
+    chain goes away with the object. With `progress` a line on standard error says how far it is; or a function is told, by
+    the part that is done, from 0 to 1, and what is at work. The program is the one that `./lab` would call.
     """
     files = elements_of(world, elements)
     with TemporaryDirectory() as room:
         path = world_file(world, Path(room))
         own: TemporaryDirectory[str] | None = TemporaryDirectory() if folder is None else None
         place = Path(own.name) / "chain" if own is not None else Path(folder or "")
-        wanted = WantedChain(place, path, files, legs, step, seed, keep, at, until, measures, failures, drift)
+        wanted = WantedChain(place, path, files, first_of(legs, until), step, seed, keep, at, rule_of(until), measures, failures, drift)
         with plain_names():
             made(wanted, reporter(progress), Stop(), is_lasting=own is None)
-    return Chain(place, room=own)
+    return ended(Chain(place, room=own), legs, until)
 
 
-def go_on(begun: Chain, legs: int, at: Sequence[str] = (), until: str | None = None, progress: bool = False) -> Chain:
-    """Goes on with a chain until it has so many legs in all, or until a rule holds at the end of one; gives the chain back.
-    `at` are acts before legs that are still to come."""
+def go_on(begun: Chain, legs: int, at: Sequence[str] = (), until: Until | None = None, progress: Hearer = False) -> Chain:
+    """Goes on with a chain until it has so many legs in all, or until a rule or a function holds at the end of one; gives the
+    chain back. `at` are acts before legs that are still to come."""
     how, folder = begun.begun, begun.folder
-    wanted = WantedChain(folder.path, folder.start, folder.files, legs, how.step, how.seed, how.keep, at, until)
+    first = min(len(begun) + 1, legs) if callable(until) else legs
+    wanted = WantedChain(folder.path, folder.start, folder.files, first, how.step, how.seed, how.keep, at, rule_of(until))
     with plain_names():
         made(wanted, reporter(progress), Stop(), is_lasting=not begun.is_passing)
-    return begun
+    return ended(begun, legs, until)
 
 
 def walk(begun: Chain, legs: int, until: Callable[[Moment], bool] | None = None) -> Iterator[Moment]:
@@ -54,15 +59,29 @@ def walk(begun: Chain, legs: int, until: Callable[[Moment], bool] | None = None)
         go_on(begun, len(begun) + 1)
 
 
-def fork(begun: Chain, leg: int, folder: str | Path, legs: int, at: Sequence[str] = (), until: str | None = None) -> Chain:
+def fork(begun: Chain, leg: int, folder: str | Path, legs: int, at: Sequence[str] = (), until: Until | None = None) -> Chain:
     """Makes a chain that has the legs of another up to one, and goes on from there with the same world and seeds and with acts
-    of its own, until it has so many legs in all."""
+    of its own, until it has so many legs in all, or until a rule or a function holds at the end of one."""
+    first = min(leg + 1, legs) if callable(until) else legs
     with plain_names():
-        wanted = WantedChain(Path(folder), begun.folder.start, begun.folder.files, legs, at=at, until=until)
+        wanted = WantedChain(Path(folder), begun.folder.start, begun.folder.files, first, at=at, until=rule_of(until))
         made(Origin.of(begun.folder.path).branch(str(leg), wanted), Progress(), Stop(), is_lasting=True)
-    return Chain(folder)
+    return ended(Chain(folder), legs, until)
 
 
-def reporter(is_wanted: bool) -> Progress:
-    """What hears how far a work is."""
-    return ProgressLine() if is_wanted else Progress()
+def rule_of(until: Until | None) -> str | None:
+    """The rule that the lab heeds; it knows nothing of functions."""
+    return until if isinstance(until, str) else None
+
+
+def first_of(legs: int, until: Until | None) -> int:
+    """How many legs are made before a function is asked: one, as far as there are any."""
+    return min(legs, 1) if callable(until) else legs
+
+
+def ended(begun: Chain, legs: int, until: Until | None) -> Chain:
+    """The chain, once a function holds of the plane at the end of a leg, or it has so many legs."""
+    if callable(until):
+        for _ in walk(begun, legs, until):
+            pass
+    return begun

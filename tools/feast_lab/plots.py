@@ -9,9 +9,8 @@ from lab.pictures.marks import marks_in
 
 from feast_lab.arrays import Array, extra
 from feast_lab.moments import Moment
+from feast_lab.pixels import colors_of
 from feast_lab.runs import Run
-
-WHITE = "#ffffff"
 
 
 def axes_of(axes: Any) -> Any:
@@ -42,7 +41,7 @@ def plot_plane(plane: Moment, axes: Any = None) -> Any:
     """A plane, each atom in the colour of its element (as a film has it), with an entry of the legend for each element."""
     axes = axes_of(axes)
     marks = marks_in(plane.layout.elements, plane.texts)
-    image(axes, codes(plane), [WHITE, *(mark.color for mark in marks)])
+    image(axes, plane.cells.codes, [mark.color for mark in marks])
     patch = extra("matplotlib.patches", "a picture").Patch
     there = plane.counts()
     handles = [patch(color=mark.color, label=mark.name) for mark in marks if there[mark.name]]
@@ -75,13 +74,13 @@ def plot_space_time(run: Any, every: int, row: int | None = None, column: int | 
     if (row is None) == (column is None):
         raise LabError("a diagram of space and time is of one row or of one column")
     frames = list(run.frames(every))
-    planes = [codes(it) for it in frames]
+    planes = [it.cells.codes for it in frames]
     high, wide = planes[0].shape
     if not 0 <= (row if row is not None else column or 0) < (high if row is not None else wide):
         raise LabError(f"the plane has the rows 0 to {high - 1} and the columns 0 to {wide - 1}")
     lines = numpy.array([it[row] if row is not None else it[:, column] for it in planes])
     axes = axes_of(axes)
-    image(axes, lines, [WHITE, *(mark.color for mark in marks_in(frames[0].layout.elements, frames[0].texts))])
+    image(axes, lines, [mark.color for mark in marks_in(frames[0].layout.elements, frames[0].texts)])
     axes.set(xlabel="column" if row is not None else "row", ylabel=f"time, by {every:,} events", aspect="auto")
     return axes
 
@@ -93,17 +92,6 @@ def per_site(records: Array, rows: int, columns: int) -> Array:
     return found
 
 
-def codes(plane: Moment) -> Array:
-    """The element of each site by row and column, from 1 on in the order of the files; 0 where there is no atom."""
-    numbers = {name: at for at, name in enumerate(plane.layout.elements, 1)}
-    found: Array = numpy.zeros((plane.world.rows, plane.world.columns), "u2")
-    for line in plane.lines:
-        x, y, name, _ = line.split(" ")
-        found[int(y), int(x)] = numbers[name]
-    return found
-
-
-def image(axes: Any, numbers: Array, colors: Sequence[str]) -> None:
-    """Paints numbers in their colours."""
-    rgb = numpy.array([[int(color[at:at + 2], 16) for at in (1, 3, 5)] for color in colors], "u1")
-    axes.imshow(rgb[numbers], interpolation="nearest")
+def image(axes: Any, codes: Array, colors: Sequence[str]) -> None:
+    """Paints the codes of elements in their colours."""
+    axes.imshow(colors_of(codes, colors), interpolation="nearest")

@@ -7,7 +7,7 @@ from tempfile import TemporaryDirectory
 from lab.base.errors import LabError
 from lab.base.program import Program
 from lab.base.progress import Progress
-from lab.film.batches import put, side_by_side
+from lab.film.batches import side_by_side
 from lab.film.frames import Frame
 from lab.film.making import Filming, WantedFilm, refuse_frames
 from lab.film.recording import Recording
@@ -15,6 +15,7 @@ from lab.film.replays import Plane
 
 from feast_lab import arrays
 from feast_lab.arrays import Array
+from feast_lab.cells import Cells
 from feast_lab.films import Film
 from feast_lab.moments import Moment
 
@@ -36,14 +37,14 @@ def moments(recording: Recording, every: int) -> set[int]:
 
 def planes(program: Program, recording: Recording, every: int, texts: Sequence[tuple[Path, str]]) -> Iterator[Moment]:
     """The plane at the start, after every so many events, and at the end."""
-    cells: dict[int, str] = {}
-    wide = recording.world.columns
+    world, layout = recording.world, recording.layout
+    numbers = {name: at for at, name in enumerate(layout.elements, 1)}
+    cells = Cells.empty(world.rows, world.columns)
     wanted = moments(recording, every)
     for frame in played(program, recording, wanted):
-        put(cells, frame)
+        cells.put(frame.changes, numbers)
         if frame.events in wanted:
-            lines = [f"{site % wide} {site // wide} {cells[site]}" for site in sorted(cells)]
-            yield Moment(recording.title, recording.world, recording.layout, texts, frame.events, lines)
+            yield Moment(recording.title, world, layout, texts, frame.events, cells.copy())
 
 
 def counts(program: Program, recording: Recording, every: int) -> Array:

@@ -23,11 +23,12 @@ from lab.formats.world import World
 from lab.measure.drift import greatest, plans, tiles_of
 from lab.worlds.starting import drawn_world
 
-from feast_lab import arrays, recordings
+from feast_lab import arrays, datasets, recordings
 from feast_lab.arrays import Array
 from feast_lab.films import Film
 from feast_lab.moments import Moment
 from feast_lab.programs import Paths, files_of, found
+from feast_lab.waiting import Hearer, called
 from feast_lab.worlds import World as OwnWorld
 
 
@@ -83,7 +84,7 @@ class Run:
     @property
     def atoms(self) -> Array:
         """The atoms at the end: a masked array with x, y, element, state and the members."""
-        return self.at(self.outcome.events).atoms
+        return self.end.atoms
 
     @cached_property
     def drift(self) -> float:
@@ -95,7 +96,24 @@ class Run:
         """`events`, `abandoned` or `atoms` as a frame of pandas."""
         if name not in ("events", "abandoned", "atoms"):
             raise LabError(f"a run has no {name}; it has events, abandoned and atoms")
-        return self.at(self.outcome.events).to_pandas() if name == "atoms" else arrays.frame(getattr(self, name))
+        return self.end.to_pandas() if name == "atoms" else arrays.frame(getattr(self, name))
+
+    def to_xarray(self, every: int, members: Sequence[str] | None = None) -> Any:
+        """The plane at the start, after every so many events and at the end, as a dataset of xarray with the dimensions time
+        (in events), y and x: `element`, the number of the element of each site, and `Element.member` for each member, or for
+        those of `members`; NaN where there is no such atom."""
+        return datasets.dataset(self.frames(every), members)
+
+    @property
+    def end(self) -> Moment:
+        """The plane at the end, which a notebook shows for the run."""
+        return self.at(self.outcome.events)
+
+    def _repr_svg_(self) -> str | None:
+        return self.end._repr_svg_()
+
+    def _repr_png_(self) -> bytes | None:
+        return self.end._repr_png_()
 
     def at(self, events: int) -> Moment:
         """The plane after so many events."""
@@ -107,11 +125,11 @@ class Run:
         else:
             words: list[str | Path] = ["rewind", self.path, self._report(), str(events), *self.files]
             lines = self.program.call(words).text.splitlines()[2:]
-        return Moment(self.path.name, self.world, self.layout, self.texts, events, lines)
+        return Moment.of(self.path.name, self.world, self.layout, self.texts, events, lines)
 
     def grid(self, name: str) -> Array:
         """The values of a member `Element.member` at the end, by row and column."""
-        return self.at(self.outcome.events).grid(name)
+        return self.end.grid(name)
 
     def counts(self, every: int) -> Array:
         """How many atoms each element had after every so many events; a row has events, abandoned, aeps and the elements."""
@@ -149,7 +167,8 @@ class Run:
 
 
 def run(world: str | Path | OwnWorld, elements: Paths | None = None, *, step: bool = False, seed: int | None = None,
-        attempts: int | None = None, set: Mapping[str, object] | None = None, program: str | Path | None = None) -> Run:
+        attempts: int | None = None, set: Mapping[str, object] | None = None, program: str | Path | None = None,
+        timeout: float | None = None, progress: Hearer = False) -> Run:
     """Makes a run.
 
     `world` is a `World`, a file, or the text of one, which has several lines; `elements` is a file or several, and a
@@ -157,17 +176,18 @@ def run(world: str | Path | OwnWorld, elements: Paths | None = None, *, step: bo
     the run that the first leg of `./lab chain --seed` makes: the attempts are drawn from that seed, and the order of a
     stepped run from the seed plus the number of tiles. `attempts` are those of each tile, in place of the world's.
     `set` gives constants, `Element.constant`, other values. `program` is the built program; without it the one that
-    `./lab` would call.
+    `./lab` would call. A run that takes more than `timeout` seconds is ended, with a LabError. With `progress` a line on
+    standard error says for how long it has run; a function is told 0, or 1 at the end, and the name of the world.
     """
-    called, files = found(program), elements_of(world, elements)
+    caller, files = found(program), elements_of(world, elements)
     room: TemporaryDirectory[str] = TemporaryDirectory()
     path = world_file(world, Path(room.name))
     if seed is not None or attempts is not None:
         path = seeded(path, seed, attempts, step, Path(room.name))
     if set:
         files = with_constants(files, set, Path(room.name))
-    report = called.call(["step" if step else "run", path, *files]).output
-    return Run(called, path, files, report, room)
+    report = called(caller, ["step" if step else "run", path, *files], path.name, timeout, progress)
+    return Run(caller, path, files, report, room)
 
 
 def read(world: str | Path, report: str | Path, elements: Paths, *, program: str | Path | None = None) -> Run:
@@ -179,8 +199,8 @@ def read(world: str | Path, report: str | Path, elements: Paths, *, program: str
         raise LabError(f"{report}: byte {error.start + 1} is no part of a report") from error
     reader.report(reader.atoms())
     reader.end()
-    called, files = found(program), files_of(elements)
-    return Run(called, Path(world).resolve(), files, data, TemporaryDirectory())
+    caller, files = found(program), files_of(elements)
+    return Run(caller, Path(world).resolve(), files, data, TemporaryDirectory())
 
 
 def elements_of(world: str | Path | OwnWorld, elements: Paths | None) -> list[Path]:

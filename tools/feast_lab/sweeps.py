@@ -8,7 +8,6 @@ from typing import Any
 
 from lab.base.errors import LabError
 from lab.base.limits import MOST_COLUMNS
-from lab.base.progress import Progress, ProgressLine
 from lab.formats.layout import Layout
 from lab.measure.measures import measures_of
 from lab.sweep.check import check_runs
@@ -20,8 +19,10 @@ from lab.sweep.values import Setting
 from feast_lab import arrays
 from feast_lab.arrays import Array
 from feast_lab.chains import Chain, kind_of, number_of
+from feast_lab.measured import Measure, said, with_columns
 from feast_lab.programs import Paths, found, plain_names
 from feast_lab.runs import elements_of, world_file
+from feast_lab.waiting import Hearer, reporter
 from feast_lab.worlds import World
 
 Sets = Mapping[str | tuple[str, ...], Sequence[object]]
@@ -40,6 +41,17 @@ class Sweep:
     def __repr__(self) -> str:
         missing = self.missing
         return f"<Sweep {self.folder.path}: {len(self):,} runs{f', {len(missing):,} of them missing' if missing else ''}>"
+
+    def __enter__(self) -> "Sweep":
+        return self
+
+    def __exit__(self, *_error: object) -> None:
+        self.close()
+
+    def close(self) -> None:
+        """Takes the sweep's folder away, if it has none of its own."""
+        if self._room is not None:
+            self._room.cleanup()
 
     def __len__(self) -> int:
         return self.plan.runs
@@ -68,6 +80,15 @@ class Sweep:
         """The rows as a frame of pandas."""
         return arrays.frame(self.rows, [*self.plan.measures, *(["leg_seed"] if self.plan.legs is not None else [])])
 
+    def measured(self, **measures: Measure) -> Array:
+        """The rows with a further column for each function: what it says of the plane of the row, which is that at the end of
+        its leg or, without legs, of its run. The sweep has to keep reports."""
+        rows = self.rows
+        chains = {run: self.chain(run) for run in sorted(set(rows["run"].tolist()))}
+        legs = rows["leg"].tolist() if self.plan.legs is not None else [None] * len(rows)
+        planes = (chains[run].plane(len(chains[run]) if leg is None else leg) for run, leg in zip(rows["run"].tolist(), legs))
+        return with_columns(rows, said(measures, planes))
+
     def chain(self, run: int) -> Chain:
         """The chain of a run, counted from 1, if the sweep keeps reports."""
         if self.plan.keep != "reports":
@@ -81,7 +102,7 @@ class Sweep:
 def sweep(world: str | Path | World, elements: Paths | None = None, *, set: Sets | None = None, repeat: int = 1,
           legs: int | None = None, step: bool = False, seed: int | None = None, at: Sequence[str] = (), until: str | None = None,
           measures: Sequence[str] = (), drift: bool = False, keep: str = "none", folder: str | Path | None = None,
-          jobs: int | None = None, progress: bool = False) -> Sweep:
+          jobs: int | None = None, progress: Hearer = False) -> Sweep:
     """Makes the runs of a sweep, or goes on with one in a folder; the words mean what those of `./lab sweep` do.
 
     `set` has for each name its values, such as `{"Shark.starving": [3, 5], "fill.Fish": [0.1, 0.3], "size": [(16, 16)]}`;
@@ -89,7 +110,7 @@ def sweep(world: str | Path | World, elements: Paths | None = None, *, set: Sets
     Without a folder the runs go away with the sweep. `jobs` are the runs that are made side by side. With `progress` a
     line on standard error says how far it is. The program is the one that `./lab` would call.
     """
-    files, reporter = elements_of(world, elements), ProgressLine() if progress else Progress()
+    files, told = elements_of(world, elements), reporter(progress)
     room: TemporaryDirectory[str] = TemporaryDirectory()
     path = world_file(world, Path(room.name))
     if jobs is not None and jobs < 1:
@@ -98,10 +119,10 @@ def sweep(world: str | Path | World, elements: Paths | None = None, *, set: Sets
     with plain_names():
         plan = WantedSweep(path, files, settings_of(set or {}), repeat, legs, step, seed, at, until, keep, measures, drift).plan()
         if not place.is_planned:
-            check_runs(plan, path, files, reporter)
+            check_runs(plan, path, files, told)
         write_plan(place, plan, path, files)
         side_by_side = jobs or (len(os.sched_getaffinity(0)) if step or place.most_tiles == 1 else 1)
-        for _ in made(place, place.missing(), side_by_side, reporter):
+        for _ in made(place, place.missing(), side_by_side, told):
             pass
     done = Sweep(place.path)
     done._room = room if folder is None else None

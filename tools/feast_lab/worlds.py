@@ -140,14 +140,17 @@ class World:
     def plane(self) -> Moment:
         """The atoms as the plane of a run has them: `plane.atoms`, `plane.grid("Element.member")`."""
         texts = [(file, read_comments(file)) for file in self.files]
-        return Moment("a world", self._frame, self.layout, texts, 0, self._lines())
+        return Moment.of("a world", self._frame, self.layout, texts, 0, self._lines())
 
     def grid(self, name: str) -> Array:
         """The values of a member `Element.member`, by row and column, masked where there is no such atom."""
         return self.plane.grid(name)
 
-    def _repr_svg_(self) -> str:
-        return self.plane.svg()
+    def _repr_svg_(self) -> str | None:
+        return self.plane._repr_svg_()
+
+    def _repr_png_(self) -> bytes | None:
+        return self.plane._repr_png_()
 
     def _lines(self) -> list[str]:
         """The atoms as a report has them, row by row."""
