@@ -175,11 +175,13 @@ class Measures(PackageCase):
             "print(1 < len(own) == len(rule) < 40, own.course.tolist() == rule.course.tolist())\n"
             "begun = feast_lab.chain(world, elements, legs=1, step=True)\n"
             "print(len(feast_lab.go_on(begun, 40, until=old)) == len(rule), len(feast_lab.fork(begun, 1, 'fork', 40, until=old)) == len(rule))\n"
+            "twin = feast_lab.fork(own, 1)\n"
+            "print(twin.course.tolist() == own.course.tolist(), twin.folder.path.exists(), twin.close(), twin.folder.path.exists())\n"
             "print(len(feast_lab.chain(world, elements, legs=3, step=True, until=lambda plane: False)))\n"
             "print(len(feast_lab.go_on(begun, 1, until=old)) == len(rule))\n"
             "kept = feast_lab.chain(world, elements, legs=2, step=True, folder='kept')\n"
             "print(len(feast_lab.chain(world, elements, legs=40, step=True, folder='kept', until=old)) == len(rule))\n")
-        self.assertEqual(self.says(script), ["True True", "True True", "3", "True", "True"])
+        self.assertEqual(self.says(script), ["True True", "True True", "True True None False", "3", "True", "True"])
 
     def test_labels(self) -> None:
         """Clusters have numbers, the same with SciPy and without."""

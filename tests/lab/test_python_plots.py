@@ -28,10 +28,13 @@ class Plots(PackageCase):
             "axes = plots.plot_band(means, 'leg')\n"
             "ends = axes.collections[0].get_datalim(axes.transData)\n"
             "print(axes.lines[0].get_ydata().tolist(), numpy.isclose([ends.y0, ends.y1], [means['low'].min(), means['high'].max()]).all())\n"
+            "other = plots.plot_band(rows, 'leg', 'ants')\n"
+            "print((other.lines[0].get_ydata() == means['mean']).all(), other.lines[0].get_label(),\n"
+            "      other.collections[0].get_datalim(other.transData).bounds == ends.bounds)\n"
             "try: plots.plot(counts, 'Cow')\n"
             "except feast_lab.LabError as error: print(error)\n")
         self.assertEqual(self.drawn(script), [
-            "['Cell', 'Wall'] True aeps", "True again", "[3.0, 7.0] True",
+            "['Cell', 'Wall'] True aeps", "True again", "[3.0, 7.0] True", "True ants True",
             "the rows have no column Cow; they have events, abandoned, aeps, Cell, Wall"])
 
     def test_planes(self) -> None:

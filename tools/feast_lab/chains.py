@@ -61,7 +61,7 @@ class Chain:
         return recording_of_chain(self.program, self.folder.path, [])
 
     def __repr__(self) -> str:
-        return f"<Chain {self.folder.path}: {self.folder.done()} legs>"
+        return f"<Chain of {len(self)} legs>" if self.is_passing else f"<Chain {self.folder.path}: {len(self)} legs>"
 
     def __len__(self) -> int:
         return self.folder.done()

@@ -59,14 +59,19 @@ def walk(begun: Chain, legs: int, until: Callable[[Moment], bool] | None = None)
         go_on(begun, len(begun) + 1)
 
 
-def fork(begun: Chain, leg: int, folder: str | Path, legs: int, at: Sequence[str] = (), until: Until | None = None) -> Chain:
+def fork(begun: Chain, leg: int, folder: str | Path | None = None, legs: int | None = None, at: Sequence[str] = (),
+         until: Until | None = None) -> Chain:
     """Makes a chain that has the legs of another up to one, and goes on from there with the same world and seeds and with acts
-    of its own, until it has so many legs in all, or until a rule or a function holds at the end of one."""
-    first = min(leg + 1, legs) if callable(until) else legs
+    of its own, until it has so many legs in all (those of the other, if no number is given), or until a rule or a function
+    holds at the end of one. Without a folder it goes away with the object."""
+    whole = legs if legs is not None else len(begun)
+    first = min(leg + 1, whole) if callable(until) else whole
+    own: TemporaryDirectory[str] | None = TemporaryDirectory() if folder is None else None
+    place = Path(own.name) / "chain" if own is not None else Path(folder or "")
     with plain_names():
-        wanted = WantedChain(Path(folder), begun.folder.start, begun.folder.files, first, at=at, until=rule_of(until))
-        made(Origin.of(begun.folder.path).branch(str(leg), wanted), Progress(), Stop(), is_lasting=True)
-    return ended(Chain(folder), legs, until)
+        wanted = WantedChain(place, begun.folder.start, begun.folder.files, first, at=at, until=rule_of(until))
+        made(Origin.of(begun.folder.path).branch(str(leg), wanted), Progress(), Stop(), is_lasting=own is None)
+    return ended(Chain(place, room=own), whole, until)
 
 
 def rule_of(until: Until | None) -> str | None:

@@ -7,6 +7,7 @@ import numpy
 from lab.base.errors import LabError
 from lab.pictures.marks import marks_in
 
+from feast_lab import statistics
 from feast_lab.arrays import Array, extra
 from feast_lab.moments import Moment
 from feast_lab.pixels import colors_of
@@ -30,9 +31,13 @@ def plot(rows: Array, columns: str | Sequence[str], x: str = "aeps", axes: Any =
     return axes
 
 
-def plot_band(means: Array, x: str, axes: Any = None, **words: Any) -> Any:
-    """What `statistics.means` gives by a column x: the means as a line, and their intervals as a band about it."""
-    axes = plot(means, "mean", x, axes, **words)
+def plot_band(rows: Array, x: str, column: str = "mean", axes: Any = None, level: float = 0.95, **words: Any) -> Any:
+    """Means by a column x as a line, and their intervals as a band about it.
+
+    The rows are what `statistics.means` gives, or those of several runs, such as a sweep's, of which another column is named.
+    """
+    means = rows if column == "mean" else statistics.means(rows, column, by=x, level=level)
+    axes = plot(means, "mean", x, axes, **{"label": column, **words})
     axes.fill_between(means[x], means["low"], means["high"], color=axes.lines[-1].get_color(), alpha=0.25, linewidth=0)
     return axes
 

@@ -40,7 +40,8 @@ class Sweep:
 
     def __repr__(self) -> str:
         missing = self.missing
-        return f"<Sweep {self.folder.path}: {len(self):,} runs{f', {len(missing):,} of them missing' if missing else ''}>"
+        where = f"{self.folder.path}:" if self._room is None else "of"
+        return f"<Sweep {where} {len(self):,} runs{f', {len(missing):,} of them missing' if missing else ''}>"
 
     def __enter__(self) -> "Sweep":
         return self
