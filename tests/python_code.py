@@ -1,7 +1,8 @@
 #!/usr/bin/env python3
 """What a type checker and a linter find in the repository's Python: python_code.py [NAME..].
 
-mypy and flake8 are Debian's packages of these names (`apt-get install mypy flake8`). One that isn't there is left out.
+mypy and flake8 are Debian's packages of these names, and pytest, which has to find the tests of the lab, is python3-pytest
+(`apt-get install mypy flake8 python3-pytest`). One that isn't there is left out.
 Modules of several folders have one name, so mypy looks at one folder after another.
 """
 from __future__ import annotations
@@ -72,12 +73,21 @@ def checks(_: object) -> Iterator[Check]:
     for folder in [*packages, *TYPED]:
         yield Check(f"mypy/{folder}", partial(type_faults, folder))
     yield Check("flake8", lint_faults)
+    yield Check("pytest", collection_faults)
 
 
 def lint_faults() -> Optional[str]:
     """What flake8 finds."""
     scripts = [script for script in SCRIPTS if (TOP / script).is_file() and is_python(TOP / script)]
-    return said_by([program("flake8"), "tools", "tests", "bench", "editors", "examples", *scripts])
+    return said_by([program("flake8"), "tools", "tests", "bench", "editors", "examples", "setup.py", *scripts])
+
+
+def collection_faults() -> Optional[str]:
+    """What pytest says if it can't find all tests of the lab, each of which is tried by ./test too."""
+    for python in (sys.executable, "/usr/bin/python3"):
+        if subprocess.run([python, "-c", "import pytest"], capture_output=True, check=False).returncode == 0:
+            return said_by([python, "-B", "-m", "pytest", "-q", "--collect-only", "-p", "no:cacheprovider"])
+    raise unittest.SkipTest("pytest is not there: apt-get install python3-pytest")
 
 
 def is_python(path: Path) -> bool:
