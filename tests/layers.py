@@ -5,7 +5,7 @@ tools/lab/layers.txt has a line for each package of tools/lab, lowest first, wit
 which stand above it in the file. So no two packages use each other; the modules within a package don't either. Within the lab
 each import is relative. Only the package `command` reads words (argparse), only `ulam` imports the second reader (recheck), and no two
 classes of the lab have one name.
-tools/pyproject.toml has all packages.
+pyproject.toml has all packages.
 """
 from __future__ import annotations
 
@@ -104,9 +104,9 @@ def module_faults(modules: list[Module], packages: set[str]) -> Iterator[str]:
     yield from (f"the class {name} is in {' and in '.join(found)}" for name, found in homes.items() if len(found) > 1)
     yield from (f"tools/lab/{path.name}: it belongs in a package" for path in sorted(LAB.glob("*.py")) if path.stem != "__init__")
     wanted = {f"feast_lab.parts_of_the_lab.lab.{package}" for package in packages}
-    listed = tomllib.loads((TOP / "tools/pyproject.toml").read_text())["tool"]["setuptools"]["packages"]
+    listed = tomllib.loads((TOP / "pyproject.toml").read_text())["tool"]["setuptools"]["packages"]
     mine = {it for it in listed if it.startswith("feast_lab.parts_of_the_lab.lab.")}
-    yield from (f"tools/pyproject.toml: {it} is {'not among the packages' if it in wanted else 'no package'}" for it in sorted(wanted ^ mine))
+    yield from (f"pyproject.toml: {it} is {'not among the packages' if it in wanted else 'no package'}" for it in sorted(wanted ^ mine))
 
 
 def rings(modules: list[Module]) -> Iterator[str]:

@@ -31,6 +31,7 @@ FILES = {
     "CITATION.cff": "cff-version: 1.2.0\nversion: 0.4.0\n", "CONTRIBUTING.md": "x\n", "LICENSE-APACHE": "x\n",
     "LICENSE-MIT": "x\n", "SECURITY.md": "x\n", "VERSION": "0.4.0\n", "docs/page.md": "x\n", "editors/README.md": "x\n",
     "examples/walker.ulam": "element W { }\n", "lab": "#!/bin/sh\n", "tools/first_call/x.py": "", "tools/lab/x.py": "",
+    "pyproject.toml": "", "setup.py": "",
     "crates.txt": "feast:\n", "crates/feast/src/main.rt": "x\n", "HANDLES": "x\n",
     ".gitignore": "out/\n__pycache__/\n",
 }
@@ -337,7 +338,7 @@ class Real(Repository):
         self.assertEqual(told[1:], self.used("./feast", "--version").splitlines()[1:])
         self.assertEqual(told[2], "kit kit")
         tools = sorted(path.name for path in (self.made / "tools").iterdir())
-        self.assertEqual(tools, ["feast_lab", "help.txt", "lab", "proved", "pyproject.toml", "recheck", "work"])
+        self.assertEqual(tools, ["feast_lab", "help.txt", "lab", "proved", "recheck", "work"])
         self.used("./lab", "film", walk[0], "report", "-o", "walk.html", walk[1])
         self.assertIn("<html", (self.room / "work" / "walk.html").read_text())
 

@@ -10,7 +10,7 @@ from releasing.tree import ReleaseError, unpack
 # What users get of the commit. (The lab and the launcher use several folders of tools.)
 PATHS = [
     "README.md", "CHANGELOG.md", "CITATION.cff", "CONTRIBUTING.md", "LICENSE-APACHE", "LICENSE-MIT", "SECURITY.md",
-    "VERSION", "docs", "editors", "examples", "feast", "lab", "tools",
+    "VERSION", "docs", "editors", "examples", "feast", "lab", "pyproject.toml", "setup.py", "tools",
 ]
 # What of these is for those who make the program and its releases.
 MAKERS = ["tools/dist", "tools/first_call", "tools/pictures", "tools/proved/__main__.py", "tools/proved/dist.py", "tools/release",
