@@ -21,7 +21,6 @@ from rust_code import TOP, Code, Function, line_of, sources  # noqa: E402
 
 # For a crate and a function, how many further places there are, and why.
 REASONS = {
-    ("chain_run", "line_in_file"): (1, "no text in memory has lines whose numbers come to 2^64"),
     ("ulam_parse", "judge"): (1, "`first_deep` fails only as its list of brackets grows"),
     ("ulam_parse", "read"): (1, "`marks_of` fails only as its list of marks grows"),
 }
