@@ -15,7 +15,7 @@ from tree import files  # noqa: E402
 
 HERE = Path(__file__).resolve().parent
 # The scripts, with the most that they are to find.
-SCRIPTS = (("memory",), ("waits",), ("uses",), ("statements", "--most", "5"), ("readable", "--long", "5"),
+SCRIPTS = (("no_memory",), ("waits",), ("uses",), ("statements", "--most", "5"), ("readable", "--long", "5"),
            ("long", "--functions", "5", "--files", "10"), ("limits",), ("theorem",), ("layers",))
 
 

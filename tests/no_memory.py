@@ -1,5 +1,5 @@
 #!/usr/bin/env python3
-"""Tests that want of memory is never written by hand: memory.py [FILE..].
+"""Tests that want of memory is never written by hand: no_memory.py [FILE..].
 
 No contract can say that an allocation was refused, so a function may answer `NoMemory` for any other cause and
 still be proved. This looks at each place of crates/*/src that makes a `NoMemory`, or an `AllocError`, which turns
