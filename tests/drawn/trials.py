@@ -10,7 +10,7 @@ from pathlib import Path
 from typing import Optional, Union
 
 from breaks import broken_element, broken_lines
-from chains import chain_text
+from chain_texts import chain_text
 from chance import Chance
 from drawn_classes import element_files
 from edges import edge_text
