@@ -38,7 +38,7 @@ def moment(attempts: int) -> list[object]:
 
 def legs(seed: int) -> tuple[int, int]:
     """What consumers take in in so many short legs: all numbers, those of consumers that are gone included, and what the
-    tallies have at the end. The seeds are those of `./lab chain`."""
+    tallies have at the end. Legs take every second seed."""
     text, total, before = world("horde", attempts=LEG), 0, dict[int, int]()
     for leg in range(LEGS):
         found = report(changed(text, seed=seed + 2 * leg), elements("horde", "regulator"))

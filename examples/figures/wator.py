@@ -15,7 +15,7 @@ STEP, MOST = 20_000, 400_000
 
 
 def course(seed: int) -> list[Counter[str]]:
-    """The numbers of both kinds after each leg. The seeds are those of `./lab chain`."""
+    """The numbers of both kinds after each leg. Legs take every second seed."""
     text, counts = world("wator", attempts=LEG), []
     for leg in range(LEGS):
         found = report(changed(text, seed=seed + 2 * leg), elements("wator"))

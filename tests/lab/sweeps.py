@@ -4,6 +4,7 @@ import io
 import shutil
 from pathlib import Path
 
+import kept_chain
 from calls import EXAMPLES, LabCase, Word
 
 WORLD = """feast 1
@@ -20,8 +21,11 @@ HERE = Path(__file__).resolve().parent
 
 
 def contents(folder: Path) -> dict[str, bytes]:
-    """All files below a folder."""
-    return {str(path.relative_to(folder)): path.read_bytes() for path in folder.rglob("*") if path.is_file()}
+    """All files below a folder of sweeps. Reports are unpacked, since which are packed together is a matter of time."""
+    chains = [path.parent for path in folder.rglob("chain.json")]
+    found = {path: path.read_bytes() for path in folder.rglob("*") if path.is_file() and path.parent not in chains}
+    found |= {chain / name: data for chain in chains for name, data in kept_chain.contents(chain).items()}
+    return {str(path.relative_to(folder)): data for path, data in found.items()}
 
 
 class FolderCase(LabCase):

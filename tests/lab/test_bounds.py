@@ -40,8 +40,6 @@ class BoundCase(LabCase):
         self.world = self.file("small.world", WORLD)
         self.chain = self.room / "chain"
         self.passes("chain", self.chain, "--legs", "1", "--step", "--keep", "reports", self.world, ELEMENTS)
-        self.kept = self.chain / "0001.kept.gz"
-        self.text = gzip.decompress(self.kept.read_bytes()).decode()
 
     def held(self, *words: Word) -> tuple[int, str, int]:
         """The status of a call of the lab, what it says, and how many KB it held; it is over in a minute."""
@@ -60,34 +58,22 @@ class BoundCase(LabCase):
 
 
 class Kept(BoundCase):
-    """Reports that a chain keeps, which leave out what follows from the world."""
-
-    def bombs(self) -> Iterator[tuple[str, bytes]]:
-        """Names and bytes of kept reports that say more than their world can have."""
-        head, tile = self.text.partition("tile 0")[0], "tile 0 60 0\n1x60\n"
-        zeros, lines = (b"0" * (1 << 20), b"\n" * (1 << 20))
-        yield "many equal differences", (head + "tile 0 300000000 0\n1x300000000\n").encode()
-        yield "more than there is memory for", (head + "tile 0 99999999999 0\n1x99999999999\n").encode()
-        yield "hidden behind the right number", (head + "tile 0 60 0\n1x60 1x300000000\n").encode()
-        yield "hidden in many", (head + "tile 0 60 0\n" + " ".join(["1x9999999"] * 60) + "\n").encode()
-        yield "the same tile again and again", (head + tile * 100_000).encode()
-        yield "a tile that goes back", (head + "tile 0 62 -2\n1x62\n").encode()
-        yield "numbers without end", (head + f"tile 0 60 0\n{'9' * 4000}x60\n").encode()
-        yield "a number of atoms below 0", self.text.replace("atoms ", "atoms -", 1).encode()
-        yield "a long line", b"".join([head.encode(), *[zeros] * 140])
-        yield "many lines", b"".join([head.encode(), *[lines] * 20])
+    """Reports that a chain keeps, packed, with an index that says how long they are."""
 
     def test_bombs(self) -> None:
-        """By whatever verb they are read; the audit says `no`, as of a report that is damaged."""
-        for name, data in self.bombs():
-            self.kept.write_bytes(gzip.compress(data, 1, mtime=0))
-            self.assertLess(len(self.kept.read_bytes()), 1_000_000)
-            with self.subTest(name):
-                says = "it is too long for a report of its world" if len(data) > 100_000 else "it is damaged, or its world is another"
-                self.is_refused(f"lab: {self.kept}: {says}", "unpack", self.kept)
-        self.is_refused("too long for a report of its world", "events", self.kept)
-        status, said, _ = self.held("chain", "--audit", self.chain)
-        self.assertEqual((status, said), (1, ""))
+        """A pack that has more than the index says, and an index that says more than its world can have, by whatever verb."""
+        packs, index = self.chain / "legs.gz", self.chain / "legs.index"
+        size = index.read_text().split()[2]
+        data = packed(b"0" * (1 << 20) for _ in range(300))
+        packs.write_bytes(data)
+        for said, says in ((size, "legs.gz: it is damaged or cut short, at the legs from 1 to 1"), (300 << 20, "legs.index:1: no line of an index"),
+                           ("9" * 10, "legs.index:1: no line of an index"), ("9" * 40, "legs.index:1: no line of an index")):
+            index.write_text(f"1 {len(data)} {said}\n")
+            calls: list[list[Word]] = [["unpack", self.chain], ["chain", "--audit", self.chain], ["rates", self.chain],
+                                       ["atoms", self.chain], ["film", self.chain, "--csv"]]
+            for words in calls:
+                with self.subTest(f"{said} {words[0]}"):
+                    self.is_refused(says, *words)
 
     def test_all_that_a_world_has(self) -> None:
         """The longest report of a world is within its bound: a full plane, names of 255 letters, and a difference for each event."""
@@ -99,7 +85,7 @@ class Kept(BoundCase):
         for form in ((), ("--step",)):
             self.passes("chain", chain, "--legs", "1", "--keep", "reports", *form, world, elements)
             self.assertEqual(self.passes("chain", "--audit", chain), "yes\n")
-            self.passes("unpack", chain / "0001.kept.gz")
+            self.passes("unpack", chain, "--leg", "1", "--whole")
             subprocess.run(["rm", "-r", chain], check=True)
 
 
@@ -119,9 +105,6 @@ class Packed(BoundCase):
                 self.is_refused(says, "film", *words, "--csv", ELEMENTS)
         self.is_refused(says, "atoms", report, ELEMENTS)
         self.is_refused(says, "unpack", report)
-        self.kept.rename(self.chain / "gone")
-        report.rename(self.chain / "0001.report.gz")
-        self.is_refused("0001.report.gz: too long for a report", "chain", "--audit", self.chain)
 
     def test_plain(self) -> None:
         """A file that isn't packed has the same bound, and a device without an end is no report."""

@@ -5,16 +5,12 @@ import sys
 from pathlib import Path
 
 from calls import EXAMPLES, LabCase, Word, around, here
+from kept_chain import atoms, contents, packs_of, repack
 
 HERE = Path(__file__).resolve().parent
 WORLD = (EXAMPLES / "regulator-tiles.world").read_text().replace("attempts 40000", "attempts 300")
 CLEAR = "clear:0,0,16,8"
 SOUTH = "clear:0,8,16,8"
-
-
-def contents(folder: Path) -> dict[str, bytes]:
-    """All files below a folder."""
-    return {str(path.relative_to(folder)): path.read_bytes() for path in folder.rglob("*") if path.is_file()}
 
 
 class BranchCase(LabCase):
@@ -37,9 +33,9 @@ class Branches(BranchCase):
         self.passes("chain", "--from", self.old, "2", self.new, "--legs", "5", "--at", f"3:{SOUTH}")
         self.passes("chain", self.room / "whole", "--legs", "5", "--step", "--keep", "reports", "--at", f"2:{CLEAR}", "--at", f"3:{SOUTH}",
                     *self.inputs)
-        self.assertEqual(contents(self.new), contents(self.room / "whole"))
-        self.assertEqual(contents(self.old), before)
-        self.assertNotEqual(contents(self.new)["0003.atoms"], before["0003.atoms"])
+        self.assertTrue(contents(self.new) == contents(self.room / "whole"))
+        self.assertTrue(contents(self.old) == before)
+        self.assertNotEqual(atoms(self.new, 3), atoms(self.old, 3))
         self.assertEqual(self.passes("chain", "--audit", self.new), "yes\n")
 
     def test_going_on(self) -> None:
@@ -53,21 +49,21 @@ class Branches(BranchCase):
     def test_ends(self) -> None:
         """A branch from the start, and one from the last leg."""
         self.passes("chain", "--from", self.old, "0", self.new, "--legs", "2")
-        self.assertEqual((self.new / "0001.kept.gz").read_bytes(), (self.old / "0001.kept.gz").read_bytes())
-        self.assertNotEqual((self.new / "0002.atoms").read_bytes(), (self.old / "0002.atoms").read_bytes())
+        self.assertEqual(packs_of(self.new).report(1).data, packs_of(self.old).report(1).data)
+        self.assertNotEqual(atoms(self.new, 2), atoms(self.old, 2))
         self.passes("chain", "--from", self.old, "4", self.room / "last", "--legs", "4")
-        self.assertEqual(contents(self.room / "last"), contents(self.old))
+        self.assertTrue(contents(self.room / "last") == contents(self.old))
 
     def test_killed(self) -> None:
         """Whichever file a branch is stopped at, the same words come to the same chain."""
         words: list[Word] = ["chain", "--from", self.old, "2", self.new, "--legs", "3"]
         self.passes(*words)
         expected = contents(self.new)
-        for number in range(1, 40, 3):
+        for number in range(1, 30, 3):
             shutil.rmtree(self.new)
             subprocess.run([sys.executable, HERE / "dying.py", str(number), *words], capture_output=True, env=around(), check=False)
             self.passes(*words)
-            self.assertEqual(contents(self.new), expected, number)
+            self.assertTrue(contents(self.new) == expected, number)
 
     def test_refused(self) -> None:
         words: list[Word] = ["chain", "--from", self.old]
@@ -93,23 +89,19 @@ class LegAudits(BranchCase):
     def test_each(self) -> None:
         """A fault is found by the audit of a leg that it belongs to, and all legs are true only if the chain is."""
         self.assertEqual(self.verdicts(), ["yes\n"] * 5)
-        kept = contents(self.old)
-        for name, data, at in [
-            ("0000.atoms", kept["0001.atoms"], {0, 1}), ("0002.atoms", kept["0001.atoms"], {2, 3}), ("0004.atoms", kept["0001.atoms"], {4}),
-            ("0003.world", kept["0003.world"].replace(b"seed", b"#\nseed"), {3}), ("0002.kept.gz", kept["0001.kept.gz"], {2}),
-            ("start.world", kept["start.world"] + b"#", {0, 1, 2, 3, 4}),
-        ]:
-            self.assertNotEqual(data, kept[name])
-            (self.old / name).write_bytes(data)
+        reports = {leg: report.data for leg, report in packs_of(self.old).all()}
+        moved = reports[2].replace(b" 0000000", b" 0000001", 1)
+        for edits, at in [({2: moved}, {2, 3}), ({4: reports[1]}, {4}), ({3: reports[3].replace(b"abandoned", b"abandoned ", 1)}, {3})]:
+            repack(self.old, edits)
             faulty = {leg for leg, verdict in enumerate(self.verdicts()) if verdict != "yes\n"}
-            self.assertEqual(faulty, at, name)
+            self.assertEqual(faulty, at, edits.keys())
             self.assertEqual(here("chain", "--audit", self.old).status, 1)
-            (self.old / name).write_bytes(kept[name])
+            repack(self.old, reports)
+        self.assertEqual(self.verdicts(), ["yes\n"] * 5)
 
     def test_refused(self) -> None:
         self.refused("old: the chain has the legs 0 to 4, and no leg 5", "chain", "--audit", self.old, "--leg", "5")
         self.refused("old: the chain has the legs 0 to 4, and no leg -1", "chain", "--audit", self.old, "--leg", "-1")
         self.refused("--leg 1: it belongs to --audit DIR", "chain", self.new, "--legs", "2", "--leg", "1", *self.inputs)
-        (self.old / "0002.kept.gz").unlink()
-        self.refused("0002.kept.gz: can't be read", "chain", "--audit", self.old, "--leg", "2")
-        self.assertEqual(self.passes("chain", "--audit", self.old, "--leg", "3"), "yes\n")
+        (self.old / "legs.gz").unlink()
+        self.refused("legs.gz: can't be read", "chain", "--audit", self.old, "--leg", "2")

@@ -1,16 +1,16 @@
-"""Chains: what their legs are, how they go on after a kill, and what their audit finds."""
+"""Chains: what their legs are, how they go on after a kill, and what is refused."""
 import csv
 import fcntl
-import gzip
+import json
 import os
 import shutil
 import signal
 import subprocess
 import sys
-from collections.abc import Iterator
 from pathlib import Path
 
-from calls import EXAMPLES, LabCase, Word, around, feast, here, lab, program
+from calls import EXAMPLES, LabCase, Word, around, feast, lab, program
+from kept_chain import atoms, begins, contents, packs_of, repack, told
 
 WORLD = """feast 1
 # a chain begins here
@@ -40,25 +40,9 @@ element Resource { EventWindow ew; Void behave() { if (ew.isEmpty(4)) ew.swap(0,
 HERE = Path(__file__).resolve().parent
 
 
-def contents(folder: Path) -> dict[str, bytes]:
-    """All files below a folder."""
-    return {str(path.relative_to(folder)): path.read_bytes() for path in folder.rglob("*") if path.is_file()}
-
-
 def lines_of(path: Path) -> list[str]:
     """The lines of a file."""
     return path.read_text().splitlines()
-
-
-def damaged(short: bytes) -> Iterator[bytes]:
-    """A kept report with a fault in each of its parts."""
-    lines = short.split(b"\n")
-    for number, line in enumerate(lines[:-1]):
-        if number in (1, 2, 3) or line.startswith(b"tile ") or lines[number - 1].startswith(b"tile 1"):
-            yield b"\n".join([*lines[:number], line[:-1] + (b"1" if line[-1:] != b"1" else b"2"), *lines[number + 1:]])
-            yield b"\n".join([*lines[:number], *lines[number + 1:]])
-    yield short[:len(short) // 2]
-    yield short + b"tile 9 0 0\n\n"
 
 
 class ChainCase(LabCase):
@@ -89,12 +73,12 @@ class Legs(ChainCase):
         rows = self.rows()
         self.assertEqual([row["leg"] for row in rows], [str(leg) for leg in range(11)])
         events = 0
-        before = lines_of(self.chain / "0000.atoms")[2:]
+        before = atoms(self.chain, 0)
         self.assertEqual(sorted(before), sorted(f"{line[5:]} {'0' * 18}" for line in WORLD.splitlines() if line[:4] == "atom"))
         for leg, row in enumerate(rows[1:], 1):
-            world = lines_of(self.chain / f"{leg:04}.world")
-            report = self.passes("unpack", self.chain / f"{leg:04}.kept.gz").splitlines()
-            seed = 3 + 5 * (leg - 1)
+            world = told(self.chain, leg, "world").splitlines()
+            report = told(self.chain, leg, "whole").splitlines()
+            seed = 3 + 6 * (leg - 1)
             self.assertEqual(world[:5], ["feast 1", "tiles 2 2", "size 8 8", f"seed {seed}", "attempts 500"])
             self.assertEqual([line[5:] for line in world[5:-1]], before)
             self.assertEqual(world[-1], f"order seed {seed + 4}")
@@ -107,32 +91,61 @@ class Legs(ChainCase):
             self.assertEqual(row["aeps"], f"{events / 256:.4f}")
             self.assertEqual((row["Regulator"], row["Resource"]), (str(sum("Regulator" in line for line in before)),
                                                                    str(sum("Resource" in line for line in before))))
-            self.assertEqual(lines_of(self.chain / f"{leg:04}.atoms"), ["feast 1", f"atoms {len(before)}", *before])
-            self.assertEqual("\n".join(report) + "\n", feast("step", self.chain / f"{leg:04}.world", self.elements))
+            self.assertEqual(atoms(self.chain, leg), before)
+            alone = self.file("leg.world", told(self.chain, leg, "world"))
+            self.assertEqual("\n".join(report) + "\n", feast("step", alone, self.elements))
         self.assertGreater(events, 4000)
         self.assertEqual(self.passes("chain", "--audit", self.chain), "yes\n")
 
+    def test_the_programs_own(self) -> None:
+        """What a chain keeps is the report of one chain file, which the program audits; gzip alone unpacks it."""
+        self.passes(*self.words(5, "--step", "--keep", "reports", "--at", "3:clear:0,0,8,8", "--noise", "0.25"))
+        chain = self.file("chain.text", self.passes("unpack", self.chain, "--chain"))
+        report = self.file("report", self.passes("unpack", self.chain))
+        self.assertEqual(feast("audit", chain, report, self.elements), "yes\n")
+        self.assertEqual(report.read_text(), feast("step", chain, self.elements))
+        gunzip = subprocess.run(["gzip", "-dc", self.chain / "legs.gz"], stdout=subprocess.PIPE, check=True)
+        self.assertEqual(gunzip.stdout, report.read_bytes())
+        self.assertIn("every 1 flip 0.25 0 0 16 16\nact 3 clear 0 0 8 8\n", chain.read_text())
+
     def test_threads(self) -> None:
         """A chain on threads has no order, and its reports audit too."""
-        told = self.passes(*self.words(4, "--keep", "reports", "--seed", "18446744073709551613"))
-        worlds = [lines_of(self.chain / f"{leg:04}.world") for leg in range(1, 5)]
-        self.assertEqual([world[3] for world in worlds], ["seed 18446744073709551613", "seed 2", "seed 7", "seed 12"])
+        said = self.passes(*self.words(4, "--keep", "reports", "--seed", "18446744073709551613"))
+        worlds = [told(self.chain, leg, "world").splitlines() for leg in range(1, 5)]
+        self.assertEqual([world[3] for world in worlds], ["seed 18446744073709551613", "seed 3", "seed 9", "seed 15"])
         self.assertFalse(any("order" in line for world in worlds for line in world))
         self.assertEqual(self.passes("chain", "--audit", self.chain), "yes\n")
         events = sum(int(row["events"]) for row in self.rows())
-        self.assertEqual(told, f"{self.chain}: 4 legs, {events} events, {events / 256:.4f} a site\n")
+        self.assertEqual(said, f"{self.chain}: 4 legs, {events} events, {events / 256:.4f} a site\n")
 
     def test_no_reports(self) -> None:
         """Without --keep reports the rest is the same, and there is nothing to audit."""
         self.passes(*self.words(3, "--step", "--keep", "reports"))
-        kept = contents(self.chain)
+        kept, left = contents(self.chain), [atoms(self.chain, leg) for leg in range(4)]
         shutil.rmtree(self.chain)
         self.passes(*self.words(3, "--step"))
         bare = contents(self.chain)
-        self.assertEqual({name for name in kept if name.endswith(".gz")}, kept.keys() - bare.keys())
-        for name in bare.keys() - {"chain.json"}:
+        self.assertEqual(kept.keys(), bare.keys())
+        for name in bare.keys() - {"chain.json", "legs.gz"}:
             self.assertEqual(kept[name], bare[name])
+        self.assertEqual([atoms(self.chain, leg) for leg in range(4)], left)
         self.refused("can't be audited: it was begun without --keep reports", "chain", "--audit", self.chain)
+        self.refused("the chain keeps no reports", "unpack", self.chain)
+
+    def test_atoms_of_some(self) -> None:
+        """With --atoms N the atoms of each N-th leg are kept, and those of the last, with which the chain goes on."""
+        self.passes(*self.words(8, "--step"))
+        left, course = [atoms(self.chain, leg) for leg in range(9)], (self.chain / "course.csv").read_bytes()
+        shutil.rmtree(self.chain)
+        for legs in (1, 4, 5, 8):
+            self.passes(*self.words(legs, "--step", "--atoms", "3"))
+            self.assertEqual(atoms(self.chain, legs), left[legs])
+            self.assertEqual([path.name for path in sorted(self.chain.glob("*.atoms"))], ["0000.atoms", f"{legs:04}.atoms"])
+        self.assertEqual([atoms(self.chain, leg) for leg in (3, 6)], [left[3], left[6]])
+        self.assertEqual((self.chain / "course.csv").read_bytes(), course)
+        self.refused("the atoms of leg 4 aren't kept", "unpack", self.chain, "--leg", "4", "--atoms")
+        self.refused("begun with --atoms 3, not 1", *self.words(9, "--step"))
+        self.refused("--atoms 0: it has to be at least 1", *self.words(9, "--step", "--atoms", "0"))
 
     def test_damage(self) -> None:
         """Before leg 3 exactly the atoms of the rectangles are cleared."""
@@ -143,8 +156,7 @@ class Legs(ChainCase):
                     "--at", "3:clear:10,2,1,3", "--at", "9:clear:0,0,16,16", world, EXAMPLES / "stone.ulam")
         left = [(x, y) for x, y in sites if not (1 <= x < 9 and y < 15 or x == 10 and 2 <= y < 5)]
         for leg, expected in [(2, sites), (3, left), (4, left)]:
-            atoms = [line.split()[1:3] for line in lines_of(self.chain / f"{leg:04}.world") if line.startswith("atom ")]
-            self.assertEqual([(int(x), int(y)) for x, y in atoms], expected)
+            self.assertEqual([tuple(map(int, line.split()[:2])) for line in begins(self.chain, leg)], expected)
         self.assertEqual([row["Stone"] for row in self.rows()], ["256", "256", "256", str(len(left)), str(len(left))])
         self.assertEqual(self.passes("chain", "--audit", self.chain), "yes\n")
 
@@ -171,32 +183,36 @@ class GoingOn(ChainCase):
         """Legs in the midst of which the lab is killed are made again, and the end is the same."""
         options = ["--step", "--keep", "reports", "--at", "2:clear:0,0,8,8"]
         expected = self.whole(6, *options)
-        for leg, number in [(2, signal.SIGKILL), (4, signal.SIGTERM), (5, signal.SIGINT)]:
-            kill = f"case $* in step*/{leg:04}.world*) kill -{int(number)} $PPID; sleep 0.2 ;; esac"
-            killing = self.file("killing", f"#!/bin/sh\n{kill}\nexec {program()} \"$@\"\n")
+        for legs, number in [(2, signal.SIGKILL), (4, signal.SIGTERM), (5, signal.SIGINT)]:
+            # the program writes some legs and hangs; when these are on record, the lab is ended
+            kill = f"sed 's/^legs .*/legs '$(({legs} - $done))/ $2 >{self.room}/part; {program()} step {self.room}/part $3\n" \
+                   f"while test $(wc -l <{self.chain}/legs.index) = $before; do sleep 0.02; done; kill -{int(number)} $PPID; sleep 5; exit 1"
+            begin = f"before=$(wc -l <{self.chain}/legs.index)\ndone=$(tail -n 1 {self.chain}/legs.index | cut -d ' ' -f 1)\ndone=${{done:-0}}"
+            killing = self.file("killing", f"#!/bin/sh\ncase $1 in step)\n{begin}\n{kill} ;; esac\nexec {program()} \"$@\"\n")
             killing.chmod(0o755)
             done = lab(*self.words(6, *options), instead=killing)
-            self.assertEqual(done.returncode, -9 if number == signal.SIGKILL else 128 + number)
-            self.assertEqual(len(self.rows()), leg)
+            self.assertEqual(done.returncode, -9 if number == signal.SIGKILL else 128 + number, done.stderr)
+            self.assertIn(packs_of(self.chain).done, range(1, legs + 1))
         self.passes(*self.words(6, *options))
-        self.assertEqual(contents(self.chain), expected)
+        self.assertTrue(contents(self.chain) == expected)
 
     def test_killed_at_each_file(self) -> None:
-        """Whichever file is not in its place yet when the lab is killed, the end is the same."""
-        options = ["--step", "--keep", "reports"]
-        expected = self.whole(2, *options)
-        # the manifest is put in two places, and for each leg the course once more, and the report before it is packed
-        files = len(expected) + 5
-        for number in range(1, files + 1):
+        """Whichever file is not written yet when the lab is killed, or half, the end is the same."""
+        for options in (["--step", "--keep", "reports"], ["--step", "--atoms", "2"]):
             shutil.rmtree(self.chain, ignore_errors=True)
-            dying: list[Word] = [sys.executable, HERE / "dying.py", str(number), *self.words(2, *options)]
-            killed = subprocess.run(dying, capture_output=True, env=around(), timeout=300, check=False)
-            self.assertEqual(killed.returncode, -signal.SIGKILL, number)
-            self.passes(*self.words(2, *options))
-            self.assertEqual(contents(self.chain), expected, number)
-        done = subprocess.run([sys.executable, HERE / "dying.py", str(files + 1), *self.words(2, *options)],
-                              capture_output=True, env=around(), timeout=300, check=False)
-        self.assertEqual(done.returncode, 0)
+            expected = self.whole(2, *options)
+            number = 0
+            while True:
+                number += 1
+                shutil.rmtree(self.chain, ignore_errors=True)
+                dying: list[Word] = [sys.executable, HERE / "dying.py", str(number), *self.words(2, *options)]
+                killed = subprocess.run(dying, capture_output=True, env=around(), timeout=300, check=False)
+                if killed.returncode == 0:
+                    break
+                self.assertEqual(killed.returncode, -signal.SIGKILL, number)
+                self.passes(*self.words(2, *options))
+                self.assertTrue(contents(self.chain) == expected, number)
+            self.assertGreater(number, 12)
 
     def test_begun_anew_with_other_elements(self) -> None:
         """A beginning that was killed leaves nothing behind that a later one takes for its own."""
@@ -213,7 +229,7 @@ class GoingOn(ChainCase):
         for legs, are in [(1, 1), (3, 3), (2, 3), (4, 4)]:
             self.passes(*self.words(legs, "--step"))
             self.assertEqual(len(self.rows()) - 1, are)
-        self.assertEqual(contents(self.chain), expected)
+        self.assertTrue(contents(self.chain) == expected)
 
     def test_own_copies(self) -> None:
         """The legs are run with the chain's own copies, whatever becomes of the files in the midst."""
@@ -222,7 +238,7 @@ class GoingOn(ChainCase):
         self.assertEqual((self.chain / "start.world").read_bytes(), self.world.read_bytes())
         renamed = self.file("renamed.ulam", ELEMENTS)
         self.passes("chain", self.chain, "--legs", "3", "--step", self.world, renamed)
-        self.assertEqual(contents(self.chain), expected)
+        self.assertTrue(contents(self.chain) == expected)
 
 
 class Refused(ChainCase):
@@ -241,13 +257,13 @@ class Refused(ChainCase):
 
     def test_damaged_folder(self) -> None:
         self.passes(*self.words(2, "--step"))
-        kept = contents(self.chain)
+        kept = {str(path.relative_to(self.chain)): path.read_bytes() for path in self.chain.rglob("*") if path.is_file()}
         for name, old, new, says in [
             ("course.csv", "leg,", "log,", "course.csv:1: its columns"),
             ("course.csv", "\n1,", "\n2,", "course.csv:3: the row of leg 1"),
             ("course.csv", "\n1,2000,", "\n1,x,", "course.csv:3: no row"),
             ("course.csv", "0.0000", "0.0001", "course.csv: not as the lab wrote it"),
-            ("0002.atoms", "Regulator", "Resource", "0002.atoms: it has other atoms than course.csv says"),
+            ("legs.index", "1 ", "x ", "legs.index:1: no line of an index"),
             ("start.world", "seed", "#\nseed", "start.world: not as it was"),
             ("elements/00-regulator.ulam", "40", "50", "00-regulator.ulam: not as it was"),
             ("chain.json", "\"step\"", "\"stop\"", "chain.json: no manifest"),
@@ -258,15 +274,32 @@ class Refused(ChainCase):
             path.write_bytes(kept[name].replace(old.encode(), new.encode(), 1))
             self.refused(says, *self.words(3, "--step"))
             path.write_bytes(kept[name])
-        (self.chain / "0002.atoms").unlink()
-        self.refused("0002.atoms: can't be read: no such file", *self.words(3, "--step"))
+        repack(self.chain, {2: packs_of(self.chain).report(2).data.replace(b"Regulator", b"Resource", 1)})
+        self.refused("chain: leg 2 left other atoms than course.csv says", *self.words(3, "--step"))
+        (self.chain / "legs.gz").unlink()
+        self.refused("legs.gz: can't be read: no such file", *self.words(3, "--step"))
         self.file("chain/elements/01-more.ulam", "")
         self.refused("elements: not as it was", *self.words(3, "--step"))
         shutil.rmtree(self.chain / "elements")
         self.refused("elements: can't be read: no such file", *self.words(3, "--step"))
 
+    def test_older_form(self) -> None:
+        """A folder of an older lab is refused in a line that says what to do."""
+        self.passes(*self.words(1, "--step"))
+        manifest = json.loads((self.chain / "chain.json").read_text())
+        del manifest["form"], manifest["atoms"]
+        self.file("chain/chain.json", json.dumps(manifest, indent=2) + "\n")
+        calls: list[list[Word]] = [[*self.words(2, "--step")], ["chain", "--audit", self.chain], ["film", self.chain, "--csv"],
+                                   ["live", self.chain]]
+        for words in calls:
+            self.refused("chain.json: the chain has the form 'feast chain 1', which this lab doesn't read: it makes and reads the form "
+                         "'feast chain 2'; make the chain again, in another folder", *words)
+
     def test_words(self) -> None:
         self.refused("--legs 0: a chain has at least one leg", *self.words(0))
+        self.refused("--legs 4294967296: a chain has at least one leg, and at most 4,294,967,295", *self.words(1 << 32))
+        self.refused("--jobs 2: it belongs to --audit DIR", *self.words(1, "--jobs", "2"))
+        self.refused("--jobs 0: it has to be at least 1", "chain", "--audit", self.chain, "--jobs", "0")
         self.refused("--seed -1: a seed is from 0", *self.words(1, "--seed", "-1"))
         self.refused("invalid int value: 'two'", "chain", self.chain, "--legs", "two", self.world, ELEMENTS)
         self.refused("required: FILE", "chain", self.chain, "--legs", "2", self.world)
@@ -299,98 +332,3 @@ class Refused(ChainCase):
         self.addCleanup(os.close, handle)
         fcntl.flock(handle, fcntl.LOCK_EX)
         self.refused("another call of the lab is at work on this chain", *self.words(2))
-
-
-class Audits(ChainCase):
-    """What the audit of a chain finds."""
-
-    def test_faults(self) -> None:
-        self.passes(*self.words(3, "--step", "--keep", "reports", "--at", "3:clear:0,0,8,8"))
-        kept = contents(self.chain)
-        self.assertEqual({name for name in kept if "gz" in name}, {f"{leg:04}.kept.gz" for leg in (1, 2, 3)})
-        short = gzip.decompress(kept["0002.kept.gz"])
-        report = self.passes("unpack", self.chain / "0002.kept.gz").encode()
-        front, _, back = report.partition(b"journal ")
-        record = back.splitlines()[1]
-        other = report.replace(record, record[:-1] + (b"1" if record[-1:] != b"1" else b"2"), 1)
-        moved = kept["0003.world"].replace(b"atom ", b"atom 0 0 Regulator\natom ", 1)
-        for name, data, says in [
-            ("0002.report", other, "no leg 2: the audit of its report: "),
-            ("0002.report.gz", gzip.compress(other), "no leg 2: the audit of its report: "),
-            ("0002.report.gz", gzip.compress(front.replace(b" 000000", b" 000001", 1) + b"journal " + back),
-             "no leg 2: the audit of its report: no atoms"),
-            ("0002.report.gz", gzip.compress(self.passes("unpack", self.chain / "0001.kept.gz").encode()),
-             "no leg 2: the audit of its report: "),
-            *(("0002.kept.gz", gzip.compress(text), "no leg 2: ") for text in damaged(short)),
-            ("0002.kept.gz", kept["0001.kept.gz"], "no leg 2: "),
-            ("0003.world", moved, "no leg 3: its world does not begin with what leg 2 left"),
-            ("0002.world", kept["0002.world"].replace(b"seed 8", b"seed 9"), "no leg 2: its world"),
-            ("0001.atoms", kept["0001.atoms"] + b"#", "no leg 1: 0001.atoms has other atoms"),
-            ("0000.atoms", kept["0001.atoms"], "no leg 0: 0000.atoms has other atoms"),
-            ("start.world", kept["start.world"] + b"#", "no start: start.world is not as it was"),
-            ("elements/00-regulator.ulam", ELEMENTS.encode() + b" ", "no start: 00-regulator.ulam is not as it was"),
-            ("course.csv", kept["course.csv"].replace(b"\n1,2000,", b"\n1,2001,"), "no leg 1: its row in the course"),
-        ]:
-            self.assertNotEqual(kept.get(name), data, name)
-            if "report" in name:
-                (self.chain / "0002.kept.gz").unlink()
-            (self.chain / name).write_bytes(data)
-            done = here("chain", "--audit", self.chain)
-            self.assertEqual((done.status, done.said), (1, ""), name)
-            self.assertEqual(done.wrote.count("\n"), 1)
-            self.assertTrue(done.wrote.startswith(says), done.wrote)
-            if "report" in name:
-                (self.chain / name).unlink()
-                name = "0002.kept.gz"
-            (self.chain / name).write_bytes(kept[name])
-        self.assertEqual(self.passes("chain", "--audit", self.chain), "yes\n")
-
-    def test_forms_of_reports(self) -> None:
-        """A report may be kept in short, packed as a whole, or not packed at all; a chain that goes on packs it."""
-        options = ["--step", "--keep", "reports"]
-        self.passes(*self.words(3, *options))
-        kept = contents(self.chain)
-        whole = self.passes("unpack", self.chain / "0002.kept.gz").encode()
-        self.assertLess(5 * len(kept["0002.kept.gz"]), len(gzip.compress(whole)))
-        for name, data in (("0002.report.gz", gzip.compress(whole)), ("0002.report", whole)):
-            (self.chain / "0002.kept.gz").unlink()
-            (self.chain / name).write_bytes(data)
-            self.assertEqual(self.passes("chain", "--audit", self.chain), "yes\n")
-            self.passes("film", self.chain, "--frames", "3", "-o", self.room / "film.html")
-            self.passes(*self.words(3, *options))
-            now = contents(self.chain)
-            if name == "0002.report":
-                self.assertEqual(now, kept)
-            else:
-                self.assertEqual(now.pop(name), data)
-                self.assertEqual(now, {it: kept[it] for it in kept if it != "0002.kept.gz"})
-                (self.chain / name).unlink()
-                (self.chain / "0002.kept.gz").write_bytes(kept["0002.kept.gz"])
-
-    def test_report_of_another_program(self) -> None:
-        """Of a report with other seeds than the world draws the audit says no, and one of no form is kept as it is."""
-        for edit, name, says in (
-            ("s/^\\(1 [0-9] [0-9]* [0-9]* [0-9]*\\) [0-9a-f]\\{16\\}$/\\1 00000000000000ff/", "0001.kept.gz", "no leg 1: "),
-            ("s/^\\([0-9]*\\) [0-9]* \\(.* [0-9a-f]\\{16\\}\\)$/\\1 9 \\2/", "0001.report.gz", "no leg 1: the audit of its report: "),
-        ):
-            other = self.file("other", f"#!/bin/sh\ncase $1 in step) {program()} \"$@\" | sed '{edit}';; *) exec {program()} \"$@\";; esac\n")
-            other.chmod(0o755)
-            done = lab(*self.words(1, "--step", "--keep", "reports"), instead=other)
-            self.assertEqual(done.returncode, 0, done.stderr)
-            self.assertTrue((self.chain / name).exists(), sorted(contents(self.chain)))
-            done = lab("chain", "--audit", self.chain)
-            self.assertEqual((done.returncode, done.stdout[:len(says)]), (1, says))
-            shutil.rmtree(self.chain)
-
-    def test_missing_report(self) -> None:
-        self.passes(*self.words(2, "--step", "--keep", "reports"))
-        (self.chain / "0002.kept.gz").unlink()
-        self.refused("0002.kept.gz: can't be read: no such file", "chain", "--audit", self.chain)
-        for name in ("0002.report.gz", "0002.kept.gz"):
-            (self.chain / name).write_bytes(b"\x1f\x8bnothing")
-            self.refused(f"{name}: ", "chain", "--audit", self.chain)
-        (self.chain / "0002.kept.gz").unlink()
-        (self.chain / "0002.report.gz").write_bytes(b"something else")
-        done = here("chain", "--audit", self.chain)
-        self.assertEqual((done.status, done.said), (1, ""))
-        self.assertIn("no leg 2: the audit of its report: ", done.wrote)

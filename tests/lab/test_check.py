@@ -73,6 +73,18 @@ class Check(LabCase):
                 self.assertEqual(rest[-2:], [f"usual cause: {code.cause}", f"more: ./lab explain {code.code}"])
                 self.assertIn("| ^", done.wrote)
 
+    def test_chains(self) -> None:
+        """A chain is read with its elements too: one without a fault is accepted, and a name is told with the one meant."""
+        lines = ["chain 1", "tiles 2 1", "size 8 8", "seed 1", "attempts 10", "legs 3", "act 2 put 0 0 4 4 Wolker", "atom 3 4 Walker", ""]
+        walker = EXAMPLES / "walker.ulam"
+        chain = self.file("c", "\n".join(lines))
+        done = here("check", chain, walker)
+        self.assertEqual((done.status, done.wrote.splitlines()[0]), (2, f"{chain}:7:1: E73 unknown element"))
+        self.assertIn("did you mean `Walker`?", done.wrote)
+        chain.write_text("\n".join(lines).replace("Wolker", "Walker"))
+        done = here("check", chain, walker)
+        self.assertEqual((done.status, done.wrote), (0, "accepted\n"))
+
     def test_reports(self) -> None:
         """So is each refusal of a report."""
         world, walker, lines = self.small_report()

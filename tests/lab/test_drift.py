@@ -10,6 +10,7 @@ from unittest import TestCase
 
 import films
 from calls import EXAMPLES, LabCase, feast, here
+from kept_chain import repack, told
 
 from lab.command.main import main
 from lab.formats.world import World
@@ -44,6 +45,15 @@ def at_each_moment(planned: Sequence[int], tiles: Sequence[int]) -> list[Fractio
         least = min((ages[it] for it in total if made[it] < total[it]), default=Fraction(1))
         ahead = [max(most, ages.get(it, least) - least) for it, most in enumerate(ahead)]
     return ahead
+
+
+def in_short(report: str) -> bytes:
+    """The short report of a leg, from the whole one."""
+    lines = ["feast 2"]
+    for line in report.splitlines()[1:]:
+        fields = line.split(" ")
+        lines.append(" ".join(fields[:3]) if len(fields) == 6 else " ".join(fields[:2] + fields[4:]) if len(fields) == 7 else line)
+    return "".join(f"{line}\n" for line in lines).encode()
 
 
 class Drifts(TestCase):
@@ -88,8 +98,8 @@ class Runs(LabCase):
         self.passes("chain", chain, "--legs", "2", "--step", "--keep", "reports", "--at", "2:attempts:60", world, EXAMPLES / "stone.ulam")
         found = []
         for leg, weight in ((1, Fraction(1, 4)), (2, Fraction(3, 4))):
-            path = chain / f"{leg:04}.world"
-            found.append([ahead * weight for ahead in self.ahead(path, [self.passes("unpack", chain / f"{leg:04}.kept.gz")])])
+            path = self.file("leg", told(chain, leg, "world"))
+            found.append([ahead * weight for ahead in self.ahead(path, [told(chain, leg, "whole")])])
         rows = csv.DictReader(io.StringIO(self.passes("rates", chain, "--by", "tile")))
         self.assertEqual([row["drift"] for row in rows], [f"{float(max(column)):.4f}" for column in zip(*found, strict=True)])
 
@@ -138,8 +148,8 @@ class Runs(LabCase):
         self.passes("chain", chain, "--legs", "3", *words, "--drift", world, file)
         rows = list(csv.DictReader(io.StringIO((chain / "course.csv").read_text())))
         self.assertEqual(list(rows[0]), ["leg", "attempts", "events", "abandoned", "aeps", "drift", "Stone"])
-        reports = [self.passes("unpack", chain / f"{leg:04}.kept.gz") for leg in (1, 2, 3)]
-        ahead = [float(max(self.ahead(chain / f"{leg:04}.world", [report]))) for leg, report in enumerate(reports, 1)]
+        reports = [told(chain, leg, "whole") for leg in (1, 2, 3)]
+        ahead = [float(max(self.ahead(self.file("leg", told(chain, leg, "world")), [report]))) for leg, report in enumerate(reports, 1)]
         self.assertEqual([row["drift"] for row in rows], ["0.0000", *(f"{it:.4f}" for it in ahead)])
         self.assertEqual(len(set(ahead)), 3)
         self.passes("chain", later, "--legs", "2", *words, world, file)
@@ -170,11 +180,12 @@ class Runs(LabCase):
         for legs, apart in ((2, True), (11, False)):
             chain = self.room / str(legs)
             self.passes("chain", chain, "--legs", str(legs), "--keep", "reports", world, file)
-            reports = [feast("step", chain / f"{leg:04}.world", file) for leg in range(1, legs + 1)]
+            # all attempts of tile 0 are made before those of tile 1
+            worlds = [told(chain, leg, "world").partition("order")[0] for leg in range(1, legs + 1)]
+            reports = [feast("step", self.file("leg", world), file) for world in worlds]
+            repack(chain, {leg: in_short(report) for leg, report in enumerate(reports, 1)})
             course = (chain / "course.csv").read_text().splitlines()
-            for leg, report in enumerate(reports, 1):  # all attempts of tile 0 are made before those of tile 1
-                (chain / f"{leg:04}.kept.gz").unlink()
-                (chain / f"{leg:04}.report").write_text(report)
+            for leg, report in enumerate(reports, 1):
                 events = report.split("\njournal ")[1].split()[0]
                 course[leg + 1] = f"{leg},400,{events},{400 - int(events)},{0:.4f},1"
             total = 0

@@ -2,13 +2,18 @@
 import csv
 import io
 import random
+import sys
+from concurrent.futures import ThreadPoolExecutor
 from pathlib import Path
 
 from again import Tally, example_runs, shortened
 from calls import LabCase, Word, feast, here, lab, program
+from kept_chain import told
 from drawn_elements import Drawer, world
 
 from lab.base.program import Program
+from lab.chain.audit import AuditedChain
+from lab.chain.folder import Folder
 from lab.machine.code import element_codes
 
 DRAWN_FILES = 100  # of two elements each
@@ -122,9 +127,9 @@ class Failures(LabCase):
         found = [(row["event"], row["x"], row["y"]) for row in self.rows(folder, "--list")]
         expected = []
         for leg in (1, 2, 3):
-            packed = folder / f"{leg:04}.kept.gz"
+            world, whole = (self.file(form, told(folder, leg, form)) for form in ("world", "whole"))
             expected += [(str(int(row["event"]) + 100 * (leg - 1)), row["x"], row["y"])
-                         for row in self.rows(folder / f"{leg:04}.world", packed, file, "--list")]
+                         for row in self.rows(world, whole, file, "--list")]
         self.assertEqual(found, expected)
         events = [int(event) for event, _, _ in found]
         self.assertIn(100, events)  # the last of the first leg
@@ -135,7 +140,7 @@ class Failures(LabCase):
         self.assertEqual([row[4] for row in with_failed],
                          ["failed", "0", *(str(sum(100 * leg < event <= 100 * leg + 100 for event in events))
                                            for leg in range(3))])
-        self.refused("--course takes the folder of a chain", "failures", start, folder / "0001.kept.gz", file, "--course")
+        self.refused("--course takes the folder of a chain", "failures", start, self.room / "whole", file, "--course")
         bare = self.room / "bare"
         self.passes("chain", bare, "--legs", "1", start, file)
         self.refused("the chain keeps no reports", "failures", bare)
@@ -158,6 +163,20 @@ class Failures(LabCase):
         course.write_text(text.replace(",".join(row), ",".join([*row[:4], str(int(row[4]) + 1), *row[5:]])))
         done = here("chain", "--audit", folder)
         self.assertEqual((done.status, done.wrote), (1, "no leg 1: its row in the course is another\n"))
+
+    def test_threads(self) -> None:
+        """An audit looks for failed events in one leg at a time, whatever parts are audited side by side."""
+        file = self.file("bad.ulam", source("if (random.oneIn(3)) ew.swap(0, 41);", ""))
+        atoms = "".join(f"atom {x} {y} Bad\n" for y in range(8) for x in range(8))
+        start, folder = self.file("w", f"feast 1\ntiles 1 1\nsize 8 8\nseed 5\nattempts 100\n{atoms}"), self.room / "chain"
+        self.passes("chain", folder, "--legs", "12", "--keep", "reports", "--failures", start, file)
+        chain = AuditedChain.of(Program(program()), Folder(folder))
+        parts = [chain.part(leg, leg) for leg in range(1, 13)]
+        was = sys.getswitchinterval()
+        self.addCleanup(sys.setswitchinterval, was)
+        sys.setswitchinterval(1e-5)
+        with ThreadPoolExecutor(4) as pool:
+            self.assertEqual(list(pool.map(chain.fault_of, parts)), [None] * 12)
 
     def test_bad_input(self) -> None:
         """Files that aren't of each other are refused in one line."""

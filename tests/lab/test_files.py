@@ -15,6 +15,7 @@ from calls import EXAMPLES, TOP, LabCase, Word, around, feast, here
 from lab.base.errors import LabError
 from lab.base.files import write_whole
 from lab.base.locks import held
+from kept_chain import contents
 from sweeps import FolderCase
 
 WORLD = "feast 1\ntiles 2 1\nsize 8 8\nseed 3\nattempts 60\natom 1 1 Regulator\natom 9 5 Regulator\n"
@@ -54,9 +55,9 @@ class Planted(FilesCase):
 
     def test_chain(self) -> None:
         """In the folder of a chain no link is followed, whether it lies at a file's place or beside it."""
-        names = ["chain.json", "start.world", "course.csv", *(f"{leg:04}.{kind}" for leg in (0, 1, 2) for kind in ("world", "atoms", "report"))]
+        names = ["chain.json", "start.world", "course.csv", "acts.txt", "legs.gz", "legs.index", "0000.atoms", "0002.atoms"]
         self.passes(*self.words)
-        wanted = {path.relative_to(self.chain): path.read_bytes() for path in self.chain.rglob("*") if path.is_file()}
+        wanted = contents(self.chain)
         shutil.rmtree(self.chain)
         self.chain.mkdir()
         for name in names:
@@ -66,9 +67,10 @@ class Planted(FilesCase):
                 (self.chain / name).symlink_to(self.notes)
         self.passes(*self.words)
         self.assertEqual(self.notes.read_text(), NOTES)
+        there = contents(self.chain)
         for path, data in wanted.items():
             self.assertFalse((self.chain / path).is_symlink(), path)
-            self.assertEqual((self.chain / path).read_bytes(), data, path)
+            self.assertTrue(there[path] == data, path)
 
     def test_elements(self) -> None:
         """A folder of copies that is a link to another folder is refused, and what that has stays."""
@@ -162,6 +164,8 @@ class Lasting(FolderCase):
             inside[name] = name
             if Path(name).is_dir():
                 self.told.append(("folder", name))
+            elif not name.endswith(".part"):
+                self.told.append(("added", name))
             sync(handle)
 
         with mock.patch("os.replace", lambda a, b: moving(replace, a, b)), mock.patch("os.fsync", synced), \
@@ -169,23 +173,24 @@ class Lasting(FolderCase):
             yield
 
     def test_leg(self) -> None:
-        """All that a leg needs is on the disk before its row is, and its row when the next leg begins."""
+        """All that a leg needs is on the disk before the line of the index with which it is done."""
         chain = self.room / "chain"
-        with self.watched():
-            self.passes("chain", chain, "--legs", "2", "--step", "--keep", "reports", self.world, self.elements)
-        moves = [(how, Path(name).name) for how, name in self.told if how != "folder"]
-        self.assertEqual({how for how, name in moves if name != "chain.json"}, {"synced"})
-        places = {name: [at for at, (how, path) in enumerate(self.told) if how == "synced" and Path(path).name == name] for _, name in moves}
-        rows = places["course.csv"]
-        self.assertEqual(len(rows), 3)
-        for leg, row in enumerate(rows[1:], 1):
-            for kind in ("world", "atoms", "report"):
-                (at,) = places[f"{leg:04}.{kind}"]
-                self.assertIn(("folder", str(chain)), self.told[at + 1:row], kind)
-            self.assertEqual(self.told[row + 1], ("folder", str(chain)))
-        for leg in (1, 2):
-            (at,) = places[f"{leg:04}.kept.gz"]
-            self.assertIn(("folder", str(chain)), self.told[at + 1:])
+        for options in (["--keep", "reports"], ["--atoms", "3"]):
+            with self.watched():
+                self.passes("chain", chain, "--legs", "2", "--step", *options, self.world, self.elements)
+            moves = [(how, Path(name).name) for how, name in self.told if how not in ("folder", "added")]
+            self.assertEqual({how for how, name in moves if name != "chain.json"}, {"synced"})
+            (begun,) = (at for at, it in enumerate(self.told) if it == ("unsynced", str(chain / "chain.json")))
+            self.assertEqual(self.told[begun + 1], ("folder", str(chain)))
+            added = [Path(name).name for how, name in self.told[begun:] if how == "added" or name.endswith(".atoms")]
+            self.assertIn("legs.index", added)
+            for pack in " ".join(added).split("legs.index")[:-1]:
+                end = [] if options[0] == "--keep" else ["0002.atoms" if "0002" in pack else "0001.atoms"]
+                kept = ["legs.gz", *end, "course.csv"]
+                self.assertEqual(pack.split(), kept)
+            self.assertEqual(added[-1], "legs.index")
+            shutil.rmtree(chain)
+            self.told.clear()
 
     def test_run(self) -> None:
         """A run of a sweep is on the disk before it comes to its place, and its place after that; its legs by themselves aren't."""
@@ -197,7 +202,7 @@ class Lasting(FolderCase):
         at = self.told.index(("synced", str(runs / "00001")))
         self.assertIn(("folder", str(self.out)), self.told[:at])
         self.assertEqual(self.told[at + 1], ("folder", str(runs)))
-        self.assertEqual([how for how, name in self.told if name.endswith("course.csv")], ["unsynced"] * 4)
+        self.assertEqual([how for how, name in self.told if name.endswith("course.csv") and how != "added"], ["unsynced"])
 
     def _planned(self) -> list[tuple[str, str]]:
         """What comes to its place when the sweep is planned anew."""

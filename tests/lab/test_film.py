@@ -8,6 +8,7 @@ from collections.abc import Sequence
 from pathlib import Path
 
 import films
+import kept_chain
 from calls import EXAMPLES, LabCase, Word, feast, here
 
 SVG = "{http://www.w3.org/2000/svg}"
@@ -145,7 +146,7 @@ class Chains(LabCase):
 
     def atoms(self, leg: int) -> films.Plane:
         """The atoms that a leg left."""
-        return films.plane_of((self.chain / f"{leg:04}.atoms").read_text().splitlines()[2:])
+        return films.plane_of(kept_chain.atoms(self.chain, leg))
 
     def test_reports(self) -> None:
         """Frames in the midst of legs are those of the leg's report, and the cleared plane has one."""
@@ -161,8 +162,8 @@ class Chains(LabCase):
         for shot in shots:
             leg = next((leg for leg in range(1, 5) if ends[leg - 1] < shot.events < ends[leg]), None)
             if leg is not None:
-                report = self.file("report", self.passes("unpack", self.chain / f"{leg:04}.kept.gz"))
-                world = self.chain / f"{leg:04}.world"
+                report = self.file("report", kept_chain.told(self.chain, leg, "whole"))
+                world = self.file("world", kept_chain.told(self.chain, leg, "world"))
                 self.assertEqual(shot.atoms, atoms_after(world, report, shot.events - ends[leg - 1], EXAMPLES / "regulator.ulam"))
         self.assertEqual(sum(shot.abandoned.total() for shot in shots), sum(int(row["abandoned"]) for row in course))
 

@@ -4,6 +4,7 @@ from pathlib import Path
 from unittest.mock import patch
 
 from calls import EXAMPLES, LabCase, here
+from kept_chain import packs_of, repack
 
 from lab.film import batches
 
@@ -48,8 +49,8 @@ class SideBySide(LabCase):
         """What is wrong with a report of a later batch is said in one line."""
         world = self.file("w", (EXAMPLES / "regulator-tiles.world").read_text().replace("attempts 40000", "attempts 300"))
         self.passes("chain", self.chain, "--legs", "3", "--step", "--keep", "reports", world, EXAMPLES / "regulator.ulam")
-        (self.chain / "0003.kept.gz").write_bytes((self.chain / "0002.kept.gz").read_bytes())
+        repack(self.chain, {3: packs_of(self.chain).report(2).data})
         page = Path(self.room / "film.html")
         for least in (1, 10 ** 9):
             with patch.object(batches, "LEAST", least):
-                self.refused("0003.kept.gz: it is damaged, or its world is another", "film", self.chain, "-o", page)
+                self.refused("leg 3: its atoms are not those to which its events lead", "film", self.chain, "-o", page)

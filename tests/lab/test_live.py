@@ -3,11 +3,11 @@ are not the page's, test_live_page has a browser."""
 import csv
 import signal
 import socket
-import time
 from array import array
 from base64 import b64decode
 from pathlib import Path
 
+import kept_chain
 from calls import EXAMPLES, TOP, LabCase, Word, program
 from films import plane_of
 from living import Living
@@ -50,7 +50,7 @@ class LiveCase(LabCase):
 
     def sites(self, leg: int) -> set[int]:
         """The sites that have atoms after a leg, on a plane of 16 columns."""
-        atoms = plane_of((self.chain / f"{leg:04}.atoms").read_text().splitlines()[2:])
+        atoms = plane_of(kept_chain.atoms(self.chain, leg))
         return {16 * y + x for x, y in atoms}
 
     def does(self, live: Living, order: object) -> None:
@@ -69,8 +69,7 @@ class LiveCase(LabCase):
 
     def begins(self, leg: int) -> list[str]:
         """The atoms with which a leg begins."""
-        lines = (self.chain / f"{leg:04}.world").read_text().splitlines()
-        return [line[5:] for line in lines if line.startswith("atom ")]
+        return kept_chain.begins(self.chain, leg)
 
 
 class Orders(LiveCase):
@@ -79,7 +78,6 @@ class Orders(LiveCase):
     def test_acts(self) -> None:
         """Acts between legs are on record before the next leg, which begins with what they make."""
         live = self.kinds("--step")
-        zero = "0" * 18
         self.does(live, {"do": "act", "acts": ["put:Cell:level=-1:3,3+4,4", "clear:1,2"]})
         self.assertEqual(self.acts(), ["1:put:Cell:level=-1:3,3+4,4", "1:clear:1,2"])
         self.does(live, {"do": "act", "acts": ["put:Wall:0,0"]})
@@ -93,9 +91,10 @@ class Orders(LiveCase):
         self.does(live, {"do": "act", "acts": ["flip:1:0,0,8,8", "erase:0:0,0,8,8"]})
         self.does(live, {"do": "leg"})
         live.shot(leg=2)
-        walls = [line for line in self.begins(2) if "Wall" in line]
-        self.assertEqual(walls, [f"{x} {y} Wall {zero}" for x, y in ((6, 5), (7, 6), (5, 7), (6, 7), (7, 7))])
-        self.assertRegex(self.acts()[-2], r"^2:flip:1:0,0,8,8:seed=\d+$")
+        walls = [line.split() for line in self.begins(2) if "Wall" in line]
+        self.assertEqual([(int(x), int(y)) for x, y, _, _ in walls], [(6, 5), (7, 6), (5, 7), (6, 7), (7, 7)])
+        self.assertEqual({int(state, 16).bit_count() for _, _, _, state in walls}, {1})
+        self.assertEqual(self.acts()[-2], "2:flip:1:0,0,8,8")
         stream = live.events()
         moments = [act["events"] for act in next(stream)[1]["acts"]]
         self.assertEqual(moments, [0, 0] + [int(self.rows()[1]["events"])] * (len(self.acts()) - 2))
@@ -157,7 +156,7 @@ class Orders(LiveCase):
         self.assertEqual(self.passes("chain", "--audit", fork), "yes\n")
         self.passes("chain", fork, "--legs", "2", "--step", "--keep", "reports", "--at", f"2:attempts:{self.rows()[2]['attempts']}",
                     self.room / "kinds.world", self.room / "kinds.ulam")
-        self.assertEqual((fork / "0002.atoms").read_text(), (self.chain / "0002.atoms").read_text())
+        self.assertEqual(kept_chain.atoms(fork, 2), kept_chain.atoms(self.chain, 2))
 
     def test_measures(self) -> None:
         """A chain with measures goes on with them, and so does a fork of it."""
@@ -221,8 +220,8 @@ class Orders(LiveCase):
         status, out, _ = live.ends(signal.SIGINT)
         self.assertEqual((status, out.split(":")[0]), (0, str(self.room / "chain-reload1")))
         anew = self.room / "chain-reload1"
-        self.assertEqual((anew / "0000.atoms").read_text(), (self.chain / "0001.atoms").read_text())
-        self.assertIn("seed 6\n", (anew / "0001.world").read_text())  # that of the leg that would have followed: 3 + 3
+        self.assertEqual(kept_chain.atoms(anew, 0), kept_chain.atoms(self.chain, 1))
+        self.assertIn("seed 7\n", kept_chain.told(anew, 1, "world"))  # that of the leg that would have followed: 3 + 4
         for chain in (self.chain, anew):
             self.assertEqual(self.passes("chain", "--audit", chain), "yes\n")
 
@@ -321,26 +320,23 @@ class Ends(LiveCase):
         self.assertEqual(self.living(self.chain).shot()["leg"], 1)
 
     def test_killed(self) -> None:
-        """Killed in the midst of a leg, it goes on from the leg before, with what was done by hand."""
-        slow = self.file("slow", f"#!/bin/sh\ncase $* in run*/0003.world*) touch {self.room}/there; sleep 60 ;; esac\n"
-                                 f"exec {program()} \"$@\"\n")
-        slow.chmod(0o755)
-        live = self.living(self.chain, WORLD, ELEMENTS, instead=slow)
+        """Killed in the midst of a play, it goes on from the last leg that is done, with what was done by hand."""
+        live = self.living(self.chain, WORLD, ELEMENTS)
         self.does(live, {"do": "play"})
-        live.shot("play", leg=2)
-        while not (self.room / "there").exists():
-            time.sleep(0.01)
+        live.shot("play", leg=3)
         self.does(live, {"do": "act", "acts": ["clear:0,0,16,8"]})
         live.ends(signal.SIGKILL)
-        done = len(self.rows()) - 1
-        self.assertIn(done, (1, 2))  # the last one's row is written with the leg behind it
+        done = kept_chain.packs_of(self.chain).done
+        self.assertGreater(done, 0)
         again = self.living(self.chain)
         self.assertEqual(again.shot()["leg"], done)
-        self.assertEqual(self.acts(), ["4:clear:0,0,16,8"])
-        for leg in range(done + 1, 5):
+        (act,) = self.acts()
+        self.assertRegex(act, r"^\d+:clear:0,0,16,8$")
+        cleared = int(act.partition(":")[0])
+        for leg in range(done + 1, cleared + 1):
             self.does(again, {"do": "leg"})
             again.shot(leg=leg)
-        self.assertTrue(all(int(line.split()[1]) >= 8 for line in self.begins(4)))
+        self.assertTrue(all(int(line.split()[1]) >= 8 for line in self.begins(cleared)))
         again.ends(signal.SIGINT)
         self.assertEqual(self.passes("chain", "--audit", self.chain), "yes\n")
 

@@ -8,8 +8,10 @@ from pathlib import Path
 from typing import Any, cast
 
 from calls import EXAMPLES, Word, program
+from lab.base import files
 from lab.base.errors import LabError
 from lab.base.program import Program
+from lab.chain import keeper
 from lab.chain.folder import Folder
 from lab.chain.legs import LegMaker
 from lab.chain.start import going_on
@@ -67,7 +69,7 @@ class Faults(LiveCase):
         self.does(live, {"do": "play"})
         shot = self.fault(live)
         self.assertEqual((shot["mode"], shot["fault"].startswith(ENDED)), ("end", True))
-        self.assertRegex(shot["fault"], r"acts.txt: can't be written: .*; .*0000.atoms: can't be read: ")
+        self.assertRegex(shot["fault"], r"can't be read: .*; .*acts.txt: can't be read: ")
         for order in ORDERS:
             self.assertEqual(live.order(order), (400, f"refused: {shot['fault']}\n"), order)
         self.assertEqual(live.shot("end")["fault"], shot["fault"])
@@ -79,20 +81,6 @@ class Faults(LiveCase):
         self.does(again, {"do": "leg"})
         again.shot(leg=1)
 
-    def test_unwritten(self) -> None:
-        """A leg whose files can't be written isn't done; the session goes on when they can."""
-        live = self.regulator("--keep", "none")
-        (self.chain / "0001.atoms").mkdir()
-        self.does(live, {"do": "play"})
-        shot = self.fault(live)
-        self.assertEqual((shot["mode"], shot["leg"]), ("pause", 0))
-        self.assertIn("0001.atoms: can't be written", shot["fault"])
-        self.assertEqual(len(self.rows()), 1)
-        (self.chain / "0001.atoms").rmdir()
-        self.does(live, {"do": "leg"})
-        self.assertEqual(live.shot(leg=1)["fault"], "")
-        self.assertEqual((live.ends(signal.SIGINT)[0], len(self.rows())), (0, 2))
-
     def test_nonsense(self) -> None:
         """What the lab isn't made for is told like any fault, and what waits for the leg is answered."""
         live = self.regulator(instead=self.instead("sleep 1; echo nonsense"))
@@ -101,7 +89,7 @@ class Faults(LiveCase):
         self.does(live, {"do": "fork"})
         shot = self.fault(live)
         self.assertEqual((shot["mode"], shot["leg"]), ("pause", 0))
-        self.assertRegex(shot["fault"], "a fault of the lab: ValueError: ")
+        self.assertRegex(shot["fault"], "instead: it wrote what is no report of leg 1, and ended with status 0")
         (self.room / "now").unlink()
         self.does(live, {"do": "leg"})
         self.assertEqual(live.shot(leg=1)["fault"], "")
@@ -133,7 +121,7 @@ class Worker(LiveCase):
         maker, course = going_on(Program.find(), Folder(self.chain))
         session = Session(maker, course)
         self.addCleanup(session.end)
-        self.addCleanup(setattr, LegMaker, "report", LegMaker.report)
+        self.addCleanup(setattr, LegMaker, "called", LegMaker.called)
         is_there, goes_on = threading.Event(), threading.Event()
 
         def ends(*_words: object) -> bytes:
@@ -141,7 +129,7 @@ class Worker(LiveCase):
             goes_on.wait(60)
             raise SystemExit("no more")
 
-        setattr(LegMaker, "report", ends)
+        setattr(LegMaker, "called", ends)
         session.turn("play")
         is_there.wait(60)
         waiting = threading.Timer(0.5, goes_on.set)
@@ -152,3 +140,28 @@ class Worker(LiveCase):
         with self.assertRaisesRegex(LabError, "the session has ended"):
             session.turn("play")
         waiting.join()
+
+    def test_unwritten(self) -> None:
+        """A leg that can't be written isn't done; the session goes on when it can."""
+        self.passes("chain", self.chain, "--legs", "1", "--keep", "reports", WORLD, ELEMENTS)
+        session = Session(*going_on(Program.find(), Folder(self.chain)))
+        self.addCleanup(session.end)
+        append_to = files.append_to
+        self.addCleanup(setattr, keeper, "append_to", append_to)
+
+        def fails(path: Path, data: bytes, is_lasting: bool = False) -> None:
+            append_to(path, data[:len(data) // 2], is_lasting)
+            raise LabError(f"{path}: can't be written: no space left on device")
+
+        setattr(keeper, "append_to", fails)
+        session.turn("play")
+        with session.changed:
+            session.changed.wait_for(lambda: session.shot.fault != "", 60)
+        self.assertEqual((session.shot.mode, session.shot.leg), ("pause", 1))
+        self.assertIn("legs.gz: can't be written: no space left", session.shot.fault)
+        setattr(keeper, "append_to", append_to)
+        session.turn("leg")
+        with session.changed:
+            session.changed.wait_for(lambda: session.shot.mode == "pause", 60)
+        self.assertEqual((session.shot.leg, session.shot.fault, len(self.rows())), (2, "", 3))
+        self.assertEqual(self.passes("chain", "--audit", self.chain), "yes\n")

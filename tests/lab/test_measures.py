@@ -3,6 +3,7 @@ import csv
 import io
 
 from calls import EXAMPLES, LabCase, here
+from kept_chain import told
 
 ELEMENTS = """quark Part { Unsigned(4) count; Bool on; }
 quark Base { Unsigned(3) rank; }
@@ -55,8 +56,8 @@ class Measures(LabCase):
 
     def by_atoms(self, leg: int) -> list[str]:
         """What the measures come to at the end of a leg, from the rows of the verb atoms."""
-        told = self.passes("atoms", self.chain / f"{leg:04}.atoms", EXAMPLES / "wator.ulam")
-        rows = list(csv.DictReader(io.StringIO(told)))
+        said = self.passes("atoms", self.file("atoms", told(self.chain, leg, "atoms")), EXAMPLES / "wator.ulam")
+        rows = list(csv.DictReader(io.StringIO(said)))
         fish = [int(row["age"]) for row in rows if row["element"] == "Fish"]
         sharks = [(int(row["age"]), int(row["hunger"])) for row in rows if row["element"] == "Shark"]
         self.assertGreater(min(len(fish), len(sharks)), 5)

@@ -43,7 +43,7 @@ class Chains(PackageCase):
             "    except feast_lab.LabError as error: print(str(error)[:60])\n")
         self.assertEqual(self.says(script), [
             "True 4 [0, 0] [0, 0]", "[0.4]", "from control 9: the chain has the legs 0 to 4, and no leg 9", "plane(5): the chain has the legs 0 to 4",
-            "legs 0: a chain has at least one leg", "every=0: the distance is at least one event",
+            "legs 0: a chain has at least one leg, and at most 4,294,967,", "every=0: the distance is at least one event",
             "control: the chain keeps no reports, so its events aren't kn", "at 1:clear:0,0: leg 1 is done, and nothing of the kind was d"])
 
     def test_frames(self) -> None:

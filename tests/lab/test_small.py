@@ -11,6 +11,7 @@ from pathlib import Path
 
 import films
 from calls import EXAMPLES, PROGRESS, TOP, LabCase, around, feast, here
+from kept_chain import told as told_of
 from lab.base.errors import LabError
 from lab.base.files import write_whole
 
@@ -79,13 +80,13 @@ class Chains(SmallCase):
         self.assertEqual(told.splitlines()[1:], ["--at 5:clear:0,0,1,1: still to come; the chain has 2 legs so far, and --legs 5 or more does it"])
         legs = []
         for leg in (1, 2):
-            report = self.file(f"{leg}", self.passes("unpack", self.chain / f"000{leg}.kept.gz"))
-            legs.append(self.table("rates", self.chain / f"000{leg}.world", report))
+            world, report = (self.file(form, told_of(self.chain, leg, form)) for form in ("world", "whole"))
+            legs.append(self.table("rates", world, report))
         whole = self.table("rates", self.chain)
         for one, two, both in zip(*legs, whole, strict=True):
             for name in ("events", "abandoned"):
                 self.assertEqual(int(both[name]), int(one[name]) + int(two[name]))
-        self.assertEqual(self.passes("atoms", self.chain), self.passes("atoms", self.chain / "0002.atoms", ELEMENTS))
+        self.assertEqual(self.passes("atoms", self.chain), self.passes("atoms", self.file("atoms", told_of(self.chain, 2, "atoms")), ELEMENTS))
         self.assertEqual([row["tile"] for row in self.table("rates", self.chain, "--by", "tile")], ["0", "1"])
 
     def test_refused(self) -> None:

@@ -7,18 +7,13 @@ import signal
 from collections import Counter
 from contextlib import redirect_stderr, redirect_stdout
 from itertools import accumulate
-from pathlib import Path
 from unittest import mock
 
 from calls import feast, here, lab, program
+from kept_chain import packs_of, repack, told
 from sweeps import BIRTH, SOURCE, WORLD, FolderCase, contents
 
 from lab.command.main import main
-
-
-def seed_line(world: Path) -> str:
-    """The line of a world that has its seed."""
-    return next(line for line in world.read_text().splitlines() if line.startswith("seed "))
 
 
 class Folders(FolderCase):
@@ -34,11 +29,11 @@ class Folders(FolderCase):
                                          "Regulator", "Resource", "sum(Regulator.part)"])
         expected = []
         for birth in ("5", "40"):
-            for seed in (3, 3 + 3 * 3):
+            for seed in (3, 3 + 3 * 4):
                 for row in self.chained(seed, birth, "--legs", "3", "--at", "2:clear:0,0,8,8"):
                     del row["attempts"]
                     front = {"Regulator.regulator_birth": birth, "seed": str(seed), "leg": row.pop("leg")}
-                    leg_seed = str(seed + 3 * (int(front["leg"]) - 1)) if front["leg"] != "0" else ""
+                    leg_seed = str(seed + 4 * (int(front["leg"]) - 1)) if front["leg"] != "0" else ""
                     expected.append({**front, "leg_seed": leg_seed, **row, "sum(Regulator.part)": "0"})
         self.assertEqual(len({row["leg_seed"] for row in rows if row["leg_seed"]}), 6)
         self.assertEqual(rows, expected)
@@ -53,7 +48,7 @@ class Folders(FolderCase):
     def test_seeds_alone(self) -> None:
         """Without --set there are runs over seeds alone."""
         rows = self.rows(self.passes(*self.words("--repeat", "3")))
-        self.assertEqual([row["seed"] for row in rows], ["3", "6", "9"])
+        self.assertEqual([row["seed"] for row in rows], ["3", "7", "11"])
         for row in rows:
             last = self.chained(int(row["seed"]), "40", "--legs", "1")[-1]
             self.assertEqual(list(row.values())[1:], [last[name] for name in list(row)[1:]])
@@ -61,7 +56,7 @@ class Folders(FolderCase):
     def test_until(self) -> None:
         """A run is over after the first leg at whose end the rule holds."""
         rows = self.rows(self.passes(*self.words("--repeat", "3", "--legs", "6", "--until", "Atoms.Regulator>2")))
-        for seed in ("3", "21", "39"):
+        for seed in ("3", "27", "51"):
             course = self.chained(int(seed), "40", "--legs", "6")
             end = next((at for at, row in enumerate(course) if int(row["Regulator"]) > 2), 6)
             self.assertEqual([row["leg"] for row in rows if row["seed"] == seed], [str(leg) for leg in range(end + 1)])
@@ -76,7 +71,7 @@ class Folders(FolderCase):
             self.assertEqual(found, [row["Regulator"] for row in self.chained(3, "40", "--legs", "2", "--at", f"2:clear:0,0,{wide},8")])
         self.assertEqual(rows[-1]["Regulator"], "0")
         rows = self.rows(self.passes(*self.words("--legs", "2", "--set", "p=0:1:1", "--at", "2:erase:{p}:0,0,16,8", "--repeat", "2")))
-        for p, seed in (("0", "3"), ("0", "9"), ("1", "3"), ("1", "9")):
+        for p, seed in (("0", "3"), ("0", "11"), ("1", "3"), ("1", "11")):
             found = [row["Regulator"] for row in rows if (row["p"], row["seed"]) == (p, seed)]
             course = self.chained(int(seed), "40", "--legs", "2", "--at", f"2:erase:{p}:0,0,16,8")
             self.assertEqual(found, [row["Regulator"] for row in course])
@@ -93,14 +88,15 @@ class Folders(FolderCase):
             text = text.replace("tiles 2 1", "tiles " + row["tiles"].replace("x", " "))
             last = self.chained(int(row["seed"]), "40", "--legs", "1", world=text)[-1]
             self.assertEqual(list(row.values())[4:], [last[name] for name in list(row)[4:]])
-        self.assertEqual({row["seed"] for row in rows}, {"3", str(3 + 3 * 2 + 1)})
+        self.assertEqual({row["seed"] for row in rows}, {"3", str(3 + 3 * 2 + 2)})
 
     def test_leg_seeds(self) -> None:
         """The seed of a leg is that of its world, also where runs have different numbers of tiles."""
         self.passes(*self.words("--legs", "3", "--keep", "reports", "--repeat", "2", "--set", "tiles=3x2,2x1", "--into", self.out))
         for row in self.rows():
-            path = self.out / "runs" / f"{int(row['run']):05}" / f"{int(row['leg']):04}.world"
-            self.assertEqual(f"seed {row['leg_seed']}" if row["leg"] != "0" else "", seed_line(path) if path.exists() else "")
+            if row["leg"] != "0":
+                world = told(self.out / "runs" / f"{int(row['run']):05}", int(row["leg"]), "world")
+                self.assertIn(f"\nseed {row['leg_seed']}\n", world)
 
     def test_together(self) -> None:
         """Values of --with go with those of the --set before it; with several --set these groups make all combinations."""
@@ -108,7 +104,7 @@ class Folders(FolderCase):
         rows = self.rows(self.passes(*self.words(*words)))
         groups = [("2x1", "8x16", "90"), ("1x2", "16x8", "180"), ("4x1", "8x8", "270")]
         self.assertEqual([tuple(row.values())[:5] for row in rows],
-                         [(*group, birth, str(seed)) for group in groups for birth in ("5", "40") for seed in (3, 3 + 5)])
+                         [(*group, birth, str(seed)) for group in groups for birth in ("5", "40") for seed in (3, 3 + 6)])
         for row in rows:
             text = WORLD.replace("tiles 2 1", f"tiles {row['tiles']}").replace("size 8 8", f"size {row['size']}").replace("x", " ")
             last = self.chained(int(row["seed"]), row["Regulator.regulator_birth"], "--legs", "1",
@@ -148,8 +144,8 @@ class Folders(FolderCase):
         self.passes(*self.words(*words, "--keep", "reports", "--into", self.out))
         self.assertEqual([row["drift"] for row in self.rows()], [row["drift"] for row in rows])
         for leg in (1, 2):
-            path = self.out / "runs" / "00001" / f"{leg:04}"
-            tiles = self.rows(self.passes("rates", "--by", "tile", path.with_suffix(".world"), path.with_suffix(".kept.gz")))
+            world, whole = (self.file(form, told(self.out / "runs" / "00001", leg, form)) for form in ("world", "whole"))
+            tiles = self.rows(self.passes("rates", "--by", "tile", world, whole))
             self.assertEqual(rows[leg]["drift"], max(row["drift"] for row in tiles))
         self.assertEqual(self.passes("sweep", "--audit", self.out), "yes\n")
         self.assertNotIn("drift", self.rows(self.passes(*self.words("--legs", "2")))[0])
@@ -225,7 +221,7 @@ class GoingOn(FolderCase):
         done = 0
         for turn, number in enumerate((signal.SIGKILL, signal.SIGTERM, signal.SIGINT), 1):
             log = self.room / "log"
-            killing = self.file("killing", f"#!/bin/sh\ncase $1 in step) echo >>{log}; [ $(wc -l <{log}) -eq {3 * turn} ] && "
+            killing = self.file("killing", f"#!/bin/sh\ncase $1 in step) echo >>{log}; [ $(wc -l <{log}) -eq {2 * turn} ] && "
                                            f"{{ kill -{int(number)} $PPID; sleep 0.3; }} ;; esac\nexec {program()} \"$@\"\n")
             killing.chmod(0o755)
             stopped = lab(*self.words(*self.OPTIONS, "--into", self.out), instead=killing)
@@ -256,20 +252,22 @@ class Audits(FolderCase):
     def test_audit(self) -> None:
         self.passes(*self.words(BIRTH, "--set", "fill.Resource=0.1", "--legs", "2", "--keep", "reports", "--into", self.out))
         self.assertEqual(self.passes("sweep", "--audit", self.out), "yes\n")
-        kept = contents(self.out)
+        kept = {str(path.relative_to(self.out)): path.read_bytes() for path in self.out.rglob("*") if path.is_file()}
         other = self.room / "other"
         self.passes(*self.words(BIRTH, "--set", "fill.Resource=0.2", "--legs", "2", "--keep", "reports", "--into", other))
-        swapped = contents(other / "runs" / "00002")
+        swapped = {str(path.relative_to(other)): path.read_bytes() for path in (other / "runs" / "00002").rglob("*") if path.is_file()}
+        second = self.out / "runs" / "00002"
+        repack(second, {1: packs_of(second).report(2).data})
+        repacked = {f"runs/00002/{name}": (second / name).read_bytes() for name in ("legs.gz", "legs.index")}
+        for name in repacked:
+            (self.out / name).write_bytes(kept[name])
         rows = kept["sweep.csv"].decode()
         for changes, says in [
             ({"sweep.csv": rows.replace("\n2,", "\n3,", 1).encode()}, "no sweep.csv: its rows are not those of the runs\n"),
-            ({"runs/00001/0002.atoms": kept["runs/00001/0001.atoms"]}, "no run 1: it is not the chain that the plan says"),
-            ({"runs/00002/0001.kept.gz": kept["runs/00002/0002.kept.gz"]}, "no run 2: leg 1: "),
-            ({f"runs/00002/{name}": data for name, data in swapped.items()
-              if name != "run.json" and kept[f"runs/00002/{name}"] != data},
+            (repacked, "no run 2: leg 1: "),
+            ({name: data for name, data in swapped.items() if not name.endswith("run.json") and kept[name] != data},
              "no run 2: it is not the chain that the plan says"),
-            ({"runs/00002/course.csv": b"".join(kept["runs/00002/course.csv"].splitlines(True)[:-1])},
-             "no run 2: it has not the legs that the plan says"),
+            ({"runs/00002/legs.index": b"".join(kept["runs/00002/legs.index"].splitlines(True)[:0])}, "no run 2: "),
         ]:
             for name, data in changes.items():
                 self.assertNotEqual(kept.get(name), data, name)
@@ -279,7 +277,6 @@ class Audits(FolderCase):
             self.assertTrue(done.wrote.startswith(says), done.wrote)
             for name in changes:
                 (self.out / name).write_bytes(kept[name])
-        self.assertEqual(contents(self.out), kept)
         shutil.rmtree(self.out / "runs" / "00002")
         self.refused("can't be audited yet: it lacks the runs 2", "sweep", "--audit", self.out)
 
@@ -288,6 +285,6 @@ class Audits(FolderCase):
         self.passes(*self.words("--repeat", "2", "--legs", "2", "--keep", "reports", "--until", "Atoms.Regulator>500", "--into", self.out))
         self.assertEqual(self.passes("chain", "--audit", self.out / "runs" / "00002"), "yes\n")
         self.passes("film", self.out / "runs" / "00002", "-o", self.room / "film.html")
-        report = self.passes("unpack", self.out / "runs" / "00001" / "0001.kept.gz")
-        self.assertEqual(report, feast("step", self.out / "runs" / "00001" / "0001.world", self.elements))
+        first = self.out / "runs" / "00001"
+        self.assertEqual(told(first, 1, "whole"), feast("step", self.file("leg", told(first, 1, "world")), self.elements))
         self.assertEqual(self.passes("sweep", "--audit", self.out), "yes\n")

@@ -114,7 +114,7 @@ class Tasks(FolderCase):
         done = lab("sweep", "--task", self.out, "1", instead=self.room / "none")
         self.assertEqual((done.returncode, done.stdout), (2, ""))
         self.assertIn("none: FEAST_PROGRAM names it, and it is no program", done.stderr)
-        failing = self.file("failing", f"#!/bin/sh\ncase $2 in */0002.world) exit 8 ;; esac\nexec {program()} \"$@\"\n")
+        failing = self.file("failing", f"#!/bin/sh\ncase $1 in step) {program()} \"$@\" | head -c 3000; exit 8 ;; esac\nexec {program()} \"$@\"\n")
         failing.chmod(0o755)
         done = lab("sweep", "--task", self.out, "1", instead=failing)
         self.assertEqual((done.returncode, done.stdout), (2, ""))
@@ -132,7 +132,7 @@ class Tasks(FolderCase):
         self.refused("expected 2 arguments", "sweep", "--task", self.out)
         kept = contents(self.out)
         for name, old, new, says in [
-            ("sweep.json", "feast sweep 2", "feast sweep 1", "the plan has the form 'feast sweep 1', and this lab makes those of"),
+            ("sweep.json", "feast sweep 3", "feast sweep 1", "the plan has the form 'feast sweep 1', and this lab makes those of"),
             ("sweep.json", "{", "", "sweep.json: no plan of a sweep"),
             ("sweep.json", '"form"', '"from"', "sweep.json: no plan of a sweep"),
             ("sweep.json", '"repeat"', '"repeats"', "sweep.json: not as the lab wrote it"),

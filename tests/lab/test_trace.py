@@ -7,6 +7,7 @@ from pathlib import Path
 
 import films
 from calls import EXAMPLES, LabCase, Word, feast
+from kept_chain import atoms
 
 OFFSETS = sorted(((dx, dy) for dx in range(-4, 5) for dy in range(-4, 5) if abs(dx) + abs(dy) <= 4),
                  key=lambda it: (abs(it[0]) + abs(it[1]), it))
@@ -196,7 +197,7 @@ class Trace(LabCase):
         ends = list(csv.DictReader((folder / "course.csv").open()))
         events = sum(int(leg["events"]) for leg in ends)
         self.assertGreater(int(rows[-1]["event"]), int(ends[1]["events"]))
-        left = Path(folder / "0003.atoms").read_text().splitlines()[2].split()
+        left = atoms(folder, 3)[0].split()
         self.assertEqual([rows[-1]["x"], rows[-1]["y"]], left[:2])
         event = rows[-1]["event"]
         told = self.passes("trace", folder, event)

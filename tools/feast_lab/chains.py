@@ -7,15 +7,15 @@ from typing import Any
 import numpy
 
 from lab.base.errors import LabError
-from lab.base.files import read_comments, read_text
+from lab.base.files import read_comments, write_new
 from lab.base.progress import ProgressLine
-from lab.chain.audit import AuditedChain
-from lab.chain.folder import Course, Folder
+from lab.chain.audit import first_fault, processors
+from lab.chain.course import Course
+from lab.chain.folder import Folder
+from lab.chain.kept_legs import KeptLegs
 from lab.film.recording import Recording, recording_of_chain
-from lab.formats.kept import read_report
 from lab.formats.layout import Layout
 from lab.formats.outcome import atom_lines
-from lab.formats.world import World
 from lab.measure.measures import Measure, measures_of
 
 from feast_lab import arrays, datasets, recordings
@@ -73,8 +73,11 @@ class Chain:
         If the chain looks for failed events, `failed` stands before aeps, and if it looks for the drift, `drift` behind it.
         A measure that a leg has no number for is masked.
         """
-        recording = self.recording
-        return course_of(self.folder.course(recording.layout.elements, recording.world.sites), recording.layout)
+        return course_of(self._course(), self.layout)
+
+    def _course(self) -> Course:
+        """The legs that are done."""
+        return self.folder.course(len(self), self.layout.elements, self.folder.world.sites)
 
     def to_pandas(self) -> Any:
         """The course as a frame of pandas."""
@@ -82,16 +85,27 @@ class Chain:
 
     def plane(self, leg: int) -> Moment:
         """The plane at the end of a leg, counted from 1; that of 0 is the start."""
-        course = self.folder.course(self.layout.elements, World.read(self.folder.start).sites)
+        course = self._course()
         if not 0 <= leg < len(course.legs):
             raise LabError(f"plane({leg}): the chain has the legs 0 to {len(course.legs) - 1}")
         events = course.upto(leg).events
-        lines = atom_lines(read_text(self.folder.atoms(leg)))
-        return Moment.of(f"leg {leg} of {self.folder.path.name}", World.read(self.folder.start), self.layout, self.texts, events, lines)
+        return self._moment(leg, events, self.folder.atoms(leg, self.begun))
+
+    def _moment(self, leg: int, events: int, atoms: str) -> Moment:
+        """The plane with these atoms, as `replay` writes them."""
+        title = f"leg {leg} of {self.folder.path.name}"
+        return Moment.of(title, self.folder.world, self.layout, self.texts, events, atom_lines(atoms))
 
     def planes(self) -> Iterator[Moment]:
         """The plane at the start, and at the end of each leg."""
-        return map(self.plane, range(len(self) + 1))
+        if self.begun.every > 1:
+            raise LabError(f"{self.folder.path}: the chain keeps the atoms of every {self.begun.every}th leg alone")
+        course = self._course()
+        yield self._moment(0, 0, self.folder.atoms(0, self.begun))
+        events = 0
+        for leg, report in self.folder.packed(self.begun).all():
+            events += course.legs[leg].events
+            yield self._moment(leg, events, report.atoms)
 
     def measure(self, of: Callable[[Moment], Any]) -> Array:
         """What a function says of the plane at the end of each leg, from the start on: a row of an array for each."""
@@ -124,9 +138,10 @@ class Chain:
             raise LabError(f"{self.folder.path}: the chain keeps no reports")
         if not 1 <= number <= len(self):
             raise LabError(f"leg({number}): the chain has the legs 1 to {len(self)}")
-        report = read_report(self.folder.report(number))
-        world = self.folder.world(number).resolve()
-        return Run(self.program, world, [file.resolve() for file in self.folder.files], report, TemporaryDirectory())
+        legs, room = KeptLegs.of(self.folder, self.program), TemporaryDirectory[str]()
+        world = Path(room.name) / f"{number:04}.world"
+        write_new(world, legs.world_text(number))
+        return Run(self.program, world, [file.resolve() for file in self.folder.files], legs.whole(number), room)
 
     def counts(self, every: int) -> Array:
         """How many atoms each element had after every so many events of all legs; see `Run.counts`."""
@@ -134,10 +149,7 @@ class Chain:
 
     def audit(self) -> str:
         """`yes`, or `no` with the first leg at fault, as `./lab chain --audit` says."""
-        if self.begun.keep != "reports":
-            raise LabError(f"{self.folder.path}: the chain can't be audited: it was begun without --keep reports")
-        chain = AuditedChain.of(self.program, self.folder, self.begun)
-        fault = next(chain.faults(range(len(chain.course.legs)), ProgressLine()), None)
+        fault = first_fault(self.folder, None, ProgressLine(), processors(), self.program)
         return "yes" if fault is None else f"no {fault}"
 
     def film(self, frames: int = 400) -> Film:

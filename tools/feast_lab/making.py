@@ -5,7 +5,10 @@ from tempfile import TemporaryDirectory
 
 from lab.base.progress import Progress, Stop
 from lab.chain.branch import Origin
+from lab.chain.acts import noise as noise_act
 from lab.chain.making import WantedChain, made
+from lab.chain.start import Options
+from lab.worlds.starting import drawn_world
 
 from feast_lab.chains import Chain
 from feast_lab.moments import Moment
@@ -19,8 +22,10 @@ Until = str | Callable[[Moment], bool]  # a rule as `./lab chain --until` has it
 
 def chain(world: str | Path | World, elements: Paths | None = None, *, legs: int, folder: str | Path | None = None, step: bool = False,
           seed: int | None = None, at: Sequence[str] = (), until: Until | None = None, measures: Sequence[str] = (),
-          failures: bool = False, drift: bool = False, keep: str = "none", progress: Hearer = False) -> Chain:
-    """Makes a chain, or goes on with the one of a folder; the words mean what those of `./lab chain` do.
+          failures: bool = False, drift: bool = False, keep: str = "none", atoms: int = 1, noise: str | None = None,
+          progress: Hearer = False) -> Chain:
+    """Makes a chain, or goes on with the one of a folder; the words mean what those of `./lab chain` do. `noise` is a text, such
+    as "0.001".
 
     `until` is a rule, or a function of a plane: once it holds at the end of a leg the chain is over. Without a folder the
     chain goes away with the object. With `progress` a line on standard error says how far it is; or a function is told, by
@@ -31,7 +36,9 @@ def chain(world: str | Path | World, elements: Paths | None = None, *, legs: int
         path = world_file(world, Path(room))
         own: TemporaryDirectory[str] | None = TemporaryDirectory() if folder is None else None
         place = Path(own.name) / "chain" if own is not None else Path(folder or "")
-        wanted = WantedChain(place, path, files, first_of(legs, until), step, seed, keep, at, rule_of(until), measures, failures, drift)
+        acts = [*at, *([noise_act(noise, drawn_world(path))] if noise is not None else [])]
+        options = Options(step, seed, keep, atoms, acts)
+        wanted = WantedChain(place, path, files, first_of(legs, until), options, rule_of(until), measures, failures, drift)
         with plain_names():
             made(wanted, reporter(progress), Stop(), is_lasting=own is None)
     return ended(Chain(place, room=own), legs, until)
@@ -42,7 +49,8 @@ def go_on(begun: Chain, legs: int, at: Sequence[str] = (), until: Until | None =
     chain back. `at` are acts before legs that are still to come."""
     how, folder = begun.begun, begun.folder
     first = min(len(begun) + 1, legs) if callable(until) else legs
-    wanted = WantedChain(folder.path, folder.start, folder.files, first, how.step, how.seed, how.keep, at, rule_of(until))
+    options = Options(how.step, how.seed, how.keep, how.atoms, at)
+    wanted = WantedChain(folder.path, folder.start, folder.files, first, options, rule_of(until))
     with plain_names():
         made(wanted, reporter(progress), Stop(), is_lasting=not begun.is_passing)
     return ended(begun, legs, until)
@@ -69,7 +77,7 @@ def fork(begun: Chain, leg: int, folder: str | Path | None = None, legs: int | N
     own: TemporaryDirectory[str] | None = TemporaryDirectory() if folder is None else None
     place = Path(own.name) / "chain" if own is not None else Path(folder or "")
     with plain_names():
-        wanted = WantedChain(place, begun.folder.start, begun.folder.files, first, at=at, until=rule_of(until))
+        wanted = WantedChain(place, begun.folder.start, begun.folder.files, first, Options(at=at), rule_of(until))
         made(Origin.of(begun.folder.path).branch(str(leg), wanted), Progress(), Stop(), is_lasting=own is None)
     return ended(Chain(place, room=own), whole, until)
 

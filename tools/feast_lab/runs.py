@@ -11,14 +11,14 @@ from lab.base.files import read_byte_text, read_comments, write_new, write_whole
 from lab.base.limits import MOST_ATTEMPTS
 from lab.base.program import Program
 from lab.base.seeds import MODULUS
+from lab.chain.acts import Acts
 from lab.chain.rule import ChainRule
 from lab.film.frames import Reported
 from lab.film.recording import Recording
 from lab.formats.constants import constants, with_values
-from lab.formats.kept import read_report
 from lab.formats.layout import Layout
 from lab.formats.outcome import ABANDONED, JOURNAL, Outcome, atom_lines
-from lab.formats.report import ReportReader
+from lab.formats.report import ReportReader, read_report
 from lab.formats.world import World
 from lab.measure.drift import greatest, plans, tiles_of
 from lab.worlds.starting import drawn_world
@@ -191,7 +191,7 @@ def run(world: str | Path | OwnWorld, elements: Paths | None = None, *, step: bo
 
 
 def read(world: str | Path, report: str | Path, elements: Paths, *, program: str | Path | None = None) -> Run:
-    """The run of a report, which may be packed by gzip or kept by a chain; its form is tested."""
+    """The run of a report, which may be packed by gzip; its form is tested."""
     data = read_report(Path(report))
     try:
         reader = ReportReader(Path(report), data.decode("ascii").split("\n"))
@@ -225,7 +225,7 @@ def seeded(world: Path, seed: int | None, attempts: int | None, step: bool, room
         was = replace(was, attempts=int(attempts))
     path = room / "seeded" / world.name
     path.parent.mkdir()
-    write_new(path, was.text() if seed is None else ChainRule(was, int(seed), step, {}).world_of(1, [atom.text() for atom in was.atoms]))
+    write_new(path, was.text() if seed is None else ChainRule(was, int(seed), step, Acts()).world_text(1, [atom.text() for atom in was.atoms]))
     return path
 
 

@@ -87,6 +87,32 @@ def write_inside(path: Path, data: str | bytes, is_lasting: bool = False) -> Non
         put(path, data.encode() if isinstance(data, str) else data, is_lasting)
 
 
+def append_to(path: Path, data: bytes, is_lasting: bool = False) -> None:
+    """Adds bytes behind those of a file of a folder that is the lab's own. If the file is lasting, they have then come down to
+    the disk. A link in its place is refused."""
+    with telling(path):
+        handle = os.open(path, os.O_WRONLY | os.O_APPEND | os.O_NOFOLLOW | os.O_CLOEXEC)
+        try:
+            left = memoryview(data)
+            while left:
+                left = left[os.write(handle, left):]
+            if is_lasting:
+                os.fsync(handle)
+        finally:
+            os.close(handle)
+
+
+def cut_off(path: Path, size: int) -> None:
+    """Cuts off what a file of a folder that is the lab's own has behind so many bytes."""
+    with telling(path):
+        handle = os.open(path, os.O_WRONLY | os.O_NOFOLLOW | os.O_CLOEXEC)
+        try:
+            if os.fstat(handle).st_size > size:
+                os.ftruncate(handle, size)
+        finally:
+            os.close(handle)
+
+
 def write_new(path: Path, data: str | bytes) -> None:
     """Writes a file of a folder that is temporary, so that nobody else sees it."""
     with telling(path):

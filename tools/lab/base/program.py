@@ -1,8 +1,10 @@
 """The program that the lab calls."""
+import fcntl
 import os
 import subprocess
 import tempfile
-from collections.abc import Sequence
+from collections.abc import Iterator, Sequence
+from contextlib import contextmanager
 from dataclasses import dataclass
 from pathlib import Path
 
@@ -15,6 +17,7 @@ SOURCES = TOP / "crates.txt"
 # The program of a released folder, which has no sources.
 RELEASED = TOP / "bin" / "feast"
 INSTEAD = "FEAST_PROGRAM"
+PIECE = 1 << 20  # bytes that a pipe may hold, where the system lets it
 QUIET = {7: "it could not write its output", 8: "it ran out of memory"}
 
 
@@ -65,6 +68,43 @@ class Program:
         if done.returncode != 0:
             raise Refusal(reason(done.returncode, written))
         return Answer(written)
+
+    @contextmanager
+    def stream(self, words: Sequence[str | Path]) -> Iterator["Stream"]:
+        """Calls the program, and gives what it writes while it writes; a call that nobody reads to its end is ended."""
+        with subprocess.Popen([self.path, *words], stdin=subprocess.DEVNULL, stdout=subprocess.PIPE) as process:
+            assert process.stdout is not None
+            widen(process.stdout.fileno())
+            try:
+                yield Stream(process)
+            finally:
+                process.kill()
+
+
+@dataclass(frozen=True)
+class Stream:
+    """What a call of the program writes, while it is still at work."""
+
+    process: "subprocess.Popen[bytes]"
+
+    def read(self) -> bytes:
+        """What has come, once something has; nothing at the end."""
+        assert self.process.stdout is not None
+        return os.read(self.process.stdout.fileno(), PIECE)
+
+    def end(self, rest: bytes) -> None:
+        """Waits for the end of a call that writes no more; `rest` is what can't be told apart. Refuses a status that isn't 0."""
+        status = self.process.wait()
+        if status != 0:
+            raise Refusal(reason(status, rest))
+
+
+def widen(pipe: int) -> None:
+    """Lets a pipe hold more, so that who writes and who reads wait less for each other."""
+    try:
+        fcntl.fcntl(pipe, fcntl.F_SETPIPE_SZ, PIECE)
+    except (AttributeError, OSError):
+        pass  # another system, or a limit for this user
 
 
 def reason(status: int, output: bytes) -> str:

@@ -1,207 +1,158 @@
-"""Acts: what is done by hand to the atoms of a chain, or to the length of its legs, before a leg.
+"""Acts: what is done to the atoms of a chain, or to the length of its legs, before a leg.
 
   LEG:clear:AREA                          no atoms are left in the area
   LEG:put:Element[:member=value,..]:AREA  each site of the area has an atom with these values, and 0 for all others
-  LEG:erase:P:AREA[:seed=N]               each atom of the area vanishes with the probability P
-  LEG:flip:P:AREA[:seed=N]                of each atom of the area, with the probability P, one bit is changed: one
-                                          of those that data members take, each as likely as any other
+  LEG:erase:P:AREA                        each atom of the area vanishes with the probability P
+  LEG:flip:P:AREA                         of each atom of the area, with the probability P, one bit of its state is changed
   LEG:attempts:K                          in this leg, and in no other, each tile makes K attempts
 
-AREA is a site `X,Y`, a rectangle `X,Y,WIDTH,HEIGHT`, or several of both with `+` between them. P is a decimal
-number from 0 to 1. An act depends on nothing but its text and the atoms before it: random numbers come from
-its seed. An act without one has the seed of the leg before which it is done.
+In the place of LEG, `every:K` stands for each leg whose number K divides; this can't be said of `attempts`. AREA is a site
+`X,Y`, a rectangle `X,Y,WIDTH,HEIGHT`, or several of both with `+` between them. P is 0, 1, or 0. and up to nine digits.
 
-The numbers are those of Python's `random.Random(f"{kind} {seed}").random()`. Each site of the area, row by row,
-takes one of them, whether it has an atom or not: the atom there is hit if the number is below P. For `flip` it
-takes a second one, which times the number of the element's bits, rounded down, is the number of the bit.
+The program does the acts: they are lines of the chain file, which has one for each rectangle, and its page (docs/chains.md)
+says what they do and which random numbers they take.
 """
-import random
 import re
-from collections.abc import Sequence
-from dataclasses import dataclass
-from typing import ClassVar
+from collections.abc import Iterable, Sequence
+from dataclasses import dataclass, field
 
 from ..base.errors import LabError
-from ..base.limits import MOST_ATTEMPTS, STATE_BITS
-from ..base.seeds import MODULUS, nth
-from ..formats.areas import Area, Site
+from ..base.limits import MOST_ATTEMPTS
+from ..formats.areas import Area, Rectangle
 from ..formats.layout import Layout
 from ..formats.values import state_of
 from ..formats.world import World
 
-FORM = re.compile(r"([1-9]\d{0,8}):(clear|put|erase|flip|attempts):(.+)")
-CHANCE = re.compile(r"0|1|[01]?\.\d{1,15}")
-SEEDED = re.compile(r"(.*):seed=(\d{1,20})")
-USAGE = ("it has to be LEG:clear:AREA, LEG:put:Element[:member=value,..]:AREA, LEG:erase:P:AREA[:seed=N], "
-         "LEG:flip:P:AREA[:seed=N] or LEG:attempts:K, with legs counted from 1")
+FORM = re.compile(r"(every:)?([1-9]\d{0,8}):(clear|put|erase|flip|attempts):(.+)", re.ASCII)
+CHANCE = re.compile(r"0|1|0\.\d{1,9}", re.ASCII)
+USAGE = ("it has to be LEG:clear:AREA, LEG:put:Element[:member=value,..]:AREA, LEG:erase:P:AREA, LEG:flip:P:AREA or "
+         "LEG:attempts:K, with legs counted from 1, or but for attempts every:K in the place of LEG")
 SHOWN = 60  # so many letters of an act stand in a refusal
 
 
 @dataclass(frozen=True)
 class Act:
-    """What is done before a leg; `text` is all of it, so that `Act.of` of the text is the same act."""
+    """What is done before a leg, or before each leg whose number `leg` divides.
 
-    kind: ClassVar[str] = "attempts"
-    leg: int
+    `text` is as --at has it. `lines` are those of a chain file without the words before them, and `attempts` is how many
+    attempts each tile makes, if the act is about that alone.
+    """
+
     text: str
+    leg: int
+    is_every: bool
+    lines: tuple[str, ...]
+    attempts: int | None = None
 
     @staticmethod
-    def of(text: str, world: World, layout: Layout, seed: int = 0) -> "Act":
-        """The act that a text says. `seed` is the first seed of the chain, from which follow those of its legs.
+    def of(text: str, world: World, layout: Layout) -> "Act":
+        """The act that a text says.
 
-        Refuses, with the text and what is wrong, another form, an area outside the plane or on a tile that is off
-        (for `put`), an unknown element or member, and a value or a number out of its range.
+        Refuses, with the text and what is wrong, another form, an area outside the plane, an unknown element or member, and
+        a value or a number out of its range.
         """
         match = FORM.fullmatch(text)
-        if match is None:
+        if match is None or (match[1] and match[3] == "attempts"):
             raise LabError(f"{shown(text)}: {USAGE}")
-        leg, kind, rest = int(match[1]), match[2], match[3]
+        is_every, leg, kind, rest = match[1] is not None, int(match[2]), match[3], match[4]
         try:
             if kind == "attempts":
-                return Pace.read(leg, rest, world)
-            if kind == "clear":
-                return Clear(leg, text, Area.of(rest, world))
-            if kind == "put":
-                return Put.read(leg, rest, world, layout)
-            return Damage.read(kind, leg, rest, world, layout, nth(seed, world.tiles, leg - 1))
+                attempts = attempts_of(rest, world)
+                return Act(text, leg, False, (f"attempts {attempts}",), attempts)
+            return Act(text, leg, is_every, lines_of(kind, rest, world, layout))
         except LabError as error:
             raise LabError(f"{shown(text)}: {error}") from error
 
-    def applied(self, atoms: Sequence[str]) -> list[str]:
-        """The atoms behind the act, from those before it; both as lines `X Y NAME STATE`, row by row."""
-        return list(atoms)
+    @property
+    def told(self) -> str:
+        """The act without its leg."""
+        return self.text.removeprefix("every:").partition(":")[2]
 
 
-@dataclass(frozen=True)
-class Pace(Act):
-    """How many attempts each tile makes in the leg."""
+@dataclass
+class Acts:
+    """The acts of a chain: those before many legs, and those before single ones."""
 
-    attempts: int
-
-    @staticmethod
-    def read(leg: int, rest: str, world: World) -> "Pace":
-        """What stands behind LEG:attempts:."""
-        most = MOST_ATTEMPTS // max(world.tiles - len(world.off), 1)
-        if not re.fullmatch(r"0|[1-9]\d{0,6}", rest) or int(rest) > most:
-            raise LabError(f"a tile of this world makes from 0 to {most} attempts")
-        return Pace(leg, f"{leg}:attempts:{rest}", int(rest))
-
-
-@dataclass(frozen=True)
-class Clear(Act):
-    """No atoms are left in an area."""
-
-    kind: ClassVar[str] = "clear"
-    area: Area
-
-    def applied(self, atoms: Sequence[str]) -> list[str]:
-        """The atoms outside the area."""
-        sites = self.area.sites()
-        return [line for line in atoms if site_of(line) not in sites]
-
-
-@dataclass(frozen=True)
-class Put(Act):
-    """Each site of an area has an atom, whatever it had before."""
-
-    kind: ClassVar[str] = "put"
-    area: Area
-    atom: str  # NAME STATE
+    every: list[Act] = field(default_factory=list)
+    by_leg: dict[int, list[Act]] = field(default_factory=dict)
 
     @staticmethod
-    def read(leg: int, rest: str, world: World, layout: Layout) -> "Put":
-        """What stands behind LEG:put:."""
+    def of(acts: Iterable[Act]) -> "Acts":
+        """Acts in their order."""
+        found = Acts()
+        for act in acts:
+            found.add(act)
+        return found
+
+    def add(self, act: Act) -> None:
+        """Adds an act behind the others."""
+        (self.every if act.is_every else self.by_leg.setdefault(act.leg, [])).append(act)
+
+    def attempts(self, leg: int) -> int | None:
+        """How many attempts each tile makes in a leg, if an act says so."""
+        said = [act.attempts for act in self.by_leg.get(leg, ()) if act.attempts is not None]
+        return said[-1] if said else None
+
+    def before(self, leg: int) -> list[Act]:
+        """What is done to the atoms before a leg, in this order."""
+        every = [act for act in self.every if leg % act.leg == 0]
+        return every + [act for act in self.by_leg.get(leg, ()) if act.attempts is None]
+
+    def lines(self, first: int, last: int) -> str:
+        """The lines of a chain file for the legs from the first to the last."""
+        every = [f"every {act.leg} {line}\n" for act in self.every for line in act.lines]
+        legs = sorted(leg for leg in self.by_leg if first <= leg <= last) if last > first else [first]
+        own = [f"act {leg} {line}\n" for leg in legs for act in self.by_leg.get(leg, ()) for line in act.lines]
+        return "".join([*every, *own])
+
+
+def attempts_of(text: str, world: World) -> int:
+    """How many attempts each tile makes."""
+    most = MOST_ATTEMPTS // max(world.tiles - len(world.off), 1)
+    if not re.fullmatch(r"0|[1-9]\d{0,6}", text, re.ASCII) or int(text) > most:
+        raise LabError(f"a tile of this world makes from 0 to {most} attempts")
+    return int(text)
+
+
+def lines_of(kind: str, rest: str, world: World, layout: Layout) -> tuple[str, ...]:
+    """The lines of a chain file that an act on atoms stands for, one for each rectangle."""
+    if kind == "put":
         parts = rest.split(":")
         if not 2 <= len(parts) <= 3:
             raise LabError(USAGE)
         element, *values, where = parts
-        area = Area.of(where, world)
-        off = {world.tile_at(x, y) for x, y in area.sites()} & set(world.off)
-        if off:
-            raise LabError(f"tile {min(off)} is off, so it has no atoms")
         state = state_of(layout, element, values[0] if values else "")
-        return Put(leg, f"{leg}:put:{rest}", area, f"{element} {state:018x}")
-
-    def applied(self, atoms: Sequence[str]) -> list[str]:
-        """The atoms outside the area, and those put there, in their rows."""
-        sites = self.area.sites()
-        found = [line for line in atoms if site_of(line) not in sites]
-        return sorted([*found, *(f"{x} {y} {self.atom}" for x, y in sites)], key=row_order)
-
-
-@dataclass(frozen=True)
-class Damage(Act):
-    """Atoms of an area are hit at random; each that is hit is lost."""
-
-    kind: ClassVar[str] = "erase"
-    area: Area
-    chance: float
-    seed: int
-
-    @staticmethod
-    def read(kind: str, leg: int, rest: str, world: World, layout: Layout, seed: int) -> "Damage":
-        """What stands behind LEG:erase: or LEG:flip:."""
-        seeded = SEEDED.fullmatch(rest)
-        bare, own = (seeded[1], int(seeded[2])) if seeded else (rest, seed)
-        chance, _, where = bare.partition(":")
-        if own >= MODULUS:
-            raise LabError(f"a seed is from 0 to {MODULUS - 1}")
-        if not CHANCE.fullmatch(chance) or float(chance) > 1:
-            raise LabError(f"{chance or 'nothing'} is no probability from 0 to 1, such as 0.25")
-        text, area = f"{leg}:{kind}:{chance}:{where}:seed={own}", Area.of(where, world)
-        if kind == "erase":
-            return Damage(leg, text, area, float(chance), own)
-        return Flip(leg, text, area, float(chance), own, {name: bits_of(layout, name) for name in layout.elements})
-
-    def numbers(self, each: int) -> dict[Site, list[float]]:
-        """The random numbers of the sites that are hit; each site takes so many."""
-        draw = random.Random(f"{self.kind} {self.seed}").random
-        drawn = ((site, [draw() for _ in range(each)]) for site in self.area.in_rows())
-        return {site: numbers for site, numbers in drawn if numbers[0] < self.chance}
-
-    def applied(self, atoms: Sequence[str]) -> list[str]:
-        """The atoms that are not hit."""
-        hit = self.numbers(1)
-        return [line for line in atoms if site_of(line) not in hit]
+        return tuple(f"put {place(it)} {element} {state:018x}" for it in live_area(where, world).rectangles)
+    if kind == "clear":
+        return tuple(f"clear {place(it)}" for it in Area.of(rest, world).rectangles)
+    chance, _, where = rest.partition(":")
+    if not CHANCE.fullmatch(chance):
+        raise LabError(f"{chance or 'nothing'} is no probability from 0 to 1 with at most nine digits behind the point, such as 0.25")
+    return tuple(f"{kind} {chance} {place(it)}" for it in Area.of(where, world).rectangles)
 
 
-@dataclass(frozen=True)
-class Flip(Damage):
-    """Atoms of an area are hit at random; a bit of each that is hit is changed."""
-
-    kind: ClassVar[str] = "flip"
-    bits: dict[str, list[int]]  # of each element, the bits that its members take
-
-    def applied(self, atoms: Sequence[str]) -> list[str]:
-        """All atoms, with a bit changed in those that are hit."""
-        hit = self.numbers(2)
-        return [self.flipped(line, hit[site_of(line)][1]) if site_of(line) in hit else line for line in atoms]
-
-    def flipped(self, line: str, number: float) -> str:
-        """The atom with the bit changed that a number from 0 up to 1 chooses; an atom without members stays."""
-        x, y, name, state = line.split(" ")
-        bits = self.bits.get(name, [])
-        if not bits:
-            return line
-        bit = bits[int(number * len(bits))]
-        return f"{x} {y} {name} {int(state, 16) ^ 1 << STATE_BITS - 1 - bit:018x}"
+def live_area(text: str, world: World) -> Area:
+    """An area to put atoms on. Refuses one with a site of a tile that is off."""
+    area = Area.of(text, world)
+    off = {world.tile_at(x, y) for x, y in area.sites()} & set(world.off) if world.off else set()
+    if off:
+        raise LabError(f"tile {min(off)} is off, so it has no atoms")
+    return area
 
 
-def site_of(line: str) -> Site:
-    """The site of an atom."""
-    x, y, _ = line.split(" ", 2)
-    return int(x), int(y)
+def place(rectangle: Rectangle) -> str:
+    """A rectangle as a chain file has it."""
+    return f"{rectangle.x} {rectangle.y} {rectangle.width} {rectangle.height}"
 
 
-def row_order(line: str) -> tuple[int, int]:
-    """Where an atom comes among others: by its row, then by its column."""
-    x, y = site_of(line)
-    return y, x
+def noise(chance: str, world: World) -> str:
+    """The act that changes bits all over the plane before each leg, as --at has it."""
+    return f"every:1:flip:{chance}:0,0,{world.columns},{world.rows}"
 
 
-def bits_of(layout: Layout, element: str) -> list[int]:
-    """The bits that the data members of an element take, counted from the first of the state."""
-    return [bit for leaf in layout.numbers(element) for bit in range(leaf.first, leaf.first + leaf.width)]
+def legs_named(texts: Sequence[str]) -> list[int]:
+    """The legs of acts on record that are of a single leg each, and change atoms."""
+    return [int(text.partition(":")[0]) for text in texts if not text.startswith("every:") and ":attempts:" not in text]
 
 
 def shown(text: str) -> str:

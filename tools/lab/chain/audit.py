@@ -1,118 +1,190 @@
-"""The audit of a chain: of each leg, and of what lies between the legs."""
+"""The audit of a chain: by the program, in parts that are audited side by side, and of what the lab wrote of each leg.
+
+A chain that is cut behind a leg is two: the second one begins with the atoms that this leg left. If the program says `yes` of
+both, and the atoms are those of the first one's report, it would of the whole (docs/chains.md, "A chain in parts").
+"""
+import os
+import re
 import tempfile
 from collections.abc import Iterator, Sequence
-from dataclasses import dataclass, replace
+from concurrent.futures import ThreadPoolExecutor
+from dataclasses import dataclass, field
 from pathlib import Path
+from threading import Lock
 
 from ..base.errors import LabError
 from ..base.files import read_text, write_new
 from ..base.program import Program, Refusal
 from ..base.progress import Progress
-from ..formats.kept import AnotherReport, read_report
-from ..formats.layout import Layout
-from ..formats.outcome import Outcome, counts
-from ..formats.world import World
-from ..machine.finder import Finder
+from ..formats.leg_report import LegReport
+from ..formats.outcome import atom_lines, counts
 from ..machine.windows import Disagreement
-from ..measure.measures import Measure, measured, measures_of
-from ..worlds.starting import drawn_world, first_atoms
-from .folder import Begun, Course, Folder, Leg
-from .rule import NO_DRIFT, ChainRule, by_legs
+from ..measure.measures import measured
+from ..worlds.starting import first_atoms
+from .course import Course, Leg
+from .folder import Folder
+from .legs import LegMaker
+from .packed_legs import PackedLegs
+from .rule import NO_DRIFT
+from .start import chain_of
+
+LARGEST = 1 << 24  # bytes of the reports of a part, unless a pack has more
+PARTS = 4  # for each process there are so many parts at least, if the chain has as many packs
+FAULT = re.compile(r"no leg (\d+) (.*)", re.ASCII)
+PLACE = re.compile(r".*?:(\d+):\d+: ", re.ASCII)
 
 
-def first_fault(folder: Folder, leg: int | None, progress: Progress) -> str | None:
-    """What is wrong first with a chain, or with a leg of it; None if it is what it says."""
+@dataclass(frozen=True)
+class Part:
+    """Legs that are audited together, from the first to the last, with their reports; the atoms are those with which the
+    first one's acts begin."""
+
+    first: int
+    last: int
+    atoms: Sequence[str]
+    reports: dict[int, LegReport]
+
+    def leg_at(self, line: int) -> int:
+        """The leg in whose report a line is."""
+        for leg, report in self.reports.items():
+            line -= report.data.count(b"\n")
+            if line <= 0:
+                return leg
+        return self.last
+
+
+def processors() -> int:
+    """How many processes work side by side, if nothing else is said."""
+    return len(os.sched_getaffinity(0))
+
+
+def first_fault(folder: Folder, leg: int | None, progress: Progress, jobs: int, program: Program | None = None) -> str | None:
+    """What is wrong first with a chain, or with a leg of it; None if it is what it says. So many parts are audited side by side,
+    by the program that `./lab` would call if none is named."""
     begun = folder.begun()
-    if begun.keep != "reports":
+    refuse_without_reports(folder)
+    changed = folder.changed(begun)
+    if changed is not None:
+        return f"start: {changed.name} is not as it was when the chain was begun"
+    chain = AuditedChain.of(program or Program.find(), folder)
+    if leg is None:
+        return next(chain.faults(jobs, progress), None)
+    if not 0 <= leg <= chain.packs.done:
+        raise LabError(f"{folder.path}: the chain has the legs 0 to {chain.packs.done}, and no leg {leg}")
+    return chain.start_fault() if leg == 0 else chain.fault_of(chain.part(leg, leg))
+
+
+def refuse_without_reports(folder: Folder) -> None:
+    """Refuses a chain that keeps no reports."""
+    if not folder.begun().keeps_reports:
         raise LabError(f"{folder.path}: the chain can't be audited: it was begun without --keep reports")
-    chain = AuditedChain.of(Program.find(), folder, begun)
-    legs = len(chain.course.legs) - 1
-    if leg is not None and not 0 <= leg <= legs:
-        raise LabError(f"{folder.path}: the chain has the legs 0 to {legs}, and no leg {leg}")
-    return next(chain.faults(range(legs + 1) if leg is None else [leg], progress), None)
 
 
 @dataclass(frozen=True)
 class AuditedChain:
     """A chain that is being audited."""
 
-    program: Program
-    folder: Folder
-    begun: Begun
-    rule: ChainRule
+    maker: LegMaker
     course: Course
-    measures: list[Measure]
-    finder: Finder | None
+    packs: PackedLegs
+    finding: Lock = field(default_factory=Lock)  # the maker's finder has one plane, and is asked from several threads
 
     @staticmethod
-    def of(program: Program, folder: Folder, begun: Begun) -> "AuditedChain":
+    def of(program: Program, folder: Folder) -> "AuditedChain":
         """The chain of a folder."""
-        world = drawn_world(folder.start)
-        layout = Layout.of(program, folder.files)
-        rule = ChainRule(world, begun.seed, begun.step, by_legs(folder.acts(begun, world, layout)))
-        course = folder.course(layout.elements, world.sites)
-        finder = Finder(program, folder.files, world) if course.has_failures else None
-        return AuditedChain(program, folder, begun, rule, course, measures_of(course.measures, layout), finder)
+        maker, course = chain_of(program, folder)
+        return AuditedChain(maker, course, folder.packed(maker.begun))
 
-    def faults(self, legs: Sequence[int], progress: Progress) -> Iterator[str]:
-        """What is wrong with these legs of the chain, leg by leg; 0 is the start."""
-        changed = self.folder.changed(self.begun)
-        if changed is not None:
-            yield f"start: {changed.name} is not as it was when the chain was begun"
-        progress.begin(len(legs))
-        for done, number in enumerate(legs):
-            progress.at(done, f"leg {number} of {len(self.course.legs) - 1}")
-            yield from self.leg_faults(number) if number else self.start_faults()
+    def faults(self, jobs: int, progress: Progress) -> Iterator[str]:
+        """What is wrong with the chain, part by part in their order; so many are audited side by side."""
+        start = self.start_fault()
+        if start is not None:
+            yield start
+        spans = self.spans(jobs)
+        progress.begin(self.packs.done)
+        pool = ThreadPoolExecutor(jobs)
+        try:
+            for (first, last), fault in zip(spans, pool.map(lambda span: self.fault_of(self.part(*span)), spans), strict=True):
+                if fault is not None:
+                    yield fault
+                progress.at(last, f"leg {last} of {self.packs.done}")
+        finally:
+            pool.shutdown(cancel_futures=True)
         progress.end()
 
-    def start_faults(self) -> Iterator[str]:
-        """What is wrong with the start."""
-        atoms = first_atoms(self.program, self.folder.start, self.folder.files)
-        leg = Leg(0, 0, 0, 0, counts(atoms, self.course.elements), failed=0 if self.finder else None,
-                  drift=NO_DRIFT if self.course.has_drift else None)
-        yield from self.leaves(leg, atoms)
+    def spans(self, jobs: int) -> list[tuple[int, int]]:
+        """The parts, each by its first leg and its last: packs that follow one another, up to so many bytes."""
+        most = min(sum(pack.size for pack in self.packs.packs) // (PARTS * jobs) + 1, LARGEST)
+        found: list[tuple[int, int]] = []
+        size = most
+        for pack in self.packs.packs:
+            if size + pack.size > most:
+                found.append((pack.before + 1, pack.last))
+                size = pack.size
+            else:
+                found[-1] = (found[-1][0], pack.last)
+                size += pack.size
+        return found
 
-    def leg_faults(self, number: int) -> Iterator[str]:
-        """What is wrong with a leg, if the files of what the leg before left are right."""
-        if read_text(self.folder.world(number)) != self.rule.leg(number, read_text(self.folder.atoms(number - 1))):
-            yield f"leg {number}: its world does not begin with what leg {number - 1} left"
-        try:
-            report = read_report(self.folder.report(number))
-        except AnotherReport as fault:
-            yield f"leg {number}: {fault}"
-            return
-        yield from self.verdict(number, report)
-        outcome = Outcome.of(report)
-        left = counts(outcome.atoms, self.course.elements)
-        leg = Leg(number, self.rule.attempts(number), outcome.events, outcome.abandoned, left,
-                  drift=self.rule.drift(number, report) if self.course.has_drift else None)
-        try:
-            yield from self.leaves(replace(leg, failed=self.failed(number, report)), outcome.atoms)
-        except Disagreement as fault:
-            yield f"leg {number}: {fault}"
+    def part(self, first: int, last: int) -> Part:
+        """The legs from the first to the last."""
+        folder, packs = self.maker.folder, self.packs
+        atoms = packs.report(first - 1).atoms if first > 1 else read_text(folder.atoms_file(0))
+        reports: dict[int, LegReport] = {}
+        for pack in packs.packs:
+            if pack.before < last and pack.last >= first:
+                reports |= {leg: report for leg, report in packs.legs(pack).items() if first <= leg <= last}
+        return Part(first, last, atom_lines(atoms), reports)
 
-    def failed(self, number: int, report: bytes) -> int | None:
-        """How many events of a leg failed, if the course has a column of them."""
-        if self.finder is None:
-            return None
-        return self.finder.failed([atom.text() for atom in World.read(self.folder.world(number)).atoms], report).total()
+    def fault_of(self, part: Part) -> str | None:
+        """What is wrong first with a part, if the atoms with which it begins are right."""
+        leg, told = self.verdict(part)
+        before = part.atoms
+        for number, report in part.reports.items():
+            if leg is not None and number >= leg:
+                break
+            fault = self.row_fault(number, before, report)
+            if fault is not None:
+                return fault
+            before = atom_lines(report.atoms) if self.maker.finder is not None else before
+        return None if leg is None else f"leg {leg}: {told}"
 
-    def verdict(self, number: int, report: bytes) -> Iterator[str]:
-        """What the program's audit of a leg finds wrong."""
-        with tempfile.TemporaryDirectory() as room:
-            unpacked = Path(room) / "report"
-            write_new(unpacked, report)
+    def verdict(self, part: Part) -> tuple[int | None, str]:
+        """The first leg that the program's audit finds at fault, and what it says."""
+        maker = self.maker
+        with tempfile.TemporaryDirectory(prefix="feast-audit-") as room:
+            chain, report = Path(room) / "chain", Path(room) / "report"
+            write_new(chain, maker.rule.part(part.first, part.last, part.atoms))
+            write_new(report, b"".join(it.data for it in part.reports.values()))
             try:
-                answer = self.program.call(["audit", self.folder.world(number), unpacked, *self.folder.files])
-                verdict = answer.text.strip()
+                answer = maker.program.call(["audit", chain, report, *maker.folder.files]).text.strip()
             except Refusal as refusal:
-                verdict = str(refusal)
-        if verdict != "yes":
-            yield f"leg {number}: the audit of its report: {verdict}"
+                said = str(refusal).removeprefix(str(report))
+                place = PLACE.match(said)
+                if place is None:
+                    raise
+                return part.leg_at(int(place[1])), f"its report: {said[place.end():]}"
+        fault = FAULT.fullmatch(answer)
+        if fault is None and answer != "yes":
+            raise LabError(f"{maker.program.path}: it said of an audit: {answer[:80]}")
+        return (None, "") if fault is None else (int(fault[1]), f"the audit of its report: no {fault[2]}")
 
-    def leaves(self, leg: Leg, atoms: str) -> Iterator[str]:
-        """What is wrong with the files of what a leg left."""
-        if read_text(self.folder.atoms(leg.number)) != atoms:
-            yield f"leg {leg.number}: {self.folder.atoms(leg.number).name} has other atoms than it left"
-        if self.course.legs[leg.number] != replace(leg, measured=measured(self.measures, atoms)):
-            yield f"leg {leg.number}: its row in the course is another"
+    def start_fault(self) -> str | None:
+        """What is wrong with the start."""
+        folder, course = self.maker.folder, self.course
+        atoms = first_atoms(self.maker.program, folder.start, folder.files)
+        if read_text(folder.atoms_file(0)) != atoms:
+            return f"leg 0: {folder.atoms_file(0).name} has other atoms than it left"
+        row = Leg(0, 0, 0, 0, counts(atoms, course.elements), measured(self.maker.measures, atoms),
+                  0 if course.has_failures else None, NO_DRIFT if course.has_drift else None)
+        return None if course.legs[0] == row else "leg 0: its row in the course is another"
+
+    def row_fault(self, number: int, before: Sequence[str], report: LegReport) -> str | None:
+        """What is wrong with what the lab wrote of a leg, whose report is right. `before` are the atoms that the leg before left."""
+        try:
+            with self.finding:
+                failed = self.maker.failed(number, before, report)
+        except Disagreement as fault:
+            return f"leg {number}: {fault}"
+        row = self.maker.row(number, report, failed)
+        return None if self.course.legs[number] == row else f"leg {number}: its row in the course is another"

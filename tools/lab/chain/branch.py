@@ -5,11 +5,10 @@ from pathlib import Path
 from ..base.errors import LabError
 from ..base.program import Program
 from ..formats.layout import Layout
-from ..formats.world import World
 from .copies import copy_chain
 from .folder import Begun, Folder
 from .making import WantedChain
-from .start import acts_of
+from .start import Options, acts_of
 
 
 @dataclass(frozen=True)
@@ -36,19 +35,20 @@ class Origin:
         kept, and the acts before the legs that are copied.
         """
         old, begun = self.folder, self.begun
-        world, layout = World.read(old.start), Layout.of(Program.find(), old.files)
-        course = old.course(layout.elements, world.sites)
+        world, layout = old.world, Layout.of(Program.find(), old.files)
+        course = old.course(old.packed(begun).done, layout.elements, world.sites)
         if not last.isdecimal() or int(last) >= len(course.legs):
             raise LabError(f"--from {old.path} {last}: the chain has the legs 0 to {len(course.legs) - 1}, and no leg {last}")
-        new = acts_of(wanted.at, world, layout, begun.seed)
+        new = acts_of(wanted.options.at, world, layout)
         for act in new:
-            if act.leg <= int(last):
+            if int(last) > 0 and (act.is_every or act.leg <= int(last)):
                 raise LabError(f"--at {act.text}: the branch begins behind leg {last}")
-        acts = [*(act for act in old.act_texts(begun) if leg_before(act) <= int(last)), *(act.text for act in new)]
+        acts = [*(act for act in old.act_texts() if is_before(act, int(last))), *(act.text for act in new)]
         copy_chain(old, Folder(wanted.folder, is_lasting=True), begun, course, int(last), acts)
-        return replace(wanted, world=old.start, files=old.files, at=acts, step=begun.step, seed=begun.seed, keep=begun.keep)
+        options = Options(begun.step, begun.seed, begun.keep, begun.atoms, acts)
+        return replace(wanted, world=old.start, files=old.files, options=options)
 
 
-def leg_before(act: str) -> int:
-    """The leg before which an act on record is done."""
-    return int(act.partition(":")[0])
+def is_before(act: str, last: int) -> bool:
+    """Whether an act on record is of a leg up to the last, or of many."""
+    return act.startswith("every:") or int(act.partition(":")[0]) <= last

@@ -1,16 +1,15 @@
 """What the course of a chain is asked for beside the atoms: what is measured of them, how many events failed, and the drift."""
-from collections.abc import Sequence
+from collections.abc import Iterator, Sequence
 from dataclasses import replace
 
 from ..base.errors import LabError
-from ..base.files import read_text
 from ..base.progress import Progress
-from ..formats.kept import read_report
 from ..formats.layout import Layout
-from ..formats.world import World
+from ..formats.leg_report import LegReport
+from ..formats.outcome import atom_lines
 from ..machine.finder import Finder
 from ..measure.measures import measured, measures_of
-from .folder import Course
+from .course import Course
 from .legs import LegMaker
 from .rule import NO_DRIFT
 
@@ -20,9 +19,12 @@ def with_measures(maker: LegMaker, course: Course, names: Sequence[str]) -> LegM
     columns = list(dict.fromkeys([*course.measures, *names]))
     measures = measures_of(columns, maker.layout)
     if course.measures != columns:
+        if maker.begun.every > 1 and len(course.legs) > 1:
+            raise LabError(f"{maker.folder.path}: --{next(name for name in columns if name not in course.measures)}: it takes the atoms "
+                           f"at the end of each leg that is done, and the chain keeps those of every {maker.begun.every}th alone")
+        atoms = [maker.folder.atoms(0, maker.begun), *(report.atoms for _, report in reports(maker, Progress(), ""))]
+        course.legs = [replace(leg, measured=measured(measures, text)) for leg, text in zip(course.legs, atoms, strict=True)]
         course.measures = columns
-        course.legs = [replace(leg, measured=measured(measures, read_text(maker.folder.atoms(leg.number)))) for leg in course.legs]
-        course.changed()
         maker.folder.write_course(course)
     return replace(maker, measures=measures)
 
@@ -31,47 +33,46 @@ def with_drift(maker: LegMaker, course: Course, progress: Progress) -> LegMaker:
     """The chain with a column of how far the tiles were apart; of the legs that are done it is found in their reports."""
     if course.has_drift:
         return maker
-    legs = reported_legs(maker, course, "drift")
-    progress.begin(legs)
-    found = [NO_DRIFT]
-    for leg in range(1, legs + 1):
-        progress.at(leg - 1, f"drift of leg {leg} of {legs}")
-        found.append(maker.rule.drift(leg, read_report(maker.folder.report(leg))))
-    progress.end()
+    refuse_without_reports(maker, course, "drift")
+    found = [NO_DRIFT, *(maker.rule.drift(leg, report) for leg, report in reports(maker, progress, "drift"))]
     course.legs = [replace(leg, drift=drift) for leg, drift in zip(course.legs, found, strict=True)]
     course.has_drift = True
-    course.changed()
     maker.folder.write_course(course)
     return replace(maker, has_drift=True)
-
-
-def reported_legs(maker: LegMaker, course: Course, option: str) -> int:
-    """How many legs are done, whose reports an option takes; refuses it if there are some and the chain keeps no reports."""
-    legs = len(course.legs) - 1
-    if legs and maker.begun.keep != "reports":
-        raise LabError(f"{maker.folder.path}: --{option} takes the reports of the legs that are done, and the chain keeps none; "
-                       "begin another one with it")
-    return legs
 
 
 def with_failures(maker: LegMaker, course: Course, progress: Progress) -> LegMaker:
     """The chain with a column of the events that failed; of the legs that are done they are found in their reports."""
     if course.has_failures:
         return maker
-    legs = reported_legs(maker, course, "failures")
-    finder = Finder(maker.program, maker.folder.files, maker.rule.world)
-    progress.begin(legs)
-    found = [0]
-    for leg in range(1, legs + 1):
-        progress.at(leg - 1, f"failed events of leg {leg} of {legs}")
-        atoms = [atom.text() for atom in World.read(maker.folder.world(leg)).atoms]
-        found.append(finder.failed(atoms, read_report(maker.folder.report(leg))).total())
-    progress.end()
+    refuse_without_reports(maker, course, "failures")
+    finding = replace(maker, finder=Finder(maker.program, maker.folder.files, maker.rule.world))
+    before, found = atom_lines(maker.folder.atoms(0, maker.begun)), [0]
+    for leg, report in reports(maker, progress, "failed events"):
+        failed = finding.failed(leg, before, report)
+        found.append(failed.total() if failed is not None else 0)
+        before = atom_lines(report.atoms)
     course.legs = [replace(leg, failed=failed) for leg, failed in zip(course.legs, found, strict=True)]
     course.has_failures = True
-    course.changed()
     maker.folder.write_course(course)
-    return replace(maker, finder=finder)
+    return finding
+
+
+def reports(maker: LegMaker, progress: Progress, what: str) -> Iterator[tuple[int, LegReport]]:
+    """The reports of the legs that are done, of a chain that keeps each in some form."""
+    packs = maker.folder.packed(maker.begun)
+    progress.begin(packs.done)
+    for leg, report in packs.all():
+        progress.at(leg - 1, f"{what} of leg {leg} of {packs.done}")
+        yield leg, report
+    progress.end()
+
+
+def refuse_without_reports(maker: LegMaker, course: Course, option: str) -> None:
+    """Refuses an option that takes the reports of the legs that are done, if there are some and the chain keeps no reports."""
+    if len(course.legs) > 1 and not maker.begun.keeps_reports:
+        raise LabError(f"{maker.folder.path}: --{option} takes the reports of the legs that are done, and the chain keeps none; "
+                       "begin another one with it")
 
 
 def carried_on(maker: LegMaker, course: Course, before: Course) -> tuple[LegMaker, list[str]]:

@@ -1,147 +1,103 @@
-"""The folder of a chain: what it was begun with, its legs, and its course."""
-import csv
-import io
+"""The folder of a chain: what it was begun with, its acts, its course, and what is kept of its legs.
+
+  chain.json    what the chain was begun with, and digests of the world and the element files
+  start.world, elements/
+                copies of these
+  0000.atoms    the atoms at the start, as `replay` writes them
+  course.csv    a row for each leg
+  legs.gz, legs.index
+                the reports of legs, packed (packed_legs.py); with its line in the index a leg is done
+  NNNN.atoms    the atoms at the end of the last leg that is done, if its report isn't kept
+  acts.txt      what was done before legs, an act in a line
+"""
 import json
 import os
 from collections.abc import Iterable, Iterator, Sequence
 from contextlib import contextmanager
-from dataclasses import asdict, dataclass, field
+from dataclasses import asdict, dataclass
+from functools import cached_property
 from pathlib import Path
 from typing import Any
 
 from ..base.errors import LabError
-from ..base.files import PART, cause, read_rows, read_text
+from ..base.files import PART, append_to, cause, read_text
 from ..base.inputs import Inputs
 from ..base.locks import held
-from ..formats.kept import SUFFIX
 from ..formats.layout import Layout
 from ..formats.world import World
 from .acts import Act
+from .course import COURSE, Course, read_course
+from .packed_legs import INDEX, PACKS, PackedLegs
 
 MANIFEST = "chain.json"
-COURSE = "course.csv"
 ACTS = "acts.txt"
-KINDS = [str, list, bool, int, str, list]
-COLUMNS = ["leg", "attempts", "events", "abandoned", "aeps"]
-FAILED = "failed"  # the column before aeps, if failed events are looked for
-DRIFT = "drift"  # the column behind aeps, if it is looked how far tiles were apart
+FORM = "feast chain 2"
+KINDS = [str, str, list, bool, int, str, int, list]
+REPORTS = "reports"
 
 
 @dataclass(frozen=True)
 class Begun:
-    """What a chain is begun with: it goes on with the same alone. `at` are the acts that were given then."""
+    """What a chain is begun with: it goes on with the same alone.
 
+    `keep` says whether all reports are kept; if not, the atoms of each leg are whose number `atoms` divides. `at` are the
+    acts that were given then.
+    """
+
+    form: str
     world: str
     elements: list[str]
     step: bool
     seed: int
     keep: str
+    atoms: int
     at: list[str]
 
-
-@dataclass(frozen=True)
-class Leg:
-    """A row of the course: a leg, the atoms of each element at its end, and what is measured of them. Leg 0 is the start.
-
-    `failed` is how many of its events failed, and `drift` how far its tiles were apart, if that is looked for.
-    """
-
-    number: int
-    attempts: int
-    events: int
-    abandoned: int
-    counts: list[int]
-    measured: list[str] = field(default_factory=list)
-    failed: int | None = None
-    drift: str | None = None
-
-
-@dataclass
-class Course:
-    """The legs so far; `sites` is how many live sites the plane has, `measures` are the columns of what is measured.
-
-    `has_failures` says whether there is a column of the events that failed, `has_drift` whether there is one of the drift.
-    """
-
-    elements: list[str]
-    sites: int
-    legs: list[Leg] = field(default_factory=list)
-    measures: list[str] = field(default_factory=list)
-    has_failures: bool = False
-    has_drift: bool = False
-    rows: list[str] = field(default_factory=list, repr=False)  # the text of the head and of the legs before
-    written_events: int = 0  # how many events these legs have
+    @property
+    def keeps_reports(self) -> bool:
+        """Whether all reports are kept."""
+        return self.keep == REPORTS
 
     @property
-    def events(self) -> int:
-        """How many events there were in all legs."""
-        return sum(leg.events for leg in self.legs)
-
-    def text(self) -> str:
-        """The course as CSV."""
-        if not self.rows:
-            self.rows.append(row_of(self.head))
-        for leg in self.legs[len(self.rows) - 1:]:
-            self.written_events += leg.events
-            aeps = f"{self.written_events / self.sites:.4f}"
-            failed = [leg.failed] if self.has_failures else []
-            drift = [leg.drift] if self.has_drift else []
-            own = [leg.number, leg.attempts, leg.events, leg.abandoned, *failed, aeps, *drift]
-            self.rows.append(row_of([*own, *leg.counts, *leg.measured]))
-        return "".join(self.rows)
-
-    @property
-    def head(self) -> list[str]:
-        """The columns."""
-        failed = [FAILED] if self.has_failures else []
-        drift = [DRIFT] if self.has_drift else []
-        return [*COLUMNS[:-1], *failed, COLUMNS[-1], *drift, *self.elements, *self.measures]
-
-    def changed(self) -> None:
-        """Has the text made anew, since there are other columns."""
-        self.rows.clear()
-        self.written_events = 0
-
-    def upto(self, leg: int) -> "Course":
-        """The course up to a leg."""
-        return Course(self.elements, self.sites, self.legs[:leg + 1], self.measures, self.has_failures, self.has_drift)
-
-    def summary(self, path: Path) -> str:
-        """What the chain has come to, in a line."""
-        return f"{path}: {len(self.legs) - 1} legs, {self.events} events, {self.events / self.sites:.4f} a site"
+    def every(self) -> int:
+        """Of which legs something is kept: of each whose number this divides."""
+        return 1 if self.keeps_reports else self.atoms
 
 
 @dataclass(frozen=True)
 class Folder(Inputs):
     """The folder of a chain."""
 
-    def world(self, leg: int) -> Path:
-        """The world of a leg."""
-        return self.path / f"{leg:04}.world"
+    @cached_property
+    def world(self) -> World:
+        """The world with which it was begun."""
+        return World.read(self.start)
 
-    def atoms(self, leg: int) -> Path:
-        """The atoms at the end of a leg; those of leg 0 are the ones at the start."""
+    def atoms_file(self, leg: int) -> Path:
+        """The file of the atoms at the end of a leg, if there is one."""
         return self.path / f"{leg:04}.atoms"
 
-    def report(self, leg: int) -> Path:
-        """The report of a leg, if reports are kept: in short, or packed by gzip as a whole, or not packed yet."""
-        return next((path for path in (self.kept(leg), self.packed(leg), self.raw(leg)) if path.exists()), self.kept(leg))
+    @property
+    def course_file(self) -> Path:
+        """The file of the course."""
+        return self.path / COURSE
+
+    def packed(self, begun: Begun) -> PackedLegs:
+        """What is kept of the legs that are done."""
+        return PackedLegs.of(self.path, begun.every, self.world.columns * self.world.rows)
 
     def done(self) -> int:
-        """How many legs are done, if the course is as the lab writes it; the audit judges the rest of it."""
-        return max(len(read_text(self.path / COURSE).splitlines()) - 2, 0)
+        """How many legs are done."""
+        return self.packed(self.begun()).done
 
-    def kept(self, leg: int) -> Path:
-        """The report of a leg without what follows from its world."""
-        return self.path / f"{leg:04}{SUFFIX}"
-
-    def packed(self, leg: int) -> Path:
-        """The whole report of a leg, packed by gzip."""
-        return self.path / f"{leg:04}.report.gz"
-
-    def raw(self, leg: int) -> Path:
-        """The report of a leg as the program wrote it, until it is packed."""
-        return self.path / f"{leg:04}.report"
+    def atoms(self, leg: int, begun: Begun) -> str:
+        """The atoms at the end of a leg, as `replay` writes them; those of leg 0 are the ones at the start."""
+        packed = self.packed(begun)
+        if leg > 0 and packed.keeps(leg):
+            return packed.report(leg).atoms
+        if leg > 0 and leg != packed.done:
+            raise LabError(f"{self.path}: the atoms of leg {leg} aren't kept, but those of each leg that {begun.atoms} divides")
+        return read_text(self.atoms_file(leg))
 
     def changed(self, begun: Begun) -> Path | None:
         """The first copy that is not as it was when the chain was begun."""
@@ -172,38 +128,47 @@ class Folder(Inputs):
         if names and not self.is_begun and not self.coming.exists():
             raise LabError(f"{self.path}: no chain was begun there, and it has other files, such as {min(names)}")
 
-    def begin(self, begun: Begun, world: Path, files: Sequence[Path], atoms: str, course: Course) -> None:
-        """Begins a chain in an empty folder, or in one where a beginning was stopped."""
+    def begin(self, begun: Begun, world: Path, files: Sequence[Path], atoms: str, course: Course, packs: PackedLegs | None = None) -> None:
+        """Begins a chain in an empty folder, or in one where a beginning was stopped.
+
+        With packs, whose file is written already, it begins with the legs of another.
+        """
         self.write(self.coming, json.dumps(asdict(begun), indent=2) + "\n")
-        (self.path / ACTS).unlink(missing_ok=True)
         self.copy_in(world, files)
-        self.write(self.atoms(0), atoms)
-        if begun.at:
-            self.write_acts(begun.at)
-        self.write_course(course)
+        self.write(self.atoms_file(0), atoms)
+        if packs is None:
+            self.write(self.path / PACKS, b"")
+        self.write(self.path / INDEX, packs.text() if packs is not None else "")
+        self.write(self.path / ACTS, "".join(f"{text}\n" for text in begun.at))
+        self.write(self.course_file, course.text())
         self.settle(self.copies)
         os.replace(self.coming, self.manifest)
         self.settle()
 
-    def act_texts(self, begun: Begun) -> list[str]:
-        """The acts on record, in their order; if there is no record, those with which the chain was begun."""
-        record = self.path / ACTS
-        return read_text(record).splitlines() if record.exists() else begun.at
+    def act_texts(self) -> list[str]:
+        """The acts on record, in their order, without what a kill cut short."""
+        return read_text(self.path / ACTS).rpartition("\n")[0].splitlines()
 
-    def acts(self, begun: Begun, world: World, layout: Layout) -> list[Act]:
+    def acts(self, world: World, layout: Layout) -> list[Act]:
         """The acts on record, each read."""
         record = self.path / ACTS
         found = []
-        for number, text in enumerate(self.act_texts(begun), 1):
+        for number, text in enumerate(self.act_texts(), 1):
             try:
-                found.append(Act.of(text, world, layout, begun.seed))
+                found.append(Act.of(text, world, layout))
             except LabError as error:
                 raise LabError(f"{record}:{number}: {error}") from error
         return found
 
-    def write_acts(self, texts: Iterable[str]) -> None:
-        """Writes the record of the acts, one in a line."""
-        self.write(self.path / ACTS, "".join(f"{text}\n" for text in texts))
+    def add_acts(self, texts: Iterable[str]) -> None:
+        """Puts acts on record behind the others."""
+        append_to(self.path / ACTS, "".join(f"{text}\n" for text in texts).encode(), self.is_lasting)
+
+    def take_back(self, text: str) -> None:
+        """Takes the last act of this text from the record."""
+        texts = self.act_texts()
+        del texts[len(texts) - 1 - texts[::-1].index(text)]
+        self.write(self.path / ACTS, "".join(f"{it}\n" for it in texts))
 
     @contextmanager
     def held(self) -> Iterator[None]:
@@ -218,58 +183,28 @@ class Folder(Inputs):
             raise LabError(f"{self.path}: no chain was begun there: it has no file {MANIFEST}")
         try:
             found: Any = json.loads(read_text(path))
-            begun = Begun(**found)
-        except (ValueError, TypeError, RecursionError) as error:
+            form = found.get("form", "feast chain 1") if "seed" in found else None
+        except (ValueError, TypeError, AttributeError, RecursionError) as error:
             raise LabError(f"{path}: no manifest of a chain") from error
-        if json.dumps(found, indent=2) + "\n" != read_text(path) or list(map(type, found.values())) != KINDS:
+        if form not in (FORM, None):
+            raise LabError(f"{path}: the chain has the form {form!r}, which this lab doesn't read: it makes and reads the form "
+                           f"{FORM!r}; make the chain again, in another folder")
+        try:
+            begun = Begun(**found)
+        except TypeError as error:
+            raise LabError(f"{path}: no manifest of a chain") from error
+        if json.dumps(found, indent=2) + "\n" != read_text(path) or list(map(type, found.values())) != KINDS or begun.atoms < 1:
             raise LabError(f"{path}: not as the lab wrote it")
         return begun
 
+    def course(self, legs: int, elements: list[str], sites: int) -> Course:
+        """The legs that are done, of which there are so many."""
+        return read_course(self.course_file, legs, elements, sites)
+
     def write_course(self, course: Course) -> None:
-        """Writes the course; with its row a leg is done. What the leg has is on the disk before, if the folder is lasting."""
+        """Writes the course anew, since it has other columns."""
+        self.write(self.course_file, course.text())
         self.settle()
-        self.write(self.path / COURSE, course.text())
-        self.settle()
-
-    def course(self, elements: list[str], sites: int) -> Course:
-        """The legs that are done."""
-        path = self.path / COURSE
-        header, *rows = read_rows(path)
-        has_failures = FAILED in header[:len(COLUMNS)]
-        has_drift = header[len(COLUMNS) + has_failures:][:1] == [DRIFT]
-        course = Course(elements, sites, has_failures=has_failures, has_drift=has_drift)
-        first = len(course.head)
-        if header[:first] != course.head:
-            raise LabError(f"{path}:1: its columns are not those of this chain")
-        course.measures = header[first:]
-        for number, row in enumerate(rows):
-            course.legs.append(leg_of(row, number, course, path))
-        if not rows or course.text() != read_text(path):
-            raise LabError(f"{path}: not as the lab wrote it; take back what was changed")
-        return course
-
-
-def row_of(cells: Sequence[object]) -> str:
-    """A row of CSV."""
-    text = io.StringIO()
-    csv.writer(text, lineterminator="\n").writerow(cells)
-    return text.getvalue()
-
-
-def leg_of(row: list[str], number: int, course: Course, path: Path) -> Leg:
-    """The leg of a row."""
-    before = len(COLUMNS) - 1 + course.has_failures
-    behind = before + 1 + course.has_drift
-    first = behind + len(course.elements)
-    try:
-        leg, attempts, events, abandoned, *failed = map(int, row[:before])
-        counts = list(map(int, row[behind:first]))
-    except ValueError as error:
-        raise LabError(f"{path}:{number + 2}: no row of a course") from error
-    if leg != number or len(row) != len(course.head):
-        raise LabError(f"{path}:{number + 2}: the row of leg {number} should stand here")
-    return Leg(leg, attempts, events, abandoned, counts, row[first:], failed[0] if failed else None,
-               row[before + 1] if course.has_drift else None)
 
 
 def refuse_other(folder: Folder, was: Begun, now: Begun, world: Path) -> None:
@@ -281,7 +216,7 @@ def refuse_other(folder: Folder, was: Begun, now: Begun, world: Path) -> None:
         raise LabError(f"{folder.path}: the chain was begun with another world than {world}; its own is {folder.start}")
     if was.elements != now.elements:
         raise LabError(f"{folder.path}: the chain was begun with other elements; its own are in {folder.copies}")
-    for option in ("step", "seed", "keep"):
+    for option in ("step", "seed", "keep", "atoms"):
         old, new = getattr(was, option), getattr(now, option)
         if old != new:
             raise LabError(f"{folder.path}: {other_option(option, old, new)}, or name another folder")

@@ -8,12 +8,13 @@ from pathlib import Path
 from ..base.errors import LabError
 from ..base.files import write_new
 from ..base.program import Program
-from ..base.seeds import nth
 from ..formats.layout import Layout
+from .branch import is_before
 from .copies import copy_chain
-from .folder import Begun, Course, Folder
+from .course import Course
+from .folder import Begun, Folder
 from .legs import LegMaker
-from .start import Start
+from .start import Options, Start
 
 
 def free_folder(beside: Path, word: str) -> Path:
@@ -27,7 +28,7 @@ def free_folder(beside: Path, word: str) -> Path:
 
 def fork(folder: Folder, begun: Begun, course: Course, acts: Sequence[str], leg: int, to: Path) -> None:
     """Copies a chain up to a leg that is done, with the acts before it and the leg behind it, into a new folder."""
-    copy_chain(folder, Folder(to), begun, course, leg, [text for text in acts if int(text.partition(":")[0]) <= leg + 1])
+    copy_chain(folder, Folder(to), begun, course, leg, [text for text in acts if is_before(text, leg + 1)])
 
 
 @contextmanager
@@ -39,10 +40,9 @@ def anew(program: Program, maker: LegMaker, number: int, atoms: Sequence[str], f
     lost = {line.split(" ")[2] for line in atoms} - set(Layout.of(program, files).elements)
     if lost:
         raise LabError(f"the plane has atoms of {min(lost)}, which no file has as an element now")
-    world = maker.rule.world
-    seed = nth(maker.begun.seed, world.tiles, number - 1)
-    front = replace(world, seed=seed, atoms=[], order=[]).front()
+    front = replace(maker.rule.world, seed=maker.rule.seed_of(number), atoms=[], order=[]).front()
     with tempfile.TemporaryDirectory() as room:
         path = Path(room) / "plane"
         write_new(path, front + "".join(f"atom {line}\n" for line in atoms))
-        yield Start.of(program, path, files, maker.begun.step, None, maker.begun.keep)
+        begun = maker.begun
+        yield Start.of(program, path, files, Options(begun.step, None, begun.keep, begun.atoms))

@@ -1,37 +1,37 @@
 """A chain that is wanted, made leg by leg."""
 from collections.abc import Sequence
-from dataclasses import dataclass
+from dataclasses import dataclass, field
 from pathlib import Path
 
 from ..base.errors import LabError
+from ..base.limits import LAST_LEG
 from ..base.program import Program
 from ..base.progress import Progress, Stop
 from ..formats.layout import Layout
+from ..formats.outcome import atom_lines
 from ..measure.measures import measures_of
 from ..measure.until import LegEnd, Until
 from .columns import with_drift, with_failures, with_measures
-from .folder import Course, Folder
+from .course import Course
+from .folder import Folder
 from .keeper import Keeper
 from .legs import LegMaker
-from .start import Start
+from .start import Options, Start
 
 
 @dataclass(frozen=True)
 class WantedChain:
     """What a chain is to be: its folder, what it begins with, and how many legs it has in all.
 
-    `at` are the acts, as --at has them, `until` is the rule of --until, and `measures` are columns of the course. With
-    `failures` the course has a column of the events that failed, with `drift` one of how far the tiles were apart.
+    `until` is the rule of --until, and `measures` are columns of the course. With `failures` the course has a column of the
+    events that failed, with `drift` one of how far the tiles were apart.
     """
 
     folder: Path
     world: Path
     files: Sequence[Path]
     legs: int
-    step: bool = False
-    seed: int | None = None
-    keep: str = "none"
-    at: Sequence[str] = ()
+    options: Options = field(default_factory=Options)
     until: str | None = None
     measures: Sequence[str] = ()
     failures: bool = False
@@ -41,10 +41,10 @@ class WantedChain:
 def made(wanted: WantedChain, progress: Progress, stop: Stop, is_lasting: bool) -> Course:
     """Begins a chain, or goes on with it, until it has its legs; gives back its course. If it is lasting, what a leg needs
     has come down to the disk before the leg counts as done."""
-    if wanted.legs < 1:
-        raise LabError(f"--legs {wanted.legs}: a chain has at least one leg")
+    if not 1 <= wanted.legs <= LAST_LEG:
+        raise LabError(f"--legs {wanted.legs}: a chain has at least one leg, and at most {LAST_LEG:,}")
     program, folder = Program.find(), Folder(wanted.folder, is_lasting)
-    start = Start.of(program, wanted.world, wanted.files, wanted.step, wanted.seed, wanted.keep, wanted.at)
+    start = Start.of(program, wanted.world, wanted.files, wanted.options)
     layout = Layout.of(program, wanted.files)
     measures_of(wanted.measures, layout)
     until = Until.of(wanted.until, layout) if wanted.until is not None else None
@@ -62,19 +62,19 @@ def made(wanted: WantedChain, progress: Progress, stop: Stop, is_lasting: bool) 
 
 def go(maker: LegMaker, course: Course, legs: int, until: Until | None, progress: Progress, stop: Stop) -> None:
     """Makes the legs that are still to be made, or those up to the first at whose end the rule holds."""
-    progress.begin(legs, len(course.legs) - 1)
-    events = course.events
-    with Keeper(maker.folder, maker.rule.world) as keeper:
-        keeper.keep_all(len(course.legs) - 1)
-        for number in range(len(course.legs), legs + 1):
-            if until is not None and until.holds(LegEnd(maker.folder.atoms(number - 1), events, course.sites)):
+    done = len(course.legs) - 1
+    atoms = maker.folder.atoms(done, maker.begun)
+    if done >= legs or (until is not None and until.holds(LegEnd(atoms, course.events, course.sites))):
+        return
+    progress.begin(legs, done)
+    with Keeper(maker.folder, maker.begun, course) as keeper:
+        before = atom_lines(atoms)
+        for number, report in maker.made(done + 1, legs, before):
+            failed = maker.failed(number, before, report)
+            keeper.keep(maker.row(number, report, failed), report)
+            if until is not None and until.holds(LegEnd(report.atoms, course.events, course.sites)):
                 break
             stop.heed()
-            progress.at(number - 1, f"leg {number} of {legs}")
-            atoms = maker.atoms_before(number)
-            report = maker.report(number, atoms)
-            course.legs.append(maker.written(number, report, maker.failed(atoms, report)))
-            events += course.legs[-1].events
-            maker.folder.write_course(course)
-            keeper.keep(number)
+            progress.at(number, f"leg {number} of {legs}")
+            before = atom_lines(report.atoms) if maker.finder is not None else before
     progress.end()

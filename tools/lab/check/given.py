@@ -1,11 +1,12 @@
 """The files that a check is given, each for what it is."""
+import os
 import tempfile
 from collections.abc import Sequence
 from dataclasses import dataclass
 from pathlib import Path
 
 from ..base.errors import LabError
-from ..base.program import Program
+from ..base.program import Program, Refusal
 from ..ulam.tokens import Source
 from ..worlds.starting import first_atoms
 from .fault import RefusalLine
@@ -55,16 +56,36 @@ class Given:
                 program.call(["steppack", world, self.code.name])
         elif self.world is None:
             program.call(["check", *names])
+        elif self.report is None and is_chain(self.world):
+            passes_chain(program, self.world.name, names)
         elif self.report is None:
             first_atoms(program, Path(self.world.name), names)
         else:
             program.call(["replay", self.world.name, self.report.name, *names])
 
 
+def passes_chain(program: Program, chain: str, files: Sequence[str]) -> None:
+    """Has the program read a chain with its elements, and then no report; raises what it refuses before that."""
+    try:
+        program.call(["audit", chain, os.devnull, *files])
+    except Refusal as refusal:
+        if not str(refusal).startswith(f"{os.devnull}:"):
+            raise
+
+
+def first_line(source: Source) -> str:
+    """The first line that a world or a chain doesn't skip."""
+    return next((line for line in source.text.split("\n", 100) if line.strip() and not line.startswith("#")), "")
+
+
+def is_chain(source: Source) -> bool:
+    """Whether a file is to be read as a chain."""
+    return first_line(source).startswith("chain")
+
+
 def is_world(source: Source) -> bool:
-    """Whether a file is to be read as a world."""
-    lines = (line for line in source.text.split("\n", 100) if line.strip() and not line.startswith("#"))
-    return source.name.endswith(".world") or next(lines, "").startswith("feast")
+    """Whether a file is to be read as a world or a chain."""
+    return source.name.endswith((".world", ".chain")) or first_line(source).startswith("feast") or is_chain(source)
 
 
 def is_report(source: Source) -> bool:

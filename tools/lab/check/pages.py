@@ -64,12 +64,12 @@ def page(name: str) -> str:
 
 @cache
 def error_codes() -> dict[str, ErrorCode]:
-    """All codes, in their order."""
-    found = {}
+    """All codes, in their order; of one that has several tables, the first is told."""
+    found: dict[str, ErrorCode] = {}
     for heads, cells, block in rows(page(ERRORS)):
         if heads[:2] == ["Code", "Text"]:
             code, text, cause, example, *place = cells
-            found[code] = ErrorCode(code, text.strip("`"), cause, example, "".join(place), block)
+            found.setdefault(code, ErrorCode(code, text.strip("`"), cause, example, "".join(place), block))
     return found
 
 

@@ -27,7 +27,7 @@ def hint_of_world(refused: RefusalLine, world: Source, files: Sequence[Source]) 
 
 def unknown(line: str, files: Sequence[Source]) -> str:
     """Which elements there are in place of one that no file has."""
-    name = line.split(" ")[3]
+    name = line.split(" ")[3 if line.startswith("atom ") else 7]
     elements = [it.word.text for it in Elements(files).classes if not it.is_quark]
     beside = has_class(name, files)
     if beside:

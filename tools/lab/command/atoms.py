@@ -1,7 +1,7 @@
 """The atoms of a report with the values of their members, as CSV.
 
-In place of a report you can give what `replay` or `rewind` writes, such as the NNNN.atoms of a chain, or the folder of
-a chain, for the atoms at its end; element files are not needed then.
+In place of a report you can give what `replay` or `rewind` writes, or the folder of a chain, for the atoms at its
+end; element files are not needed then.
 A row has the site, the element, and a column for each member of any element of the files, by its
 dotted name (`part.count`, `list[2]`); if an element lacks a member, its field is empty. `Unary` is
 shown as its number of ones, `Bits` as the number that the bits make, and `true` as 1.
@@ -15,7 +15,8 @@ from ..base.errors import LabError
 from ..base.program import Program
 from ..chain.folder import Folder
 from ..formats.layout import Layout
-from ..formats.report import read_atoms
+from ..formats.outcome import atom_lines
+from ..formats.report import placed, read_atoms
 
 
 def add_arguments(parser: argparse.ArgumentParser) -> None:
@@ -28,14 +29,13 @@ def add_arguments(parser: argparse.ArgumentParser) -> None:
 def run(arguments: argparse.Namespace) -> int:
     """Writes the atoms to standard output."""
     program, report, files = Program.find(), arguments.report, arguments.files
-    if report.is_dir():
-        folder = Folder(report)
-        folder.begun()
-        report, files = folder.atoms(folder.done()), files or folder.files
+    folder = Folder(report) if report.is_dir() else None
+    if folder is not None:
+        files = files or (folder.begun() and folder.files)
     if not files:
         raise LabError("atoms takes REPORT FILE.., or the folder DIR of a chain")
     layout = Layout.of(program, files)
-    atoms = read_atoms(report)
+    atoms = read_atoms(report) if folder is None else [placed(line) for line in atom_lines(folder.atoms(folder.done(), folder.begun()))]
     columns = list(dict.fromkeys(leaf.name for element in layout.elements for leaf in layout.numbers(element)))
     for atom in atoms:
         if atom.name not in layout.leaves:

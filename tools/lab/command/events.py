@@ -17,7 +17,7 @@ ABANDONED = "tile,attempt,x,y,edge,holder,holder_attempt"
 def add_arguments(parser: argparse.ArgumentParser) -> None:
     """The words of the verb."""
     parser.add_argument("--abandoned", action="store_true", help="write the abandoned attempts, and not the events")
-    parser.add_argument("report", metavar="REPORT", type=Path, help="a report, packed by gzip or not, or kept by a chain")
+    parser.add_argument("report", metavar="REPORT", type=Path, help="a report, packed by gzip or not")
 
 
 def run(arguments: argparse.Namespace) -> int:

@@ -22,7 +22,7 @@ from pathlib import Path
 from ..base.errors import LabError
 from ..base.program import Program
 from ..base.progress import ProgressLine
-from ..chain.folder import COURSE
+from ..chain.course import COURSE
 from ..film.recording import Recording
 from ..machine.declarations import Declarations
 from ..trace.failures import COLUMNS, LIST_COLUMNS, counted, course_rows, rows

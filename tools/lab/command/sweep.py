@@ -8,8 +8,8 @@ Each --set names what is set, and its values, such as A,B,C or a range FIRST:LAS
   NAME              if an act of --at has it in braces, as in --at '5:erase:{p}:0,0,8,8' --set p=0.1,0.2
 After a --set, --with names something else that is set, with as many values: these go together, one by one, as in
 --set tiles=1x1,2x2 --with size=32x32,16x16, which makes two runs of one plane.
-Every combination of the values is run R times, with the same seeds: S, S + L * (tiles + 1),
-S + 2 * L * (tiles + 1) .. modulo 2^64, where S is that of --seed or else of WORLD, and L is the number of legs.
+Every combination of the values is run R times, with the same seeds: S, S + L * (tiles + 2),
+S + 2 * L * (tiles + 2) .. modulo 2^64, where S is that of --seed or else of WORLD, and L is the number of legs.
 So no two tiles of two repetitions share a seed.
 
 A run is a single call, or with --legs a chain of that many, to which --at, --until, --drift and the measures belong
@@ -32,7 +32,6 @@ made one after another. --jobs says otherwise.
 """
 import argparse
 import csv
-import os
 import sys
 import tempfile
 from functools import partial
@@ -40,6 +39,7 @@ from pathlib import Path
 
 from ..base.errors import LabError
 from ..base.progress import ProgressLine, Stop
+from ..chain.audit import processors
 from ..measure.until import FORM as RULE_FORM
 from ..sweep.check import check_runs
 from ..sweep.gather import first_fault, gather, spans
@@ -73,7 +73,7 @@ def add_arguments(parser: argparse.ArgumentParser) -> None:
     parser.add_argument("--at", metavar="LEG:ACT", action="append", default=[], help="do something to the plane before a leg, as in the verb chain")
     parser.add_argument("--until", metavar="RULE", help=f"end a run after the first leg at whose end this holds: {RULE_FORM}")
     parser.add_argument("--keep", choices=["none", "reports"], default="none", help="keep each run as a chain with its reports")
-    parser.add_argument("--jobs", metavar="N", type=int, help="how many runs are made side by side")
+    parser.add_argument("--jobs", metavar="N", type=int, help="how many runs are made, or audited, side by side")
     add_measure_options(parser)
     parser.add_argument("--drift", action="store_true", help="find how far tiles were apart, for a column of the rows")
     needless = [parser.add_argument("world", metavar="WORLD", type=Path, help="a world that draws its attempts"),
@@ -84,17 +84,17 @@ def add_arguments(parser: argparse.ArgumentParser) -> None:
 
 def run(arguments: argparse.Namespace) -> int:
     """Does what is asked for with a sweep that is planned, or plans one and maybe makes its runs."""
+    if arguments.jobs is not None and arguments.jobs < 1:
+        raise LabError(f"--jobs {arguments.jobs}: it has to be at least 1")
     if arguments.task is not None:
         return task(Sweep(Path(arguments.task[0])), arguments.task[1])
     if arguments.gather is not None:
         return gathered(Sweep(arguments.gather))
     if arguments.audit is not None:
-        return verdict(first_fault(Sweep(arguments.audit), ProgressLine()))
+        return verdict(first_fault(Sweep(arguments.audit), ProgressLine(), arguments.jobs or processors()))
     folder = arguments.into or arguments.plan
     if folder is None and arguments.keep != "none":
         raise LabError(f"--keep {arguments.keep}: it takes a folder: --into DIR or --plan DIR")
-    if arguments.jobs is not None and arguments.jobs < 1:
-        raise LabError(f"--jobs {arguments.jobs}: it has to be at least 1")
     plan = wanted_sweep(arguments).plan()
     with tempfile.TemporaryDirectory() as room:
         sweep = Sweep(folder or Path(room) / "sweep", is_lasting=folder is not None)
@@ -142,7 +142,7 @@ def task(sweep: Sweep, text: str) -> int:
 def jobs_of(arguments: argparse.Namespace, sweep: Sweep) -> int:
     """How many runs are made side by side."""
     is_one_thread = arguments.step or sweep.most_tiles == 1
-    jobs: int = arguments.jobs or (len(os.sched_getaffinity(0)) if is_one_thread else 1)
+    jobs: int = arguments.jobs or (processors() if is_one_thread else 1)
     return jobs
 
 

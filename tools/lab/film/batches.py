@@ -1,13 +1,14 @@
 """The frames of a long chain, made side by side: each process plays some legs that follow one another.
 
-A leg's world has the plane with which it begins, so legs can be played in any order. What comes out is, frame for frame,
-what playing them one after another gives.
+The report of the leg before has the atoms with which a leg begins, so legs can be played in any order. What comes out is,
+frame for frame, what playing them one after another gives.
 """
 import os
 import pickle
 import subprocess
 import sys
 import tempfile
+from bisect import bisect_right
 from collections.abc import Collection, Iterable, Iterator, Sequence
 from concurrent.futures import ThreadPoolExecutor
 from dataclasses import dataclass
@@ -20,7 +21,8 @@ from ..formats.world import World
 from ..machine.code import element_codes
 from ..machine.windows import Disagreement
 from .failure_plane import FailurePlane
-from .frames import Frame, Playable, Reported, frames
+from .chain_legs import KeptLeg
+from .frames import Frame, Playable, frames
 from .replays import Plane
 
 LEAST = 200_000  # events of a batch: with fewer it would hardly be worth a process
@@ -40,7 +42,7 @@ class Batch:
     program: Program
     files: Sequence[Path]
     world: World | None
-    legs: Sequence[Playable]
+    legs: Sequence[KeptLeg]
     moments: Collection[int]
 
     @property
@@ -59,14 +61,15 @@ class PlayedBatch:
 
 def side_by_side(plane: Plane, legs: Sequence[Playable], moments: Collection[int]) -> Iterator[Frame]:
     """The frames of legs, as `frames` has them; of a long chain they are made by several processes."""
-    found = batches(plane, legs, moments)
+    kept = [leg for leg in legs if isinstance(leg, KeptLeg)]
+    found = batches(plane, kept, moments) if len(kept) == len(legs) else []
     jobs = min(len(found), len(os.sched_getaffinity(0)), MOST_JOBS)
-    if jobs < 2 or not all(isinstance(leg, Reported) for leg in legs):
-        yield from frames(plane, legs, moments)
+    if jobs < 2:
+        yield from net(frames(plane, legs, moments))
         return
     pool, running = ThreadPoolExecutor(jobs), list[subprocess.Popen[bytes]]()
     try:
-        yield from joined(found, pool.map(partial(played_apart, running), found))
+        yield from net(joined(found, pool.map(partial(played_apart, running), found)))
     finally:  # if the film is stopped, or a batch can't be played, the others end too
         pool.shutdown(wait=False, cancel_futures=True)
         for process in running:
@@ -74,19 +77,30 @@ def side_by_side(plane: Plane, legs: Sequence[Playable], moments: Collection[int
         pool.shutdown()
 
 
-def batches(plane: Plane, legs: Sequence[Playable], moments: Collection[int]) -> list[Batch]:
+def net(films: Iterable[Frame]) -> Iterator[Frame]:
+    """The frames without changes that are taken back before the next frame, of which some may know and others not."""
+    cells: dict[int, str] = {}
+    for frame in films:
+        frame.changes = {site: atom for site, atom in frame.changes.items() if cells.get(site, "") != atom}
+        put(cells, frame)
+        yield frame
+
+
+def batches(plane: Plane, legs: Sequence[KeptLeg], moments: Collection[int]) -> list[Batch]:
     """Legs in batches of so many events at least."""
     world = plane.maker.world if isinstance(plane, FailurePlane) else None
     found: list[Batch] = []
     begin = 0
-    taken: list[Playable] = []
+    taken: list[KeptLeg] = []
+    events = 0
+    wanted = sorted(moments)
     for leg in legs:
         taken.append(leg)
-        events = sum(it.events for it in taken)
+        events += leg.events
         if events >= LEAST or leg is legs[-1]:
-            own = {moment - begin for moment in moments if begin < moment <= begin + events}
-            found.append(Batch(plane.program, plane.files, world, taken, own))
-            begin, taken = begin + events, []
+            own = wanted[bisect_right(wanted, begin):bisect_right(wanted, begin + events)]
+            found.append(Batch(plane.program, plane.files, world, taken, {moment - begin for moment in own}))
+            begin, events, taken = begin + events, 0, []
     return found
 
 
@@ -98,7 +112,7 @@ def played_apart(running: list["subprocess.Popen[bytes]"], batch: Batch) -> Play
         out, errors = process.communicate(pickle.dumps(batch))
     if process.returncode != 0:
         last = errors.decode(errors="replace").strip().rpartition("\n")[2]
-        raise LabError(f"{batch.legs[0].world}: the process that was to play it ended with status {process.returncode}: {last}")
+        raise LabError(f"{batch.legs[0].name}: the process that was to play it ended with status {process.returncode}: {last}")
     found = pickle.loads(out)
     if isinstance(found, Exception):
         raise found
@@ -140,7 +154,7 @@ def joined(parts: Iterable[Batch], results: Iterable[PlayedBatch]) -> Iterator[F
         begun = {site: "" for site in cells.keys() - first.changes.keys()}
         begun |= {site: atom for site, atom in first.changes.items() if cells.get(site) != atom}
         rest.changes |= begun
-        if number == 0 or begun:
+        if number == 0 or (begun and batch.legs[0].is_apart):
             rest.events = done
             yield rest
             rest = Frame()

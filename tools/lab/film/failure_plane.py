@@ -14,6 +14,8 @@ from .replays import Plane
 class FailurePlane(Plane):
     """A plane that notes at which sites events failed. Raises Disagreement if the two come to different atoms."""
 
+    is_whole = True
+
     def __init__(self, program: Program, files: Sequence[Path], room: Path, world: World, codes: Sequence[ElementCode]) -> None:
         super().__init__(program, files, room)
         self.maker = EventMaker(world, codes)

@@ -7,13 +7,10 @@ from pathlib import Path
 from typing import Protocol
 
 from ..base.errors import LabError
-from ..base.files import read_text
 from ..base.program import Program
-from ..formats.kept import read_report
-from ..formats.outcome import atom_lines
-from ..formats.report import Report
+from ..formats.report import Report, read_report
 from ..formats.world import World
-from ..measure.drift import tiles_of
+from ..measure.drift import plans, tiles_of
 from .replays import Plane, call_on
 
 
@@ -34,38 +31,58 @@ class Frame:
 
 
 class Player(Protocol):
-    """What plays a leg from its beginning on."""
+    """What plays a leg from its beginning on.
+
+    `is_apart` says whether the leg begins otherwise than the one before ended, so that its beginning is a frame.
+    """
+
+    is_apart: bool
+
+    def begin(self) -> dict[int, str]:
+        """Makes the plane that of the beginning; gives back what changed."""
 
     def go(self, upto: int, frame: Frame) -> None:
         """Plays until so many events of the leg are over, into a frame."""
 
 
+class Playable(Protocol):
+    """A run that is one of a chain or stands alone."""
+
+    @property
+    def events(self) -> int:
+        """How many events it has."""
+
+    @property
+    def name(self) -> str:
+        """What it is called where something is wrong with it."""
+
+    def player(self, plane: Plane) -> Player:
+        """What plays it on a plane, which is as the leg before left it."""
+
+    def atoms_after(self, plane: Plane, events: int) -> list[str]:
+        """The lines of the atoms after so many of its events."""
+
+    def planned(self) -> list[int]:
+        """How many attempts each tile has."""
+
+
 @dataclass(frozen=True)
-class Playable:
-    """A run, of so many events, that is one of a chain or stands alone."""
+class Reported:
+    """A run whose report is at hand, and maybe read."""
 
     world: Path
     events: int
-
-    def player(self, plane: Plane, world: World) -> Player:
-        """What plays the leg on a plane, which is that of its beginning."""
-        raise NotImplementedError
-
-    def atoms_after(self, plane: Plane, events: int) -> list[str]:
-        """The lines of the atoms after so many events of the leg."""
-        raise NotImplementedError
-
-
-@dataclass(frozen=True)
-class Reported(Playable):
-    """A leg whose report is at hand, and maybe read."""
-
     report: Path
     known: Report | None = None
 
-    def player(self, plane: Plane, world: World) -> Player:
-        """What plays the leg, whose report is checked first."""
-        return ReportPlayer(plane, world, self.checked(plane.program, plane.files, plane.room))
+    @property
+    def name(self) -> str:
+        """Its world."""
+        return str(self.world)
+
+    def player(self, plane: Plane) -> Player:
+        """What plays the run, whose report is checked first."""
+        return ReportPlayer(plane, World.read(self.world), self.checked(plane.program, plane.files, plane.room))
 
     def checked(self, program: Program, files: Sequence[Path], room: Path) -> Report:
         """The report. Refuses one whose events aren't those of its world, or don't lead to its atoms."""
@@ -78,41 +95,33 @@ class Reported(Playable):
 
     def atoms_after(self, plane: Plane, events: int) -> list[str]:
         """The lines of the atoms, by `rewind`."""
+        if events == 0:
+            return [atom.text() for atom in World.read(self.world).atoms]
         data = read_report(self.report)
         return call_on(plane.program, self.report, data, plane.room, ["rewind", self.world, str(events)], plane.files)[2:]
 
-
-@dataclass(frozen=True)
-class Ended(Playable):
-    """A leg of a chain that keeps no reports: only the atoms at its end are known, and those of the start."""
-
-    atoms: Path
-    abandoned: int
-
-    def player(self, plane: Plane, world: World) -> Player:
-        """What plays the leg from its beginning to its end at once."""
-        return EndPlayer(plane, self)
-
-    def atoms_after(self, plane: Plane, events: int) -> list[str]:
-        """The lines of the atoms at its beginning or its end; refuses other moments."""
-        if events == self.events:
-            return atom_lines(read_text(self.atoms))
-        if events == 0:
-            return [atom.text() for atom in World.read(self.world).atoms]
-        raise LabError(f"{self.world}: the chain keeps no reports, so the plane is known at the ends of its legs alone")
+    def planned(self) -> list[int]:
+        """How many attempts each tile has."""
+        return plans(World.read(self.world))
 
 
 class ReportPlayer:
-    """Plays a leg by its report."""
+    """Plays a run by its whole report."""
 
-    def __init__(self, plane: Plane, world: World, report: Report) -> None:
+    def __init__(self, plane: Plane, world: World, report: Report, is_apart: bool = True) -> None:
         self.plane = plane
+        self.world = world
+        self.is_apart = is_apart
         self.records = report.journal.lines
         self.given_up = moments_of(world, report)
         self.at = 0
 
+    def begin(self) -> dict[int, str]:
+        """Makes the plane that of the beginning; gives back what changed."""
+        return self.plane.begin(self.world)
+
     def go(self, upto: int, frame: Frame) -> None:
-        """Plays until so many events of the leg are over, into a frame."""
+        """Plays until so many events are over, into a frame."""
         frame.changes |= self.plane.play(self.records[self.at:upto])
         frame.made += tiles_of(self.records[self.at:upto]) if self.plane.world.tiles > 1 else bytes(max(upto - self.at, 0))
         frame.failed.update(self.plane.failed)
@@ -123,43 +132,33 @@ class ReportPlayer:
             frame.abandoned += 1
 
 
-class EndPlayer:
-    """Plays a leg by the atoms at its end."""
-
-    def __init__(self, plane: Plane, leg: Ended) -> None:
-        self.plane = plane
-        self.leg = leg
-
-    def go(self, upto: int, frame: Frame) -> None:
-        """Plays to the end of the leg; no other moment is known."""
-        if upto == self.leg.events:
-            frame.changes |= self.plane.put(atom_lines(read_text(self.leg.atoms)))
-            frame.abandoned += self.leg.abandoned
-
-
 def frames(plane: Plane, legs: Sequence[Playable], moments: Collection[int]) -> Generator[Frame, None, Frame]:
     """The frame at the start, and those at the moments, counted in events over all legs; it ends with what is behind these.
 
-    If a leg begins with other atoms than the one before left, that is a frame too, with as many events.
+    Where a leg begins apart from the one before, that is a frame too, with as many events.
     """
     frame = Frame()
     done = 0
+    wanted = sorted(moments)
     for number, leg in enumerate(legs):
-        world = World.read(leg.world)
-        player = leg.player(plane, world)
-        begun = plane.begin(world)
-        frame.changes |= begun
-        if number == 0 or begun:
-            frame.events = done
-            yield frame
-            frame = Frame()
-        for upto in sorted({moment - done for moment in moments if done < moment <= done + leg.events} | {leg.events}):
+        player = leg.player(plane)
+        if number == 0 or player.is_apart or plane.is_whole:
+            begun = player.begin()
+            frame.changes |= begun
+            if number == 0 or (player.is_apart and begun):
+                frame.events = done
+                yield frame
+                frame = Frame()
+        inside = wanted[bisect_right(wanted, done):bisect_right(wanted, done + leg.events)]
+        for upto in sorted({*(moment - done for moment in inside), leg.events}):
             player.go(upto, frame)
-            if upto > 0 and done + upto in moments:
+            if upto > 0 and inside and done + upto in moments:
+                frame.changes |= plane.settle()
                 frame.events = done + upto
                 yield frame
                 frame = Frame()
         done += leg.events
+    frame.changes |= plane.settle()
     return frame
 
 

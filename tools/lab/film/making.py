@@ -9,9 +9,8 @@ from ..base.errors import LabError
 from ..base.program import Program
 from ..base.progress import Progress
 from ..formats.layout import Leaf
-from ..formats.world import World
 from ..machine.code import element_codes
-from ..measure.drift import MIXED, of_legs, plans, tiles_of, warning
+from ..measure.drift import MIXED, of_legs, tiles_of, warning
 from ..pictures.figure import plane_figure
 from ..pictures.marks import marks
 from ..pictures.tints import tinted, tints
@@ -127,7 +126,7 @@ def drift_of(recording: Recording, made: bytes) -> float:
     drift = 0.0
     if made and recording.world.tiles > 1:
         parts = zip(recording.legs, pairwise(recording.ends), strict=True)
-        drift = max(of_legs([(plans(World.read(leg.world)), made[begin:end]) for leg, (begin, end) in parts]))
+        drift = max(of_legs([(leg.planned(), made[begin:end]) for leg, (begin, end) in parts]))
     if drift > MIXED:
         print(f"lab: warning: {recording.title}: {warning(drift)}", file=sys.stderr)
     return drift

@@ -7,10 +7,12 @@ from all events of the part are left out. For this the plane is kept in blocks a
 reaches: a window lies in the block of its centre and the eight about that.
 """
 from collections import Counter, defaultdict
-from collections.abc import Iterable, Sequence
+from collections.abc import Callable, Iterable, Sequence
 from dataclasses import replace
+from functools import partial
 from itertools import count
 from pathlib import Path
+from typing import TypeVar
 
 from ..base.files import write_new
 from ..base.program import Program, Refusal
@@ -18,6 +20,7 @@ from ..formats.world import World
 
 SIDE = 4  # how many columns and rows a block has, and how far a window reaches
 Block = tuple[int, int]
+Moment = TypeVar("Moment")
 
 
 class Plane:
@@ -26,7 +29,11 @@ class Plane:
     An atom is the text `NAME STATE`, as a report has it, and no atom an empty text.
     """
 
+    is_whole = False  # whether whole reports are needed to play on it
+
     def __init__(self, program: Program, files: Sequence[Path], room: Path) -> None:
+        self.coming: Callable[[], Iterable[str]] | None = None  # the atoms of a plane on which nothing is played
+        self.held: set[str] = set()  # those that it has
         self.program = program
         self.files = files
         self.room = room
@@ -38,6 +45,27 @@ class Plane:
         """Makes the plane that of the beginning of a world; gives back what changed."""
         self.world = replace(world, seed=None, attempts=None, tries=[], atoms=[], order=[])
         return self.put(atom.text() for atom in world.atoms)
+
+    def comes_to(self, atoms: Callable[[Moment], Iterable[str]], moment: Moment) -> None:
+        """Has the plane be one with the atoms of a moment, lines of a report, as soon as someone looks (`settle`)."""
+        self.coming = partial(atoms, moment)
+
+    def settle(self) -> dict[int, str]:
+        """Makes the plane what it was to come to; gives back what changed."""
+        return {} if self.coming is None else self.swap(self.coming())
+
+    def swap(self, atoms: Iterable[str]) -> dict[int, str]:
+        """Makes a plane on which nothing is played one with these atoms, lines of a report; gives back what changed."""
+        self.coming = None
+        before, self.held = self.held, set(atoms)
+        wide, changes = self.world.columns, dict[int, str]()
+        for line in before - self.held:
+            x, y, _ = line.split(" ", 2)
+            changes[int(y) * wide + int(x)] = ""
+        for line in self.held - before:
+            x, y, atom = line.split(" ", 2)
+            changes[int(y) * wide + int(x)] = atom
+        return changes
 
     def put(self, atoms: Iterable[str]) -> dict[int, str]:
         """Makes the plane one with these atoms, lines of a report; gives back what changed."""

@@ -6,13 +6,27 @@ from pathlib import Path
 from typing import Generic, NamedTuple, TypeVar, overload
 
 from ..base.errors import LabError
-from .kept import read_report
+from ..base.limits import MOST_ATTEMPTS, MOST_COLUMNS
+from ..base.packed import Bound, open_report, within
 from .world import NAME, NUMBER, Placed
 
 ATOM = re.compile(f"{NUMBER} {NUMBER} {NAME} [0-7][0-9a-f]{{17}}")
 RECORD = re.compile(f"{NUMBER} {NUMBER} {NUMBER} {NUMBER} {NUMBER} [0-9a-f]{{16}}")
 ABANDONED = re.compile(f"{NUMBER}(?: {NUMBER}){{6}}")
+# No run has a longer report: 1,000,000 entries, and an atom with a name of 255 bytes at each site of the largest plane.
+HEADS = 4  # lines that say what follows
+LONGEST = Bound(139_000_000, MOST_COLUMNS**2 + MOST_ATTEMPTS + HEADS)
 REFUSAL = re.compile(rb"(?:[^\n]*: )?E\d\d [^\n]*\n?")
+
+
+def read_report(path: Path) -> bytes:
+    """The bytes of a report, packed by gzip or not. Refuses one that is longer than any report, before it is held."""
+    with open_report(path) as file:
+        data = within(file, LONGEST)
+    if data is None:
+        raise LabError(f"{path}: too long for a report, which has at most {LONGEST.bytes:,} bytes and {LONGEST.lines:,} lines")
+    return data
+
 
 Entry = TypeVar("Entry")
 
@@ -85,7 +99,7 @@ class Report:
 
     @staticmethod
     def read(path: Path) -> "Report":
-        """The report of a file, packed by gzip or not, or kept by a chain; each line is tested for its form."""
+        """The report of a file, packed by gzip or not; each line is tested for its form."""
         return Report.of(path, read_report(path))
 
     @staticmethod

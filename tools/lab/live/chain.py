@@ -11,7 +11,8 @@ from ..base.errors import LabError
 from ..base.limits import MOST_COLUMNS
 from ..base.program import Program, Refusal
 from ..chain.columns import carried_on
-from ..chain.folder import Course, Folder
+from ..chain.course import Course
+from ..chain.folder import Folder
 from ..chain.fork import anew, fork, free_folder
 from ..chain.legs import LegMaker
 from ..machine.finder import Finder
@@ -126,7 +127,7 @@ class Live:
         leg = self.session.rest()
         to = free_folder(self.folder.path, "fork")
         session = self.session
-        fork(self.folder, session.maker.begun, session.course, session.act_texts, leg, to)
+        fork(self.folder, session.maker.begun, session.course, self.folder.act_texts(), leg, to)
         return f"The chain up to leg {leg} is copied to {to.name}: ./lab live {to}"
 
     def reload(self, _order: dict[str, Any]) -> str:

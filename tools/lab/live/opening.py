@@ -5,7 +5,7 @@ from pathlib import Path
 
 from ..base.errors import LabError
 from ..chain.folder import Folder
-from ..chain.start import Start, going_on
+from ..chain.start import Options, Start, going_on
 from ..pictures.marks import marks
 from .chain import Live
 
@@ -34,7 +34,7 @@ def opened(live: Live, wanted: WantedLive) -> None:
         return
     if not wanted.files:
         raise LabError("a chain is begun with DIR WORLD FILE..; to go on with one DIR is enough")
-    start = Start.of(live.program, wanted.world, wanted.files, wanted.step, wanted.seed, wanted.keep or "reports")
+    start = Start.of(live.program, wanted.world, wanted.files, Options(wanted.step, wanted.seed, wanted.keep or "reports"))
     marks(start.elements, wanted.files)  # refuses faulty ones before the chain is begun
     folder.make()
     live.held.enter_context(folder.held())

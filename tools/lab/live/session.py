@@ -1,24 +1,28 @@
-"""A chain that runs while it is watched: its legs one after another, and what is done to it in between."""
-import secrets
+"""A chain that runs while it is watched: its legs one after another, and what is done to it in between.
+
+In a play many legs are made in one call of the program, which is at the legs to come while those before are taken. An order
+that they don't know of ends the call behind the leg that is being made, and the next call begins there.
+"""
 import threading
 import time
+from bisect import bisect_right, insort
 from collections import Counter, deque
 from collections.abc import Mapping, Sequence
-from concurrent.futures import Future, ThreadPoolExecutor
 from dataclasses import dataclass, replace
 
 from ..base.errors import LabError
-from ..base.files import cause, read_text
-from ..chain.acts import Act, Pace
-from ..chain.folder import Course, Leg
+from ..base.files import cause
+from ..chain.acts import Act, Acts
+from ..chain.course import Course
 from ..chain.keeper import Keeper
 from ..chain.legs import LegMaker
-from ..formats.outcome import ABANDONED, Outcome, atom_lines
+from ..formats.leg_report import LegReport
+from ..formats.outcome import atom_lines
 from ..machine.windows import Disagreement
 from .pace import EVERY, Tempo
 
 WINDOW = 2.0  # over so many seconds the speed is measured
-RANDOM = ("erase:", "flip:")
+AT_ONCE = 1000  # so many legs are asked for in a call
 ENDED = "the session has ended, and makes no leg any more; end ./lab live by Ctrl-C, and start it again"
 
 
@@ -35,7 +39,7 @@ class Shot:
     events: int
     abandoned: int
     lines: Sequence[str]
-    given_up: bytes  # the lines of the attempts that were abandoned in the last leg
+    last: LegReport | None  # the report of the last leg, if it was made since the chain was opened
     mode: str
     attempts: int  # of each tile in the next leg
     by_itself: bool
@@ -55,31 +59,37 @@ class Session:
     """
 
     def __init__(self, maker: LegMaker, course: Course) -> None:
-        self.maker = maker
-        self.course = course
-        self.failed: Counter[int] = Counter()
         self.all_failed = 0
         self.changed = threading.Condition()
         self.mode = "pause"
         self.fault = ""
         self.is_busy = False
-        self.next = 0
-        self.events = 0
-        self.abandoned = 0
-        self.act_texts = list(maker.folder.act_texts(maker.begun))
+        self.orders = 0  # how many there have been, which legs at work don't know of
         self.tempo = Tempo.of(maker.rule.world, course.legs[-1].attempts)
-        self.left: Sequence[str] = ()
-        self.lines: Sequence[str] = ()
-        self.given_up = b""
-        self.go_back()
+        self.open(maker, course)
         self.times: deque[tuple[float, int]] = deque()
-        self.writing = ThreadPoolExecutor(1)
-        self.unsettled: Future[Leg] | None = None
-        self.keeper = Keeper(maker.folder, maker.rule.world)
-        self.keeper.keep_all(len(course.legs) - 1)
         self.shot = self.taken(0)
         self.worker = threading.Thread(target=self.work, name="legs")
         self.worker.start()
+
+    def open(self, maker: LegMaker, course: Course) -> None:
+        """Takes the plane that the last leg left that is done, with the acts behind it."""
+        self.maker, self.course = maker, course
+        self.next = len(course.legs)
+        self.last: LegReport | None = None
+        self.failed: Counter[int] = Counter()
+        self.hands = sorted(leg for leg, acts in maker.rule.acts.by_leg.items() for act in acts if act.attempts is None)
+        self.left: Sequence[str] = atom_lines(maker.folder.atoms(self.next - 1, maker.begun))
+        self.lines = self.with_acts(self.next, self.left)
+        self.keeper = Keeper(maker.folder, maker.begun, course)
+
+    def by_hand(self, leg: int) -> list[Act]:
+        """What is done to the atoms before a leg, and before no other."""
+        return [act for act in self.maker.rule.acts.by_leg.get(leg, ()) if act.attempts is None]
+
+    def with_acts(self, leg: int, left: Sequence[str]) -> Sequence[str]:
+        """The atoms with which a leg begins, if something is done before it by hand; else those that the leg before left."""
+        return self.maker.before(leg, left) if self.by_hand(leg) else left
 
     # what those who watch ask for
 
@@ -95,6 +105,7 @@ class Session:
         with self.changed:
             self.refuse_if_ended()
             self.mode = mode
+            self.orders += 1
             self.times.clear()
             self.publish()
 
@@ -115,48 +126,54 @@ class Session:
         with self.changed:
             self.refuse_if_ended()
             leg = self.next + self.is_busy
-            world, layout, seed = self.maker.rule.world, self.maker.layout, self.maker.begun.seed
             try:
-                acts = [Act.of(f"{leg}:{seeded(text)}", world, layout, seed) for text in texts]
+                acts = [Act.of(f"{leg}:{text}", self.maker.rule.world, self.maker.layout) for text in texts]
             except LabError as error:
                 raise LabError(str(error).removeprefix(f"{leg}:")) from error
-            self.put_on_record([*self.act_texts, *(act.text for act in acts)])
-            self.maker.rule.acts.setdefault(leg, []).extend(acts)
-            if not self.is_busy:
-                for act in acts:
-                    self.lines = act.applied(self.lines)
+            waiting = list(self.maker.rule.acts.by_leg.get(leg, ()))
+            self.maker.rule.acts.by_leg[leg] = waiting + acts
+            try:
+                lines = self.lines if self.is_busy else self.with_acts(leg, self.left)
+                self.maker.folder.add_acts(act.text for act in acts)
+            except BaseException:
+                self.maker.rule.acts.by_leg[leg] = waiting
+                raise
+            for _ in acts:
+                insort(self.hands, leg)
+            self.lines = lines
+            self.orders += 1
             self.publish()
 
     def undo(self) -> None:
         """Takes back the last act that waits for the next leg."""
         with self.changed:
             self.refuse_if_ended()
-            waiting = self.maker.rule.acts.get(self.next + self.is_busy, [])
-            act = next((act for act in reversed(waiting) if not isinstance(act, Pace)), None)
-            if act is None:
+            leg = self.next + self.is_busy
+            waiting = self.by_hand(leg)
+            if not waiting:
                 raise LabError("there is nothing to take back: no act waits for the next leg")
-            texts = list(self.act_texts)
-            del texts[len(texts) - 1 - texts[::-1].index(act.text)]
-            self.put_on_record(texts)
-            waiting.remove(act)
+            self.keeper.flush()  # which may put lengths of legs on record
+            self.maker.folder.take_back(waiting[-1].text)
+            acts = self.maker.rule.acts.by_leg[leg]
+            acts.reverse()
+            acts.remove(waiting[-1])
+            acts.reverse()
+            self.hands.remove(leg)
+            self.orders += 1
             if not self.is_busy:
-                self.lines = self.maker.rule.before(self.next, self.left)
+                self.lines = self.with_acts(leg, self.left)
             self.publish()
-
-    def put_on_record(self, texts: list[str]) -> None:
-        """Writes the record of the acts."""
-        self.maker.folder.write_acts(texts)
-        self.act_texts = texts
 
     def rest(self) -> int:
         """Pauses; gives back how many legs are done when all that was begun is on record."""
         with self.changed:
             self.refuse_if_ended()
             self.mode = "pause"
+            self.orders += 1
             self.publish()
-            self.changed.wait_for(lambda: self.mode == "end" or (not self.is_busy and self.unsettled is None))
+            self.changed.wait_for(lambda: self.mode == "end" or not self.is_busy)
             self.refuse_if_ended()
-            self.keeper.wait()
+            self.keeper.flush()
             return len(self.course.legs) - 1
 
     def end(self) -> None:
@@ -164,9 +181,9 @@ class Session:
         with self.changed:
             if self.mode != "end":
                 self.mode = "end"
+                self.orders += 1
                 self.publish()
         self.worker.join()
-        self.writing.shutdown()
         self.keeper.close()
 
     # what makes the legs
@@ -175,91 +192,69 @@ class Session:
         """Makes legs until the session ends. Nothing that goes wrong is lost: it ends the session if nothing else helps."""
         try:
             while self.is_wanted():
-                self.make_in_time()
+                try:
+                    self.make()
+                except Exception as error:  # also a fault of the lab is told, and the chain goes back to what is on record
+                    self.fail(said_of(error))
         except BaseException as error:  # whatever it is: who waits for a leg has to be told
             self.die(error)
 
-    def make_in_time(self) -> None:
-        """Makes a leg, or says why it can't be made; waits until another one may begin."""
-        began = time.monotonic()
-        try:
-            self.make()
-        except Exception as error:  # also a fault of the lab is told, and the chain goes back to what is on record
-            self.fail(said_of(error))
-            return
-        with self.changed:
-            took = time.monotonic() - began
-            self.tempo.heed(took, self.maker.rule.attempts_each(self.next - 1))
-            if self.mode == "leg":
-                self.mode = "pause"
-            if self.mode == "play" or self.settles():  # so a pause shows what is on record
-                self.publish()
-            self.changed.wait_for(lambda: self.mode != "play", EVERY - took)
-
     def is_wanted(self) -> bool:
-        """Waits until another leg is wanted, and notes its length; False if the session ends."""
+        """Waits until another leg is wanted; False if the session ends."""
         with self.changed:
-            if self.mode not in ("play", "leg"):
-                self.settles()
-                self.changed.wait_for(lambda: self.mode != "pause")
-            if self.mode == "end":
-                return False
-            self.is_busy = True
-            return True
+            self.changed.wait_for(lambda: self.mode != "pause")
+            self.is_busy = self.mode != "end"
+            return self.is_busy
 
     def make(self) -> None:
-        """Makes the next leg. Its files are written while the leg behind it is made."""
-        number, lines = self.next, self.lines
+        """Makes legs by one call of the program, until there is an order that they don't know of, or another length."""
         with self.changed:
-            self.set_length(number)
-        report = self.maker.report(number, lines)
-        failed = self.maker.failed(lines, report)
-        self.settle()
-        outcome = Outcome.of(report)
+            first, orders, attempts = self.next, self.orders, self.tempo.attempts
+            last = first if self.mode == "leg" else first + AT_ONCE - 1
+        legs = self.maker.called(first, last, self.left, attempts)
+        began = time.monotonic()
+        try:
+            for number, report in legs:
+                self.take(number, report, attempts)
+                with self.changed:
+                    took = time.monotonic() - began
+                    if number > first or self.mode != "play":  # the first one of many waits for the program to begin
+                        self.tempo.heed(took, self.maker.rule.attempts_each(number))
+                    self.rest_after(took)
+                    if number == last or (orders, attempts) != (self.orders, self.tempo.attempts):
+                        return
+                    self.is_busy = True
+                began = time.monotonic()
+        finally:
+            legs.close()
+
+    def take(self, number: int, report: LegReport, attempts: int) -> None:
+        """Takes a leg that was made, of so many attempts unless the record says otherwise."""
+        rule = self.maker.rule
+        length = [] if rule.acts.attempts(number) is not None or attempts == rule.world.attempts else [f"{number}:attempts:{attempts}"]
+        for text in length:
+            rule.acts.add(Act.of(text, rule.world, self.maker.layout))
+        failed = self.maker.failed(number, self.left, report)
+        row = self.maker.row(number, report, failed if self.course.has_failures else None)
+        left = atom_lines(report.atoms)
         with self.changed:
-            self.unsettled = self.writing.submit(self.maker.written, number, report, failed if self.course.has_failures else None)
+            self.keeper.keep(row, report, length)
             self.next = number + 1
-            self.left = atom_lines(outcome.atoms)
-            self.lines = self.maker.rule.before(self.next, self.left)
-            self.given_up = report[report.rindex(ABANDONED) + 1:]
-            self.failed = failed or Counter()
+            self.left, self.lines = left, self.with_acts(self.next, left)
+            self.last, self.failed = report, failed or Counter()
             self.all_failed += self.failed.total()
-            self.events += outcome.events
-            self.abandoned += outcome.abandoned
-            self.times.append((time.monotonic(), self.events))
+            self.times.append((time.monotonic(), self.course.events))
             self.is_busy = False
             self.fault = ""
 
-    def set_length(self, number: int) -> None:
-        """Puts the length of a leg on record, unless it is that of the world, or is on record."""
-        acts = self.maker.rule.acts.get(number, [])
-        if self.tempo.attempts != self.maker.rule.attempts_each(number) and not any(isinstance(act, Pace) for act in acts):
-            act = Act.of(f"{number}:attempts:{self.tempo.attempts}", self.maker.rule.world, self.maker.layout)
-            self.put_on_record([*self.act_texts, act.text])
-            self.maker.rule.acts.setdefault(number, []).append(act)
-
-    def settle(self) -> None:
-        """Waits for the files of the leg that was made last, and writes its row, without which it isn't done."""
-        if self.unsettled is not None:
-            waiting, self.unsettled = self.unsettled, None
-            self.course.legs.append(waiting.result())
-            try:
-                self.maker.folder.write_course(self.course)
-            except BaseException:
-                self.course.legs.pop()
-                self.course.changed()
-                raise
-            self.keeper.keep(self.course.legs[-1].number)
-
-    def settles(self) -> bool:
-        """Settles, and tells those who wait for it; whether that went well."""
-        try:
-            self.settle()
-        except Exception as error:
-            self.fail(said_of(error))
-            return False
-        self.changed.notify_all()
-        return True
+    def rest_after(self, took: float) -> None:
+        """Shows a leg that took so long, and waits until another one may begin."""
+        if self.mode == "leg":
+            self.mode = "pause"
+        if self.mode != "play":
+            self.keeper.flush()  # so a pause shows what is on record
+        self.publish()
+        self.changed.wait_for(lambda: self.mode != "play", EVERY - took)
 
     def fail(self, fault: str) -> None:
         """Goes back to the last leg that is done, pauses, and says what went wrong; raises what keeps it from going back."""
@@ -267,13 +262,22 @@ class Session:
             self.is_busy = False
             self.fault = fault
             try:
-                self.settle()
+                self.keeper.close()
             except Exception as error:
                 self.fault = joined(fault, said_of(error))
             self.go_back()
+            self.orders += 1
             if self.mode != "end":
                 self.mode = "pause"
             self.publish()
+
+    def go_back(self) -> None:
+        """Opens the chain as it is on record."""
+        maker, course = self.maker, self.course
+        folder, rule = maker.folder, maker.rule
+        acts = Acts.of(folder.acts(rule.world, maker.layout))
+        done = folder.packed(maker.begun).done
+        self.open(replace(maker, rule=replace(rule, acts=acts)), folder.course(done, course.elements, course.sites))
 
     def die(self, error: BaseException) -> None:
         """Ends the session by what went wrong, and says so for good. What is seen last stays."""
@@ -283,16 +287,6 @@ class Session:
             self.fault = joined(ENDED, self.fault, said_of(error))
             self.shot = replace(self.shot, number=self.shot.number + 1, mode="end", speed=0.0, fault=self.fault)
             self.changed.notify_all()
-
-    def go_back(self) -> None:
-        """Takes the plane that the last leg left that is done, with the acts behind it."""
-        self.next = len(self.course.legs)
-        self.events = self.course.events
-        self.abandoned = sum(leg.abandoned for leg in self.course.legs)
-        self.left = atom_lines(read_text(self.maker.folder.atoms(self.next - 1)))
-        self.lines = self.maker.rule.before(self.next, self.left)
-        self.given_up = b""
-        self.failed = Counter()
 
     # what is seen
 
@@ -304,11 +298,10 @@ class Session:
     def taken(self, number: int) -> Shot:
         """A shot of the chain as it is."""
         coming = self.next + self.is_busy
-        acts = [act.text.partition(":")[2] for act in self.maker.rule.acts.get(coming, []) if not isinstance(act, Pace)]
-        done = sum(not isinstance(act, Pace) for leg, its in self.maker.rule.acts.items() if leg <= coming for act in its)
+        acts = [act.told for act in self.by_hand(coming)]
         mode = "leg" if self.is_busy and self.mode == "pause" else self.mode
-        return Shot(number, self.next - 1, self.events, self.abandoned, self.lines, self.given_up, mode,
-                    self.tempo.attempts, self.tempo.by_itself, self.speed(), acts, done,
+        return Shot(number, self.next - 1, self.course.events, self.course.abandoned, self.lines, self.last, mode,
+                    self.tempo.attempts, self.tempo.by_itself, self.speed(), acts, bisect_right(self.hands, coming),
                     self.failed if self.maker.finder else None, self.all_failed, self.fault)
 
     def speed(self) -> float:
@@ -319,11 +312,6 @@ class Session:
             return 0.0
         (first, before), (last, now) = self.times[0], self.times[-1]
         return (now - before) / max(last - first, 1e-6) / max(self.maker.rule.world.sites, 1)
-
-
-def seeded(text: str) -> str:
-    """An act with a seed of its own, if it takes one and has none."""
-    return f"{text}:seed={secrets.randbits(32)}" if text.startswith(RANDOM) and ":seed=" not in text else text
 
 
 def said_of(error: BaseException) -> str:

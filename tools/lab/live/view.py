@@ -9,6 +9,8 @@ from itertools import accumulate
 from threading import Lock
 
 from ..film.page import head
+from ..formats.leg_report import LegReport
+from ..formats.whole import Drawn
 from ..pictures.marks import Mark
 from .session import Session, Shot
 
@@ -25,6 +27,7 @@ class View:
         self.kinds = {name: kind for kind, name in enumerate(session.maker.layout.elements, 1)}
         self.lock = Lock()
         self.last: tuple[Sequence[str], Sequence[str], dict[str, str]] = ([], [], {})
+        self.dots: tuple[LegReport | None, dict[str, str]] = (None, sites({}))
 
     def begun(self, can_reload: bool) -> str:
         """What a page needs to know once, as JSON."""
@@ -34,10 +37,9 @@ class View:
                                   "canReload": can_reload, "history": self.history()}, separators=(",", ":"))
 
     def acts(self) -> list[dict[str, int]]:
-        """The moments of the acts so far, in events."""
+        """The moments of what was done by hand so far, in events."""
         ends = list(accumulate(leg.events for leg in self.session.course.legs[:]))
-        legs = [int(text.partition(":")[0]) for text in self.session.act_texts if text.split(":")[1] != "attempts"]
-        return [{"events": ends[leg - 1]} for leg in sorted(legs) if leg <= len(ends)]
+        return [{"events": ends[leg - 1]} for leg in self.session.hands[:] if leg <= len(ends)]
 
     def shot_text(self, shot: Shot, before: Sequence[str]) -> str:
         """A shot as JSON, for a page that shows the atoms before."""
@@ -45,11 +47,14 @@ class View:
             if self.last[0] is not before or self.last[1] is not shot.lines:
                 self.last = (before, shot.lines, self.changes(before, shot.lines))
             changes = self.last[2]
+            if self.dots[0] is not shot.last:
+                self.dots = (shot.last, self.places(shot))
+            places = self.dots[1]
         return json.dumps({
             "leg": shot.leg, "events": shot.events, "abandoned": shot.abandoned, "mode": shot.mode,
             "attempts": shot.attempts, "byItself": shot.by_itself, "speed": shot.speed, "fault": shot.fault,
             "acts": [act if len(act) < 80 else f"{act[:78]}.." for act in shot.acts],
-            "done": shot.done, "changes": changes, "places": self.places(shot.given_up),
+            "done": shot.done, "changes": changes, "places": places,
             "failed": None if shot.failed is None else sites(shot.failed), "allFailed": shot.all_failed,
         }, separators=(",", ":"))
 
@@ -69,10 +74,13 @@ class View:
                 "states": base64.b64encode(bytes.fromhex("".join(state for _, state in names))).decode(),
                 "sites": packed("I", found), "after": packed("I", found.values())}
 
-    def places(self, given_up: bytes) -> dict[str, str]:
+    def places(self, shot: Shot) -> dict[str, str]:
         """The sites of attempts that were abandoned in the last leg, and how many there were at each."""
-        lines = given_up.decode().splitlines()[1:]
-        return sites(Counter(int(y) * self.columns + int(x) for _, _, x, y, _ in (line.split(" ", 4) for line in lines)))
+        if shot.last is None:
+            return sites({})
+        given_up = Drawn.given_up(self.session.maker.rule.world_of(shot.leg), shot.last)
+        places = (site.split(" ") for _, _, site in given_up)
+        return sites(Counter(int(y) * self.columns + int(x) for x, y in places))
 
     def history(self) -> list[list[int]]:
         """The events so far, and the counts of the elements, at the ends of legs; of many legs only some."""

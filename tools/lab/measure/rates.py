@@ -2,6 +2,7 @@
 from collections.abc import Iterable, Iterator, Sequence
 from dataclasses import dataclass
 from functools import cached_property
+from operator import add
 from pathlib import Path
 
 from ..base.errors import LabError
@@ -25,27 +26,34 @@ class Rates:
     @staticmethod
     def of(world_path: Path, report_path: Path) -> "Rates":
         """The rates of a run. Refuses a report whose sites or numbers of attempts aren't those of the world."""
-        world = World.read(world_path)
-        report = Report.read(report_path)
+        return Rates.of_run(World.read(world_path), Report.read(report_path), str(world_path), str(report_path))
+
+    @staticmethod
+    def of_run(world: World, report: Report, world_name: str, report_name: str) -> "Rates":
+        """The rates of a run whose world and report are read, and have these names."""
         events, abandoned = len(report.journal), len(report.abandoned)
         attempts = len(world.tries)
         if world.attempts is not None:
             attempts = world.attempts * (world.tiles - len(world.off))
         if events + abandoned != attempts:
-            raise LabError(f"{report_path}: it has {events} events and {abandoned} abandoned attempts, "
-                           f"but {world_path} has {attempts} attempts")
+            raise LabError(f"{report_name}: it has {events} events and {abandoned} abandoned attempts, "
+                           f"but {world_name} has {attempts} attempts")
         first = len(report.atoms) + 4  # the line of the first event
         made = ((tile, x, y) for _, tile, _, x, y, _ in map(fields, report.journal.lines))
         given_up = ((tile, x, y) for tile, _, x, y, *_ in map(fields, report.abandoned.lines))
-        return Rates(world, counts(world, report_path, first, made),
-                     counts(world, report_path, first + events + 1, given_up), [(plans(world), tiles_of(report.journal.lines))])
+        return Rates(world, counts(world, report_name, first, made),
+                     counts(world, report_name, first + events + 1, given_up), [(plans(world), tiles_of(report.journal.lines))])
 
     @staticmethod
-    def of_all(found: Sequence["Rates"]) -> "Rates":
-        """The rates of several runs on one plane, together."""
-        events, abandoned = ([sum(column) for column in zip(*lists, strict=True)]
-                             for lists in ([it.events for it in found], [it.abandoned for it in found]))
-        return Rates(found[0].world, events, abandoned, [leg for it in found for leg in it.legs])
+    def of_all(found: Iterable["Rates"]) -> "Rates":
+        """The rates of several runs on one plane, together; there is at least one."""
+        runs = iter(found)
+        first = next(runs)
+        events, abandoned, legs = first.events, first.abandoned, list(first.legs)
+        for it in runs:
+            events, abandoned = list(map(add, events, it.events)), list(map(add, abandoned, it.abandoned))
+            legs += it.legs
+        return Rates(first.world, events, abandoned, legs)
 
     @cached_property
     def drift(self) -> list[float]:
@@ -72,13 +80,13 @@ def fields(line: str) -> list[str]:
     return line.split(" ")
 
 
-def counts(world: World, path: Path, first: int, entries: Iterable[tuple[str, str, str]]) -> list[int]:
+def counts(world: World, name: str, first: int, entries: Iterable[tuple[str, str, str]]) -> list[int]:
     """How many entries each site has; an entry is its tile and its site, and the first is in a line of the file."""
     found = [0] * (world.columns * world.rows)
     for number, (tile, x, y) in enumerate(entries, first):
         column, row = int(x), int(y)
         if column >= world.columns or row >= world.rows or world.tile_at(column, row) != int(tile):
-            raise LabError(f"{path}:{number}: tile {tile} of the world has no site in column {x} of row {y}")
+            raise LabError(f"{name}:{number}: tile {tile} of the world has no site in column {x} of row {y}")
         found[row * world.columns + column] += 1
     return found
 

@@ -3,10 +3,8 @@ import re
 from collections.abc import Callable
 from dataclasses import dataclass
 from fractions import Fraction
-from pathlib import Path
 
 from ..base.errors import LabError
-from ..base.files import read_text
 from ..formats.layout import Layout
 from ..formats.outcome import counts
 from .measures import SIGNS, Measure, measured
@@ -17,10 +15,10 @@ FORM = "Atoms.Element=N, or in place of Atoms.Element a measure, events or aeps,
 
 @dataclass(frozen=True)
 class LegEnd:
-    """What a chain has come to at the end of a leg: a file with its atoms, as `replay` writes them, the events of all legs so
-    far, and the live sites of the plane."""
+    """What a chain has come to at the end of a leg: its atoms, as `replay` writes them, the events of all legs so far, and the
+    live sites of the plane."""
 
-    atoms: Path
+    atoms: str
     events: int
     sites: int
 
@@ -64,7 +62,7 @@ def number_of(term: str, layout: Layout) -> Callable[[LegEnd], Fraction | None]:
 def of_element(name: str, layout: Layout) -> Callable[[LegEnd], Fraction | None]:
     """The number of atoms of an element."""
     layout.numbers(name)
-    return lambda end: Fraction(counts(read_text(end.atoms), [name])[0])
+    return lambda end: Fraction(counts(end.atoms, [name])[0])
 
 
 def of_measure(name: str, layout: Layout) -> Callable[[LegEnd], Fraction | None]:
@@ -73,7 +71,7 @@ def of_measure(name: str, layout: Layout) -> Callable[[LegEnd], Fraction | None]
 
     def number(end: LegEnd) -> Fraction | None:
         """What it comes to at the end of a leg."""
-        text = measured([measure], read_text(end.atoms))[0]
+        text = measured([measure], end.atoms)[0]
         return Fraction(text) if text else None
 
     return number

@@ -42,8 +42,8 @@ def check(program: Program, sweep: Sweep, number: int, room: Path, copies: dict[
     try:
         first_atoms(program, Path(start), elements, room)
         layout = Layout.of(program, [room / element for element in elements])
-        for act in acts_of(sweep.acts_of(run), World.read(room / start), layout, run.seed):
-            if act.leg > legs:
+        for act in acts_of(sweep.acts_of(run), World.read(room / start), layout):
+            if act.leg > legs and not act.is_every:
                 raise LabError(f"--at {act.text}: a run has {legs} leg{'s' * (legs > 1)}; give --legs {act.leg} or more")
     except Refusal as refusal:
         line = str(refusal)

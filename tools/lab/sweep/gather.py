@@ -2,7 +2,8 @@
 import csv
 import io
 from collections.abc import Iterator, Sequence
-from itertools import accumulate
+from concurrent.futures import ThreadPoolExecutor
+import itertools
 
 from ..base.errors import LabError
 from ..base.files import read_text, write_inside
@@ -11,7 +12,6 @@ from ..base.program import Program
 from ..base.progress import Progress
 from ..chain.audit import AuditedChain
 from ..chain.folder import Folder
-from ..formats.layout import Layout
 from ..measure.until import LegEnd, Until
 from .plan import TABLE, PlannedRun, Sweep
 from .run import again, rows_of
@@ -50,50 +50,60 @@ def spans(numbers: Sequence[int]) -> str:
     return ",".join(str(first) if first == last else f"{first}-{last}" for first, last in ends)
 
 
-def first_fault(sweep: Sweep, progress: Progress) -> str | None:
+def first_fault(sweep: Sweep, progress: Progress, jobs: int) -> str | None:
     """What is wrong first with a sweep; None if it is what its plan says."""
     if sweep.plan.keep != "reports":
         raise LabError(f"{sweep.path}: the sweep can't be audited: it was planned without --keep reports")
     missing = sweep.missing()
     if missing:
         raise LabError(f"{sweep.path}: the sweep can't be audited yet: it lacks the runs {spans(missing)}")
-    return next(faults(sweep, progress), None)
+    return next(faults(sweep, progress, jobs), None)
 
 
-def faults(sweep: Sweep, progress: Progress) -> Iterator[str]:
-    """What is wrong with a sweep: run by run, and then its table."""
-    program, runs = Program.find(), sweep.plan.runs
-    progress.begin(runs)
-    for number in range(1, runs + 1):
-        progress.at(number - 1, f"run {number} of {runs}")
-        yield from (f"run {number}: {fault}" for fault in faults_of(program, sweep, sweep.run(number)))
+def faults(sweep: Sweep, progress: Progress, jobs: int) -> Iterator[str]:
+    """What is wrong with a sweep: run by run, of which so many are audited side by side, and then its table."""
+    program, runs = Program.find(), range(1, sweep.plan.runs + 1)
+    progress.begin(len(runs))
+    pool = ThreadPoolExecutor(jobs)
+    try:
+        for number, fault in zip(runs, pool.map(lambda number: fault_of(program, sweep, sweep.run(number)), runs), strict=True):
+            if fault is not None:
+                yield f"run {number}: {fault}"
+            progress.at(number, f"run {number} of {len(runs)}")
+    finally:
+        pool.shutdown(cancel_futures=True)
     progress.end()
-    if read_text(sweep.path / TABLE) != table(sweep, range(1, runs + 1), progress):
+    if read_text(sweep.path / TABLE) != table(sweep, runs, progress):
         yield f"{TABLE}: its rows are not those of the runs"
 
 
-def faults_of(program: Program, sweep: Sweep, run: PlannedRun) -> Iterator[str]:
-    """What is wrong with a run: it isn't the chain that the plan says, or its chain isn't true."""
+def fault_of(program: Program, sweep: Sweep, run: PlannedRun) -> str | None:
+    """What is wrong first with a run: it isn't the chain that the plan says, or its chain isn't true."""
     folder = Folder(sweep.folder(run.number))
     rows_of(sweep, run)
-    chain = AuditedChain.of(program, folder, folder.begun())
-    if not ends_as_planned(sweep, folder, chain):
-        yield "it has not the legs that the plan says"
+    begun = folder.begun()
+    changed = folder.changed(begun)
+    if changed is not None:
+        return f"start: {changed.name} is not as it was when the chain was begun"
+    chain = AuditedChain.of(program, folder)
+    if not ends_as_planned(sweep, chain):
+        return "it has not the legs that the plan says"
     try:
         again(sweep, run)
     except LabError as error:
-        yield f"it is not the chain that the plan says: {error}"
-    if folder.act_texts(chain.begun) != chain.begun.at:
-        yield "acts were done that the plan hasn't"
-    yield from chain.faults(range(len(chain.course.legs)), Progress())
+        return f"it is not the chain that the plan says: {error}"
+    if folder.act_texts() != begun.at:
+        return "acts were done that the plan hasn't"
+    return next(chain.faults(1, Progress()), None)
 
 
-def ends_as_planned(sweep: Sweep, folder: Folder, chain: AuditedChain) -> bool:
+def ends_as_planned(sweep: Sweep, chain: AuditedChain) -> bool:
     """Whether a run has all its legs, or else those up to the first at whose end the rule of --until holds."""
-    last, legs = len(chain.course.legs) - 1, sweep.plan.legs or 1
+    folder, last, legs = chain.maker.folder, chain.packs.done, sweep.plan.legs or 1
     if sweep.plan.until is None:
         return last == legs
-    until = Until.of(sweep.plan.until, Layout.of(chain.program, folder.files))
-    ends = accumulate(leg.events for leg in chain.course.legs)
-    holds = [leg for leg, events in enumerate(ends) if until.holds(LegEnd(folder.atoms(leg), events, chain.course.sites))]
+    until = Until.of(sweep.plan.until, chain.maker.layout)
+    atoms = itertools.chain([folder.atoms(0, chain.maker.begun)], (report.atoms for _, report in chain.packs.all()))
+    ends = itertools.accumulate(leg.events for leg in chain.course.legs)
+    holds = [leg for leg, (left, events) in enumerate(zip(atoms, ends, strict=True)) if until.holds(LegEnd(left, events, chain.course.sites))]
     return holds == [last] or (last == legs and not holds)

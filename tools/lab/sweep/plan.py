@@ -18,12 +18,12 @@ from ..base.errors import LabError
 from ..base.files import PART, cause, read_byte_text, read_bytes, read_text
 from ..base.inputs import ELEMENTS, START, Inputs
 from ..base.seeds import nth
-from ..chain.folder import DRIFT
+from ..chain.course import DRIFT
 from ..formats.constants import with_values
 from ..formats.world import World
 from .values import OF_WORLD, FILL, set_world
 
-FORM = "feast sweep 2"
+FORM = "feast sweep 3"
 PLAN = "sweep.json"
 RUNS = "runs"
 TABLE = "sweep.csv"

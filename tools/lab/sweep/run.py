@@ -13,8 +13,9 @@ from ..base.errors import LabError
 from ..base.files import PART, cause, read_rows, read_text, sync, write_new
 from ..base.inputs import START, digest
 from ..base.progress import Progress, Stop
-from ..chain.folder import COLUMNS, COURSE
+from ..chain.course import COLUMNS, COURSE
 from ..chain.making import WantedChain, made
+from ..chain.start import Options
 from .plan import Plan, PlannedRun, Sweep
 
 LABEL = "run.json"
@@ -50,8 +51,8 @@ def inputs(sweep: Sweep, run: PlannedRun) -> Iterator[tuple[Path, Path, list[Pat
 def wanted_chain(sweep: Sweep, run: PlannedRun, folder: Path, world: Path, files: Sequence[Path]) -> WantedChain:
     """The chain that a run is."""
     plan = sweep.plan
-    return WantedChain(folder, world, files, plan.legs or 1, plan.step, run.seed, plan.keep, sweep.acts_of(run), plan.until, plan.measures,
-                       drift=plan.drift)
+    options = Options(plan.step, run.seed, plan.keep, 1, sweep.acts_of(run))
+    return WantedChain(folder, world, files, plan.legs or 1, options, plan.until, plan.measures, drift=plan.drift)
 
 
 def label(plan: Plan, run: PlannedRun) -> str:

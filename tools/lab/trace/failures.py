@@ -4,7 +4,7 @@ from collections.abc import Iterator, Sequence
 from pathlib import Path
 
 from ..base.files import read_text
-from ..chain.folder import FAILED
+from ..chain.course import FAILED
 from ..machine.declarations import Declarations
 from ..machine.event import CAUSES
 from .retraced import Retraced

@@ -4,11 +4,11 @@ from pathlib import Path
 
 from ..base.program import Program
 from ..base.progress import Progress
+from ..film.chain_legs import KeptLeg
 from ..film.frames import Reported
 from ..film.recording import Recording
 from ..film.replays import Plane
 from ..formats.report import JournalRecord
-from ..formats.world import World
 from ..machine.code import element_codes
 from ..machine.maker import MadeEvent, EventMaker
 from ..machine.windows import Disagreement, WindowCheck
@@ -47,7 +47,7 @@ class Retraced:
                         self.progress.at(number, f"event {number:,}")
         self.progress.end()
 
-    def leg(self, leg: Reported, begin: int, since: int) -> Iterator[tuple[int, JournalRecord]]:
+    def leg(self, leg: Reported | KeptLeg, begin: int, since: int) -> Iterator[tuple[int, JournalRecord]]:
         """The events of a leg after so many, with their numbers in the run; they are made on the plane one by one."""
         report = leg.checked(self.program, self.recording.files, self.room)
         self.maker.begin(self.atoms(leg, since))
@@ -55,18 +55,16 @@ class Retraced:
             yield begin + at, JournalRecord.of(line)
         self.check.end()
         if self.maker.lines() != [atom.text() for atom in report.atoms]:
-            raise Disagreement(f"{leg.report}: the lab comes to other atoms than the program's replay")
+            raise Disagreement(f"{leg.name}: the lab comes to other atoms than the program's replay")
 
-    def atoms(self, leg: Reported, events: int) -> list[str]:
+    def atoms(self, leg: Reported | KeptLeg, events: int) -> list[str]:
         """The atoms after so many events of a leg, as lines of a report."""
-        if events == 0:
-            return [atom.text() for atom in World.read(leg.world).atoms]
         return leg.atoms_after(Plane(self.program, self.recording.files, self.room), events)
 
     def event(self, number: int) -> tuple[JournalRecord, MadeEvent | None]:
         """One event alone, with what it does, between the planes that `rewind` has before it and after it."""
         leg, upto = self.recording.leg_at(number)
-        assert isinstance(leg, Reported)
+        assert isinstance(leg, Reported | KeptLeg)
         record = leg.checked(self.program, self.recording.files, self.room).journal[upto - 1]
         self.maker.begin(self.atoms(leg, upto - 1))
         made = self.maker.make(number, record, True)
