@@ -39,7 +39,8 @@ class Sweeps(PackageCase):
         """A sweep in a folder is made once, and is gone on with; a run that keeps its reports is a chain."""
         script = PLAIN + (
             "import pathlib, shutil\n"
-            "make = lambda **more: feast_lab.sweep(world, elements, set={'attempts': [20, 30]}, seed=7, keep='reports', folder='here', **more)\n"
+            "make = lambda **more: feast_lab.sweep(world, elements, set={'attempts': [20, 30]}, seed=7, step=True, keep='reports',\n"
+            "                                      folder='here', **more)\n"
             "first = make().rows.tolist()\n"
             "shutil.rmtree('here/runs/00002')\n"
             "read = feast_lab.Sweep('here')\n"
