@@ -16,12 +16,17 @@ element Wall { Void behave() { } }
 
 
 @cache
-def with_extras() -> str | None:
-    """A Python that has NumPy, pandas and Matplotlib."""
+def python_with(imports: str) -> str | None:
+    """A Python that can run these imports."""
     for path in (sys.executable, "/usr/bin/python3"):
-        if subprocess.run([path, "-c", EXTRAS], capture_output=True, check=False).returncode == 0:
+        if subprocess.run([path, "-c", imports], capture_output=True, check=False).returncode == 0:
             return path
     return None
+
+
+def with_extras() -> str | None:
+    """A Python that has NumPy, pandas and Matplotlib."""
+    return python_with(EXTRAS)
 
 
 @cache

@@ -3,26 +3,16 @@ import json
 import os
 import shutil
 import subprocess
-import sys
 import unittest
-from functools import cache
 from pathlib import Path
 from typing import Any
 
 from calls import EXAMPLES, TOP, LabCase, program
+from packaged import python_with
 
 NEEDS = "import numpy, pandas, matplotlib, nbconvert, nbclient, ipykernel"
 MOST_BYTES = 400_000  # of a notebook with its output
 BOOKS = sorted(path.name for path in (EXAMPLES / "notebooks").glob("*.ipynb"))
-
-
-@cache
-def jupyter() -> str | None:
-    """A Python that can run notebooks."""
-    for path in (sys.executable, "/usr/bin/python3"):
-        if subprocess.run([path, "-c", NEEDS], capture_output=True, check=False).returncode == 0:
-            return path
-    return None
 
 
 def told(book: Path) -> list[list[str]]:
@@ -41,7 +31,7 @@ class Notebooks(LabCase):
 
     def check(self, name: str) -> None:
         """Runs a notebook, and compares what it says with what it said."""
-        python = jupyter()
+        python = python_with(NEEDS)
         if python is None:
             raise unittest.SkipTest("no Python has Jupyter, NumPy, pandas and Matplotlib")
         shutil.copytree(EXAMPLES, self.room / "examples")
