@@ -4,7 +4,7 @@ use Rattle.text_lines.specs.Fields.{fields}
 use Rattle.text_lines.specs.Forms.{with, take_number, one_field, one_number}
 use Rattle.world_text.specs.Line.{Line, header as world_header, tiles, size, off, seed, attempts as world_attempts, try, atom, order_seed, order, IsFormed as IsWorldFormed}
 use Rattle.world_text.specs.Forms.{form, name_state, form_of as world_form_of}
-use Rattle.world_text.proofs.Formed.{line_formed_by}
+use Rattle.world_text.proofs.Formed.{line_formed_by, named_state}
 use Rattle.chain_text.specs.Forms.{act_by_word, act_form, chain_form, chance_form, chance_of, every_form, every_line, form_of, journal_form, journal_of, legs_form, line_of, once_form, one_area, plain_line, put_form, take_area, take_chance, version_form, version_of}
 use Rattle.chain_text.specs.Line.{Area, ActLine, ChainLine, IsFormed, IsFormedAct, header, plain, legs, first, journal, print, every, act, clear, put, erase, flip, attempts}
 use Rattle.chain_text.specs.declared.chain.Journal.TheVariants.{Whole, Short, Counts}
@@ -41,7 +41,7 @@ word_formed word args a e = on (bytes_eq word (codes "clear")) (bytes_eq word (c
         else (if g then option_map attempts (one_number args)
         else None))))) ≡ Some a → IsFormedAct a
     on true c d f g e = mapped IsFormedAct (one_area args) clear (λ x is. tt {0}) a e
-    on false true d f g e = through IsFormedAct (take_area args) _ (λ x b is h. mapped IsFormedAct (name_state x.1) (λ n. put x.0 n.0 n.1) (λ n j. tt {0}) b h) a e
+    on false true d f g e = through IsFormedAct (take_area args) _ (λ x b is h. mapped IsFormedAct (name_state x.1) (λ n. put x.0 n.0 n.1) (λ n j. named_state x.1 n j) b h) a e
     on false false true f g e = mapped IsFormedAct (chance_form args) (λ c. erase c.0 c.1) (λ x is. chance_formed args x is) a e
     on false false false true g e = mapped IsFormedAct (chance_form args) (λ c. flip c.0 c.1) (λ x is. chance_formed args x is) a e
     on false false false false true e = mapped IsFormedAct (one_number args) attempts (λ x is. tt {0}) a e
@@ -94,7 +94,7 @@ journal_formed f l e = on (bytes_eq f (codes "whole")) (bytes_eq f (codes "short
     on : (a b c : Bool) → (if a then Some (journal Whole) else (if b then Some (journal Short) else (if c then Some (journal (Counts 1)) else None))) ≡ Some l → IsFormed l
     on true b c e = let same : journal Whole ≡ l = cc in subst IsFormed same (tt {0})
     on false true c e = let same : journal Short ≡ l = cc in subst IsFormed same (tt {0})
-    on false false true e = let same : journal (Counts 1) ≡ l = cc in subst IsFormed same (tt {0})
+    on false false true e = let same : journal (Counts 1) ≡ l = cc in subst IsFormed same refl
     on false false false e = cc
 
 world_formed : (word : List ℕ) (args : List (List ℕ)) (w : Line) → form word args ≡ Some w → IsWorldFormed w

@@ -13,8 +13,8 @@ use Rattle.world_text.specs.Drafts.{DraftValue, IsDraft, between, misplaced_code
 use Rattle.world_text.specs.Line.{Line, header as world_header, attempts as world_attempts, tiles, size, off, seed, try, atom, order_seed, order, IsFormed as IsWorldFormed}
 use Rattle.world_text.specs.declared.kind.Kind.{Kind}
 use Rattle.world_text.specs.declared.kind.Kind.TheVariants.{Attempts as AttemptsLine}
-use Rattle.chain_text.specs.Drafts.{ChainDraft, IsChainDraft, IsNumberedAct, IsRawAct, IsAreaIn, after_act, after_atom, after_counted, after_every, after_first, after_legs, act_in_range, area_in_range, asks_too_many, in_range, is_attempts, is_plane, may_come, missing, nothing_said, numbered, only_world, plain_may_come, plain_stage, put_line, raw_act, rectangle_of, step, step_line, step_own, too_many, with_world}
-use Rattle.chain_text.specs.Line.{Area, ActLine, ChainLine, IsFormed, IsRepeated, header, plain, legs, first, journal, print, every, act, clear, put, erase, flip, attempts}
+use Rattle.chain_text.specs.Drafts.{ChainDraft, IsChainDraft, IsJournal, IsNumberedAct, IsRawAct, IsAreaIn, after_act, after_atom, after_counted, after_every, after_first, after_legs, act_in_range, area_in_range, asks_too_many, in_range, is_attempts, is_plane, may_come, missing, nothing_said, numbered, only_world, plain_may_come, plain_stage, put_line, raw_act, rectangle_of, step, step_line, step_own, too_many, with_world}
+use Rattle.chain_text.specs.Line.{Area, ActLine, ChainLine, IsFormed, IsFormedAct, IsFormedJournal, IsRepeated, header, plain, legs, first, journal, print, every, act, clear, put, erase, flip, attempts}
 use Rattle.chain_text.specs.Forms.{line_of}
 use Rattle.chain_text.specs.Reading.{go_on, line_step, over, read_lines, read_text}
 use Rattle.chain_text.specs.declared.chain.Journal.{Journal}
@@ -33,6 +33,7 @@ only_kept w k = record {
   early = λ h. refl;
   some = (omega arith, omega arith);
   first = (omega arith, omega arith);
+  journal = tt {0};
   leg = (omega arith, omega arith);
   every = All-nil _;
   once = All-nil _;
@@ -77,6 +78,7 @@ atom_kept d w k p kw plane whole = record {
   early = λ h. absurd (cc h);
   some = k.some;
   first = k.first;
+  journal = k.journal;
   leg = k.leg;
   every = subst (λ (m : MapValue). All (IsNumberedAct m) d.every) plane k.every;
   once = subst (λ (m : MapValue). All (IsNumberedAct m) d.once) plane k.once;
@@ -126,6 +128,7 @@ legs_kept n c d k p a h =
       early = λ g. absurd (cc g);
       some = range;
       first = (omega (arith, one), omega (arith, one, range.1));
+      journal = k.journal;
       leg = k.leg;
       every = k.every;
       once = k.once;
@@ -142,6 +145,7 @@ first_kept n f d k m h =
       early = λ g. absurd (cc g);
       some = k.some;
       first = (test_le 1 f p.0, test_le (f + d.legs) 4294967296 p.1);
+      journal = k.journal;
       leg = k.leg;
       every = k.every;
       once = k.once;
@@ -150,13 +154,14 @@ first_kept n f d k m h =
     }
 
 -- another stage, and other reports
-reports_kept : (d : ChainDraft) (s : Stage) (j : Journal) → IsChainDraft d → is_plane d.stage ≡ false → is_plane s ≡ false → IsChainDraft (record d { stage = s; journal = j })
-reports_kept d s j k m p = record {
+reports_kept : (d : ChainDraft) (s : Stage) (j : Journal) → IsChainDraft d → is_plane d.stage ≡ false → is_plane s ≡ false → IsJournal j → IsChainDraft (record d { stage = s; journal = j })
+reports_kept d s j k m p r = record {
   world = k.world;
   whole = λ g. k.whole m;
   early = λ g. absurd (cc g);
   some = k.some;
   first = k.first;
+  journal = r;
   leg = k.leg;
   every = k.every;
   once = k.once;
@@ -164,28 +169,28 @@ reports_kept d s j k m p = record {
   before = k.before;
 }
 
-journal_kept : (n : ℕ) (j : Journal) (d : ChainDraft) → IsChainDraft d → after_first d.stage ≡ true → IsChainDraft (put_line n d (journal j))
+journal_kept : (n : ℕ) (j : Journal) (d : ChainDraft) → IsChainDraft d → IsFormedJournal j → after_first d.stage ≡ true → IsChainDraft (put_line n d (journal j))
 unfolding put_line
-journal_kept n Whole d k m = reports_kept d Recorded Whole k (late after_first d.stage refl m) refl
-journal_kept n Short d k m = reports_kept d Recorded Short k (late after_first d.stage refl m) refl
-journal_kept n (Counts p) d k m = reports_kept d Counted (Counts p) k (late after_first d.stage refl m) refl
+journal_kept n Whole d k f m = reports_kept d Recorded Whole k (late after_first d.stage refl m) refl (tt {0})
+journal_kept n Short d k f m = reports_kept d Recorded Short k (late after_first d.stage refl m) refl (tt {0})
+journal_kept n (Counts p) d k f m = reports_kept d Counted (Counts p) k (late after_first d.stage refl m) refl (omega (arith, f), omega (arith, f))
 
-print_kept : (n p : ℕ) (d : ChainDraft) → IsChainDraft d → after_counted d.stage ≡ true → IsChainDraft (put_line n d (print p))
-unfolding put_line
-print_kept n p d k m = reports_kept d Print (Counts p) k (late after_counted d.stage refl m) refl
+print_kept : (n p : ℕ) (d : ChainDraft) → IsChainDraft d → after_counted d.stage ≡ true → in_range d (print p) ≡ true → IsChainDraft (put_line n d (print p))
+unfolding put_line in_range
+print_kept n p d k m h = reports_kept d Print (Counts p) k (late after_counted d.stage refl m) refl (between_is 1 1000000 p h)
 
 -- an area in its range, as a rectangle
 area_kept : (m : MapValue) (a : Area) → area_in_range m a ≡ true → IsAreaIn m (rectangle_of a)
 area_kept m a h = let p = area_is m a h in record { columns = (omega (arith, p.0), p.2); rows = (omega (arith, p.1), p.3) }
 
 -- an act in its ranges
-act_kept : (w : DraftValue) (a : ActLine) → act_in_range w.plane a ≡ true → too_many w a ≡ false → IsRawAct w.plane (raw_act a)
+act_kept : (w : DraftValue) (a : ActLine) → IsFormedAct a → act_in_range w.plane a ≡ true → too_many w a ≡ false → IsRawAct w.plane (raw_act a)
 unfolding world_too_many
-act_kept w (clear a) h f = (area_kept w.plane a h, tt {0}, tt {0})
-act_kept w (put a name s) h f = let p = both (area_in_range w.plane a) (nat_lt s (2 ^ 71)) h in (area_kept w.plane a p.0, lt_is s (2 ^ 71) p.1)
-act_kept w (erase p a) h f = (area_kept w.plane a h, tt {0}, tt {0})
-act_kept w (flip p a) h f = (area_kept w.plane a h, tt {0}, tt {0})
-act_kept w (attempts c) h f = (tt {0}, few_at c (tiles_on w.plane.off) f, tt {0})
+act_kept w (clear a) g h f = (area_kept w.plane a h, tt {0}, tt {0}, tt {0})
+act_kept w (put a name s) g h f = let p = both (area_in_range w.plane a) (nat_lt s (2 ^ 71)) h in (area_kept w.plane a p.0, g, lt_is s (2 ^ 71) p.1)
+act_kept w (erase p a) g h f = (area_kept w.plane a h, tt {0}, tt {0}, g)
+act_kept w (flip p a) g h f = (area_kept w.plane a h, tt {0}, tt {0}, g)
+act_kept w (attempts c) g h f = (tt {0}, few_at c (tiles_on w.plane.off) f, tt {0}, tt {0})
 
 every_few : (w : DraftValue) (a : ActLine) → IsRepeated a → too_many w a ≡ false
 every_few w (clear a) r = refl
@@ -194,16 +199,18 @@ every_few w (erase p a) r = refl
 every_few w (flip p a) r = refl
 every_few w (attempts c) r = absurd r
 
-every_kept : (n c : ℕ) (a : ActLine) (d : ChainDraft) → IsChainDraft d → IsRepeated a → after_every d.stage ≡ true → in_range d (every c a) ≡ true → IsChainDraft (put_line n d (every c a))
+every_kept : (n c : ℕ) (a : ActLine) (d : ChainDraft) → IsChainDraft d → IsFormedAct a → IsRepeated a → after_every d.stage ≡ true → in_range d (every c a) ≡ true → IsChainDraft (put_line n d (every c a))
 unfolding put_line in_range
-every_kept n c a d k r m h =
+every_kept n c a d k g r m h =
     let p = both (between 1 4294967295 c) (act_in_range d.world.plane a) h in
-    let one : IsNumberedAct d.world.plane (numbered n c a) = record { low = (between_is 1 4294967295 c p.0).0; act = act_kept d.world a p.1 (every_few d.world a r) } in record {
+    let range = between_is 1 4294967295 c p.0 in
+    let one : IsNumberedAct d.world.plane (numbered n c a) = record { low = range.0; high = range.1; act = act_kept d.world a g p.1 (every_few d.world a r) } in record {
       world = k.world;
       whole = λ g. k.whole (late after_every d.stage refl m);
       early = λ g. absurd (cc g);
       some = k.some;
       first = k.first;
+      journal = k.journal;
       leg = k.leg;
       every = All-append (IsNumberedAct d.world.plane) d.every (numbered n c a ∷ []) k.every (All-cons (IsNumberedAct d.world.plane) (numbered n c a) [] one (All-nil _));
       once = k.once;
@@ -211,19 +218,20 @@ every_kept n c a d k r m h =
       before = k.before;
     }
 
-once_kept : (n c : ℕ) (a : ActLine) (d : ChainDraft) → IsChainDraft d → after_act d.stage ≡ true → in_range d (act c a) ≡ true → asks_too_many d (act c a) ≡ false → IsChainDraft (put_line n d (act c a))
+once_kept : (n c : ℕ) (a : ActLine) (d : ChainDraft) → IsChainDraft d → IsFormedAct a → after_act d.stage ≡ true → in_range d (act c a) ≡ true → asks_too_many d (act c a) ≡ false → IsChainDraft (put_line n d (act c a))
 unfolding put_line in_range
-once_kept n c a d k m h f =
+once_kept n c a d k g m h f =
     let p = both (between d.leg 4294967295 c) (act_in_range d.world.plane a) h in
     let range = between_is d.leg 4294967295 c p.0 in
     let low : 1 ≤ c = omega (arith, range.0, k.leg.0) in
-    let one : IsNumberedAct d.world.plane (numbered n c a) = record { low = low; act = act_kept d.world a p.1 f } in
+    let one : IsNumberedAct d.world.plane (numbered n c a) = record { low = low; high = range.1; act = act_kept d.world a g p.1 f } in
     let before : All (λ (x : NumberedAct). x.number ≤ c) d.once = λ i x lt. let was = k.before i x lt in omega (arith, was, range.0) in record {
       world = k.world;
       whole = λ g. k.whole (late after_act d.stage refl m);
       early = λ g. absurd (cc g);
       some = k.some;
       first = k.first;
+      journal = k.journal;
       leg = (low, range.1);
       every = k.every;
       once = All-append (IsNumberedAct d.world.plane) d.once (numbered n c a ∷ []) k.once (All-cons (IsNumberedAct d.world.plane) (numbered n c a) [] one (All-nil _));
@@ -246,10 +254,10 @@ line_kept n d e header k f m h = plain_kept n d e (world_header true) k (tt {0})
 line_kept n d e (plain l) k f m h = plain_kept n d e l k f m h
 line_kept n d e (legs c) k f m h = let p = both (is_plane d.stage) (is_attempts d.world.last) m in own_kept n d e (legs c) (λ r g. legs_kept n c d k p.0 p.1 r) h
 line_kept n d e (first c) k f m h = own_kept n d e (first c) (λ r g. first_kept n c d k m r) h
-line_kept n d e (journal j) k f m h = own_kept n d e (journal j) (λ r g. journal_kept n j d k m) h
-line_kept n d e (print p) k f m h = own_kept n d e (print p) (λ r g. print_kept n p d k m) h
-line_kept n d e (every c a) k f m h = own_kept n d e (every c a) (λ r g. every_kept n c a d k f.1 m r) h
-line_kept n d e (act c a) k f m h = own_kept n d e (act c a) (λ r g. once_kept n c a d k m r g) h
+line_kept n d e (journal j) k f m h = own_kept n d e (journal j) (λ r g. journal_kept n j d k f m) h
+line_kept n d e (print p) k f m h = own_kept n d e (print p) (λ r g. print_kept n p d k m r) h
+line_kept n d e (every c a) k f m h = own_kept n d e (every c a) (λ r g. every_kept n c a d k f.0 f.1 m r) h
+line_kept n d e (act c a) k f m h = own_kept n d e (act c a) (λ r g. once_kept n c a d k f m r g) h
 
 -- a step keeps it
 pub step_kept : (n : ℕ) (d e : ChainDraft) (o : Option ChainLine) → ((l : ChainLine) → o ≡ Some l → IsFormed l) → IsChainDraft d → step n d o ≡ Ok e → IsChainDraft e

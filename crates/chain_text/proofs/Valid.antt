@@ -47,7 +47,7 @@ acts_fit m acts all = λ i x lt. one (get_or acts i x).act (all i x lt).act
   where
     one : (a : RawAct) → IsRawAct m a → IfNamed a (λ s. s < 2 ^ 71)
     one (Known a) k = tt {0}
-    one (Named r name s) k = k.1
+    one (Named r name s) k = k.2
 
 -- what makes the schedule
 pub periods_named : (names : List (List ℕ)) (m : MapValue) (acts : List NumberedAct) → All (IsNumberedAct m) acts → All (λ (e : Every). 1 ≤ e.period) (map (every_of names) acts)
@@ -168,7 +168,7 @@ unnamed_known n (Attempts k) u = tt {0}
 
 act_valid : (names : List (List ℕ)) (m : MapValue) (a : RawAct) → IsRawAct m a → is_named names a ≡ true → IsActOn (m.tx * m.w) (m.ty * m.h) (act_of names a) × IsChainAct (length names) m (act_of names a)
 act_valid names m (Known a) k h = (k.0, (unnamed_known (length names) a k.2, k.1))
-act_valid names m (Named r name s) k h = let p = known_type names name h in (k.0, ((p.0, p.1, k.1), tt {0}))
+act_valid names m (Named r name s) k h = let p = known_type names name h in (k.0, ((p.0, p.1, k.2), tt {0}))
 
 acts_valid : (names : List (List ℕ)) (m : MapValue) (acts : List NumberedAct) → All (IsNumberedAct m) acts → acts_fault names acts ≡ None →
     All (λ (a : NumberedAct). IsActOn (m.tx * m.w) (m.ty * m.h) (act_of names a.act) × IsChainAct (length names) m (act_of names a.act)) acts
@@ -206,6 +206,7 @@ chain_valid names d c k h =
       attempts = origin.1;
       some = k.some;
       first = k.first;
+      journal = k.journal;
       schedule = record { periods = periods_named names m d.every k.every; ordered = ordered_named names d.once k.ordered };
       areas = (
         All-map (λ (e : Every). IsActOn (m.tx * m.w) (m.ty * m.h) e.act) (every_of names) d.every (λ i x lt. (every i x lt).0),

@@ -11,7 +11,7 @@ use Rattle.plane_acts.specs.declared.schedule.Once.{Once}
 use Rattle.plane_acts.specs.declared.act.Act.TheVariants.{Put}
 use Rattle.tile_map.specs.Plane.{MapValue, IsMap, site, is_live}
 use Rattle.world_text.specs.declared.world.Placed.{Placed}
-use Rattle.chain_text.specs.Drafts.{IsFew}
+use Rattle.chain_text.specs.Drafts.{IsFew, IsJournal}
 use Rattle.chain_text.specs.declared.chain.Journal.{Journal}
 use Rattle.chain_text.specs.declared.limits.TheConstants.{LAST_LEG, MOST_LEGS}
 
@@ -53,6 +53,7 @@ pub record IsChain (names : List (List ℕ)) (c : ChainValue) : Type 0 where
   pub attempts : c.attempts * tiles_on c.plane.off ≤ MOST_ATTEMPTS
   pub some : (1 ≤ c.legs) × (c.legs ≤ MOST_LEGS)
   pub first : (1 ≤ c.first) × (c.first + c.legs ≤ LAST_LEG + 1)
+  pub journal : IsJournal c.journal
   pub schedule : IsSchedule c.schedule
   pub areas : AreActsOn (c.plane.tx * c.plane.w) (c.plane.ty * c.plane.h) c.schedule
   pub every : All (λ (e : Every). IsChainAct (length names) c.plane e.act) c.schedule.every

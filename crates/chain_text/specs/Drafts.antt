@@ -3,6 +3,7 @@ use Rattle.std.specs.Prelude.{ℕ, ◌+◌, ◌≡◌, ◌≤◌, ◌<◌, ◌*�
 use Rattle.bit_field.specs.declared.TheConstants.{STATE_BITS}
 use Rattle.cell_grid.specs.Shut.{rectangle}
 use Rattle.cell_grid.specs.declared.marks.Rectangle.{Rectangle}
+use Rattle.feast_base.specs.TypeNames.{is_type_name}
 use Rattle.feast_base.specs.declared.limits.TheConstants.{MOST_ATTEMPTS}
 use Rattle.plane_acts.specs.Acts.{IsActOn, IsAreaOf}
 use Rattle.plane_acts.specs.declared.act.Act.{Act}
@@ -212,10 +213,16 @@ abbrev pub IsUnnamed : Act → Type 0
 IsUnnamed (Put r a) = ⊥
 IsUnnamed a = Unit {0}
 
+-- an act whose chance is at most 1
+abbrev pub IsLikely : Act → Type 0
+IsLikely (Erase p r) = p ≤ BILLION
+IsLikely (Flip p r) = p ≤ BILLION
+IsLikely a = Unit {0}
+
 -- an act of a chain with this plane
 abbrev pub IsRawAct : MapValue → RawAct → Type 0
-IsRawAct m (Known a) = IsActOn (m.tx * m.w) (m.ty * m.h) a × IsFew m a × IsUnnamed a
-IsRawAct m (Named r name s) = IsAreaIn m r × (s < 2 ^ STATE_BITS)
+IsRawAct m (Known a) = IsActOn (m.tx * m.w) (m.ty * m.h) a × IsFew m a × IsUnnamed a × IsLikely a
+IsRawAct m (Named r name s) = IsAreaIn m r × (is_type_name name ≡ true) × (s < 2 ^ STATE_BITS)
 
 -- an area of a plane of the largest size
 pub record IsSmall (a : Area) : Type 0 where
@@ -233,7 +240,13 @@ IsSmallAct (attempts k) = k ≤ MOST_ATTEMPTS
 -- an act of a chain with this plane, and the number that it stands with
 pub record IsNumberedAct (m : MapValue) (a : NumberedAct) : Type 0 where
   pub low : 1 ≤ a.number
+  pub high : a.number ≤ LAST_LEG
   pub act : IsRawAct m a.act
+
+-- reports after legs whose number is in its range, if not after all
+abbrev pub IsJournal : Journal → Type 0
+IsJournal (Counts p) = (1 ≤ p) × (p ≤ MOST_LEGS)
+IsJournal j = Unit {0}
 
 -- what holds of every draft that lines make
 pub record IsChainDraft (d : ChainDraft) : Type 0 where
@@ -242,6 +255,7 @@ pub record IsChainDraft (d : ChainDraft) : Type 0 where
   pub early : is_plane d.stage ≡ true → d ≡ only_world d.world
   pub some : (1 ≤ d.legs) × (d.legs ≤ MOST_LEGS)
   pub first : (1 ≤ d.first) × (d.first + d.legs ≤ LAST_LEG + 1)
+  pub journal : IsJournal d.journal
   pub leg : (1 ≤ d.leg) × (d.leg ≤ LAST_LEG)
   pub every : All (IsNumberedAct d.world.plane) d.every
   pub once : All (IsNumberedAct d.world.plane) d.once

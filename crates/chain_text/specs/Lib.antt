@@ -4,5 +4,6 @@ pub mod Forms
 pub mod Legs
 pub mod Line
 pub mod Named
+pub mod Printed
 pub mod Reading
 pub mod Values

@@ -1,8 +1,10 @@
 -- What a line of a chain says.
-use Rattle.std.specs.Prelude.{ℕ, ◌≤◌, List}
+use Rattle.std.specs.Prelude.{ℕ, ◌≡◌, ◌≤◌, true, List}
+use Rattle.feast_base.specs.TypeNames.{is_type_name}
 use Rattle.plane_acts.specs.declared.chance.TheConstants.{BILLION}
 use Rattle.world_text.specs.Line.{Line, IsFormed as IsWorldFormed}
 use Rattle.chain_text.specs.declared.chain.Journal.{Journal}
+use Rattle.chain_text.specs.declared.chain.Journal.TheVariants.{Counts}
 
 -- an area: its first column and row, and how many columns and rows it has
 pub record Area : Type 0 where
@@ -30,8 +32,9 @@ pub data ChainLine : Type 0 where
   every : ℕ → ActLine → ChainLine
   act : ℕ → ActLine → ChainLine
 
--- what the form of a chance gives
+-- what the forms of names and chances give
 abbrev pub IsFormedAct : ActLine → Type 0
+IsFormedAct (put a name s) = is_type_name name ≡ true
 IsFormedAct (erase p a) = p ≤ BILLION
 IsFormedAct (flip p a) = p ≤ BILLION
 IsFormedAct a = Unit {0}
@@ -41,9 +44,15 @@ abbrev pub IsRepeated : ActLine → Type 0
 IsRepeated (attempts k) = ⊥
 IsRepeated a = Unit {0}
 
--- what the forms of digits, names, chances and acts give
+-- what the word `none` gives: each leg has a report
+abbrev pub IsFormedJournal : Journal → Type 0
+IsFormedJournal (Counts p) = p ≡ 1
+IsFormedJournal j = Unit {0}
+
+-- what the forms of digits, names, reports, chances and acts give
 abbrev pub IsFormed : ChainLine → Type 0
 IsFormed (plain l) = IsWorldFormed l
+IsFormed (journal j) = IsFormedJournal j
 IsFormed (every k a) = IsFormedAct a × IsRepeated a
 IsFormed (act k a) = IsFormedAct a
 IsFormed l = Unit {0}

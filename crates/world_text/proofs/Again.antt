@@ -74,7 +74,8 @@ order_again (t ∷ ts) some p =
     let digits = (decimal_digits t (All-head (λ n. n < 2 ^ 64) t ts p)).0 in
     rw (not_seed (decimal t) digits, all_numbers (t ∷ ts) p) refl
 
-form_again : (l : Line) → IsPrinted l → form_of (line_fields l) ≡ Some l
+-- the fields of a printed line say this line
+pub form_again : (l : Line) → IsPrinted l → form_of (line_fields l) ≡ Some l
 unfolding form_of form short_form plane_form take_number one_field name_state state_of
 form_again (header true) p = refl
 form_again (header false) p = refl

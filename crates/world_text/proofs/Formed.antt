@@ -57,7 +57,7 @@ mapped : {X : Type 0} (P : Line → Type 0) (o : Option X) (f : X → Line) → 
 mapped P None f so l e = cc
 mapped P (Some x) f so l e = let same : f x ≡ l = cc in subst P same (so x refl)
 
-named_state : (args : List (List ℕ)) (p : List ℕ × ℕ) → name_state args ≡ Some p → is_type_name p.0 ≡ true
+pub named_state : (args : List (List ℕ)) (p : List ℕ × ℕ) → name_state args ≡ Some p → is_type_name p.0 ≡ true
 unfolding name_state
 named_state [] p e = cc
 named_state (f ∷ fs) p e = on (is_type_name f) (state_of fs) refl e

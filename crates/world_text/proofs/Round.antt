@@ -40,7 +40,7 @@ name_from (n ∷ ns) all front k name j is at h =
         ap (λ i. get_or all i []) place ∙ ap (λ z. get_or z (length front) []) is ∙ get_at front ns n [] ∙ (bytes_eq-Decides n name).0 e
     on false e h rest = rest h
 
-name_again : (names : List (List ℕ)) (name : List ℕ) → is_some (type_of names name) ≡ true → name_of names (or_zero (type_of names name)) ≡ name
+pub name_again : (names : List (List ℕ)) (name : List ℕ) → is_some (type_of names name) ≡ true → name_of names (or_zero (type_of names name)) ≡ name
 name_again names name known = on (type_of names name) refl known
   where
     on : (o : Option ℕ) → type_of names name ≡ o → is_some o ≡ true → name_of names (or_zero o) ≡ name
@@ -107,14 +107,14 @@ plan_taken n k s d is kind = on d.origin refl
         }
 
 -- the lines of some atoms are taken, and say these atoms, with their own lines' numbers
-record AtomsTaken (names : List (List ℕ)) (more : List RawAtom) (n : ℕ) (d : DraftValue) : Type 0 where
-  number : ℕ
-  last : Kind
-  after : after_atoms last ≡ true
-  again : List RawAtom
-  same : map (placed_atom names) again ≡ map (placed_atom names) more
-  fine : (width : ℕ) (before : List ℕ) → name_fault names width before more ≡ None → name_fault names width before again ≡ None
-  takes : Takes n d (map (atom_line names) (map (placed_atom names) more)) number (record d { last = last; atoms = d.atoms ++ again })
+pub record AtomsTaken (names : List (List ℕ)) (more : List RawAtom) (n : ℕ) (d : DraftValue) : Type 0 where
+  pub number : ℕ
+  pub last : Kind
+  pub after : after_atoms last ≡ true
+  pub again : List RawAtom
+  pub same : map (placed_atom names) again ≡ map (placed_atom names) more
+  pub fine : (width : ℕ) (before : List ℕ) → name_fault names width before more ≡ None → name_fault names width before again ≡ None
+  pub takes : Takes n d (map (atom_line names) (map (placed_atom names) more)) number (record d { last = last; atoms = d.atoms ++ again })
 
 fine_more : (names : List (List ℕ)) (a b : RawAtom) (more again : List RawAtom) → is_some (type_of names a.name) ≡ true → b.name ≡ a.name → b.x ≡ a.x → b.y ≡ a.y →
     ((width : ℕ) (before : List ℕ) → name_fault names width before more ≡ None → name_fault names width before again ≡ None) →
@@ -142,7 +142,7 @@ atom_taken names a n d shape kind is name same =
     let state : a.state < 2 ^ 72 = omega (arith, is.state) in
     takes_one n d (atom a.x a.y name a.state) (x, y, ap is_type_name same ∙ is.name, state) (atom_may d.second d.last kind) (together _ _ is.live (lt-ltb a.state (2 ^ 71) is.state)) refl
 
-atoms_taken : (names : List (List ℕ)) (more : List RawAtom) (n : ℕ) (d : DraftValue) → IsMap d.plane → after_atoms d.last ≡ true → All (IsRawAtom d.plane) more → All (IsKnown names) more → AtomsTaken names more n d
+pub atoms_taken : (names : List (List ℕ)) (more : List RawAtom) (n : ℕ) (d : DraftValue) → IsMap d.plane → after_atoms d.last ≡ true → All (IsRawAtom d.plane) more → All (IsKnown names) more → AtomsTaken names more n d
 atoms_taken names [] n d shape kind are known = record {
   number = n;
   last = d.last;

@@ -6,7 +6,8 @@
 //! that reads as this world again.
 //!
 //! A text that has such lines among its own, as that of a chain, takes them apart with `line_of` and
-//! `name_state`, and gathers what they say in a `PartialWorld`.
+//! `name_state`, gathers what they say in a `PartialWorld`, and prints them with `push_off` and
+//! `push_atoms`.
 #![tactic(auto)]
 
 mod atoms;
@@ -31,7 +32,7 @@ pub use law::{laws, reads_again};
 pub use line::Line;
 pub use named::{kinds_of, name, type_of};
 pub use partial_world::PartialWorld;
-pub use printed::print;
+pub use printed::{print, push_atoms, push_off};
 pub use raw_world::RawWorld;
 pub use reader::read;
 pub use take::{line_of, name_state};

@@ -91,9 +91,9 @@ fn push_mark(out: &mut Vec<u8>, tile: u32, is_off: bool) -> Result<(), NoMemory>
     }
 }
 
-/// Appends an `off` line for each tile that is off.
+/// Appends an `off` line for each tile that is off. `NoMemory` if `out` can't grow.
 #[tactic(auto, unfolding(crate::specs::Printed::off_lines))]
-fn push_off(out: &mut Vec<u8>, map: &Map) -> Result<(), NoMemory>
+pub fn push_off(out: &mut Vec<u8>, map: &Map) -> Result<(), NoMemory>
     ensures { Appends out.old.items out.new.items result (lines_text (off_lines 0 map.now.off)) }
 {
     for tile in 0..map.tiles() {
@@ -184,8 +184,8 @@ fn push_atom(out: &mut Vec<u8>, names: &[Name], placed: &Placed) -> Result<(), N
     )
 }
 
-/// Appends the lines of the atoms.
-fn push_atoms(out: &mut Vec<u8>, names: &[Name], atoms: &[Placed]) -> Result<(), NoMemory>
+/// Appends a line for each of these atoms, whose types have names. `NoMemory` if `out` can't grow.
+pub fn push_atoms(out: &mut Vec<u8>, names: &[Name], atoms: &[Placed]) -> Result<(), NoMemory>
     requires { All (λ (p : Placed). (1 ≤ p.atom.kind) × (p.atom.kind ≤ length names.now)) atoms.now }
     ensures { Appends out.old.items out.new.items result (lines_text (map (atom_line names.now) atoms.now)) }
 {
