@@ -13,7 +13,7 @@ use Rattle.world_text.specs.Drafts.{DraftValue, IsDraft, between, misplaced_code
 use Rattle.world_text.specs.Line.{Line, header as world_header, attempts as world_attempts, tiles, size, off, seed, try, atom, order_seed, order, IsFormed as IsWorldFormed}
 use Rattle.world_text.specs.declared.kind.Kind.{Kind}
 use Rattle.world_text.specs.declared.kind.Kind.TheVariants.{Attempts as AttemptsLine}
-use Rattle.chain_text.specs.Drafts.{ChainDraft, IsChainDraft, IsJournal, IsNumberedAct, IsRawAct, IsAreaIn, after_act, after_atom, after_counted, after_every, after_first, after_legs, act_in_range, area_in_range, asks_too_many, in_range, is_attempts, is_plane, may_come, missing, nothing_said, numbered, only_world, plain_may_come, plain_stage, put_line, raw_act, rectangle_of, step, step_line, step_own, too_many, with_world}
+use Rattle.chain_text.specs.Drafts.{ChainDraft, IsChainDraft, IsJournal, IsLasting, IsNumberedAct, IsRawAct, IsAreaIn, after_act, after_atom, after_counted, after_every, after_first, after_legs, act_in_range, area_in_range, asks_too_many, in_range, is_attempts, is_plane, may_come, missing, nothing_said, numbered, only_world, plain_may_come, plain_stage, put_line, raw_act, rectangle_of, step, step_line, step_own, too_many, with_world}
 use Rattle.chain_text.specs.Line.{Area, ActLine, ChainLine, IsFormed, IsFormedAct, IsFormedJournal, IsRepeated, header, plain, legs, first, journal, print, every, act, clear, put, erase, flip, attempts}
 use Rattle.chain_text.specs.Forms.{line_of}
 use Rattle.chain_text.specs.Reading.{go_on, line_step, over, read_lines, read_text}
@@ -36,6 +36,7 @@ only_kept w k = record {
   journal = tt {0};
   leg = (omega arith, omega arith);
   every = All-nil _;
+  lasting = All-nil _;
   once = All-nil _;
   ordered = IsNonDecreasingBy-short (λ (a : NumberedAct). a.number) [] (omega arith);
   before = All-nil _;
@@ -81,6 +82,7 @@ atom_kept d w k p kw plane whole = record {
   journal = k.journal;
   leg = k.leg;
   every = subst (λ (m : MapValue). All (IsNumberedAct m) d.every) plane k.every;
+  lasting = k.lasting;
   once = subst (λ (m : MapValue). All (IsNumberedAct m) d.once) plane k.once;
   ordered = k.ordered;
   before = k.before;
@@ -131,6 +133,7 @@ legs_kept n c d k p a h =
       journal = k.journal;
       leg = k.leg;
       every = k.every;
+      lasting = k.lasting;
       once = k.once;
       ordered = k.ordered;
       before = k.before;
@@ -148,6 +151,7 @@ first_kept n f d k m h =
       journal = k.journal;
       leg = k.leg;
       every = k.every;
+      lasting = k.lasting;
       once = k.once;
       ordered = k.ordered;
       before = k.before;
@@ -164,6 +168,7 @@ reports_kept d s j k m p r = record {
   journal = r;
   leg = k.leg;
   every = k.every;
+  lasting = k.lasting;
   once = k.once;
   ordered = k.ordered;
   before = k.before;
@@ -199,6 +204,13 @@ every_few w (erase p a) r = refl
 every_few w (flip p a) r = refl
 every_few w (attempts c) r = absurd r
 
+every_lasts : (a : ActLine) → IsRepeated a → IsLasting (raw_act a)
+every_lasts (clear a) r = tt {0}
+every_lasts (put a name s) r = tt {0}
+every_lasts (erase p a) r = tt {0}
+every_lasts (flip p a) r = tt {0}
+every_lasts (attempts c) r = absurd r
+
 every_kept : (n c : ℕ) (a : ActLine) (d : ChainDraft) → IsChainDraft d → IsFormedAct a → IsRepeated a → after_every d.stage ≡ true → in_range d (every c a) ≡ true → IsChainDraft (put_line n d (every c a))
 unfolding put_line in_range
 every_kept n c a d k g r m h =
@@ -213,6 +225,7 @@ every_kept n c a d k g r m h =
       journal = k.journal;
       leg = k.leg;
       every = All-append (IsNumberedAct d.world.plane) d.every (numbered n c a ∷ []) k.every (All-cons (IsNumberedAct d.world.plane) (numbered n c a) [] one (All-nil _));
+      lasting = All-append (λ (x : NumberedAct). IsLasting x.act) d.every (numbered n c a ∷ []) k.lasting (All-cons (λ (x : NumberedAct). IsLasting x.act) (numbered n c a) [] (every_lasts a r) (All-nil _));
       once = k.once;
       ordered = k.ordered;
       before = k.before;
@@ -234,6 +247,7 @@ once_kept n c a d k g m h f =
       journal = k.journal;
       leg = (low, range.1);
       every = k.every;
+      lasting = k.lasting;
       once = All-append (IsNumberedAct d.world.plane) d.once (numbered n c a ∷ []) k.once (All-cons (IsNumberedAct d.world.plane) (numbered n c a) [] one (All-nil _));
       ordered = IsNonDecreasingBy-push (λ (x : NumberedAct). x.number) d.once (numbered n c a) k.ordered (λ x some. before (length d.once - 1) x (omega (arith, some)));
       before = All-append (λ (x : NumberedAct). x.number ≤ c) d.once (numbered n c a ∷ []) before (All-cons (λ (x : NumberedAct). x.number ≤ c) (numbered n c a) [] (omega arith) (All-nil _));

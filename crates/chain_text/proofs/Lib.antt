@@ -1,9 +1,16 @@
+pub mod Again
 pub mod Begins
 pub mod Chances
 pub mod Counts
 pub mod Formed
+pub mod Joined
 pub mod Kept
+pub mod Lifted
 pub mod Naming
+pub mod Places
+pub mod Round
+pub mod Said
 pub mod Small
+pub mod Taken
 pub mod Valid
 pub mod Walk

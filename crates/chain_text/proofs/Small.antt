@@ -18,7 +18,7 @@ area_is m a h =
     (test_le 1 a.w q.0, test_le 1 a.h q.1, test_le (a.x + a.w) (m.tx * m.w) r.0, test_le (a.y + a.h) (m.ty * m.h) r.1)
 
 -- a plane is at most 512 sites wide and high
-sides : (m : MapValue) → IsMap m → (m.tx * m.w ≤ 512) × (m.ty * m.h ≤ 512)
+pub sides : (m : MapValue) → IsMap m → (m.tx * m.w ≤ 512) × (m.ty * m.h ≤ 512)
 sides m k = let s = k.sizes in (grind arith, grind arith)
 
 area_small : (m : MapValue) (a : Area) → IsMap m → area_in_range m a ≡ true → IsSmall a

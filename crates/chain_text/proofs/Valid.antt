@@ -130,7 +130,7 @@ chain_named names d w e o h =
     ap (unless (chain_of names d)) fault ∙ ap (λ (q : ℕ × ℕ). Ok (record (chain_of names d) { seed = q.0; attempts = q.1 })) (ap origin_of (sym origin)) ∙ ap (λ (v : WorldValue). Ok (chain_by names d v)) p.1
 
 -- a chain, if one is given
-chain_is : (names : List (List ℕ)) (d : ChainDraft) (c : ChainValue) → chain_with_names names d ≡ Ok c → (name_fault names d ≡ None) × (chain_of names d ≡ c)
+pub chain_is : (names : List (List ℕ)) (d : ChainDraft) (c : ChainValue) → chain_with_names names d ≡ Ok c → (name_fault names d ≡ None) × (chain_of names d ≡ c)
 chain_is names d c h = on (name_fault names d) h
   where
     on : (o : Option (ℕ × ℕ)) → unless (chain_of names d) o ≡ Ok c → (o ≡ None) × (chain_of names d ≡ c)
@@ -138,11 +138,11 @@ chain_is names d c h = on (name_fault names d) h
     on (Some f) e = cc
 
 -- none of several faults
-none_first : (a b : Option (ℕ × ℕ)) → or_later a b ≡ None → (a ≡ None) × (b ≡ None)
+pub none_first : (a b : Option (ℕ × ℕ)) → or_later a b ≡ None → (a ≡ None) × (b ≡ None)
 none_first None b h = (refl, h)
 none_first (Some f) b h = cc
 
-all_named : (names : List (List ℕ)) (acts : List NumberedAct) → acts_fault names acts ≡ None → All (λ (a : NumberedAct). is_named names a.act ≡ true) acts
+pub all_named : (names : List (List ℕ)) (acts : List NumberedAct) → acts_fault names acts ≡ None → All (λ (a : NumberedAct). is_named names a.act ≡ true) acts
 unfolding acts_fault
 all_named names [] h = All-nil _
 all_named names (a ∷ more) h = on (is_named names a.act) refl h (λ g. all_named names more g)
@@ -174,7 +174,7 @@ acts_valid : (names : List (List ℕ)) (m : MapValue) (acts : List NumberedAct) 
     All (λ (a : NumberedAct). IsActOn (m.tx * m.w) (m.ty * m.h) (act_of names a.act) × IsChainAct (length names) m (act_of names a.act)) acts
 acts_valid names m acts all h = let known = all_named names acts h in λ i x lt. act_valid names m (get_or acts i x).act (all i x lt).act (known i x lt)
 
-origin_seed : (off : List Bool) (o : Option (ℕ × ℕ)) → IfSome o (λ p. (p.0 < 2 ^ 64) × (p.1 * tiles_on off ≤ 1000000)) → ((origin_of o).0 < 2 ^ 64) × ((origin_of o).1 * tiles_on off ≤ 1000000)
+pub origin_seed : (off : List Bool) (o : Option (ℕ × ℕ)) → IfSome o (λ p. (p.0 < 2 ^ 64) × (p.1 * tiles_on off ≤ 1000000)) → ((origin_of o).0 < 2 ^ 64) × ((origin_of o).1 * tiles_on off ≤ 1000000)
 origin_seed off None k = (omega arith, omega arith)
 origin_seed off (Some p) k = k
 

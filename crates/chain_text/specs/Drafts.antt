@@ -224,6 +224,11 @@ abbrev pub IsRawAct : MapValue → RawAct → Type 0
 IsRawAct m (Known a) = IsActOn (m.tx * m.w) (m.ty * m.h) a × IsFew m a × IsUnnamed a × IsLikely a
 IsRawAct m (Named r name s) = IsAreaIn m r × (is_type_name name ≡ true) × (s < 2 ^ STATE_BITS)
 
+-- an act that many legs may have
+abbrev pub IsLasting : RawAct → Type 0
+IsLasting (Known (Attempts k)) = ⊥
+IsLasting a = Unit {0}
+
 -- an area of a plane of the largest size
 pub record IsSmall (a : Area) : Type 0 where
   pub columns : a.x + a.w ≤ MOST_COLUMNS
@@ -258,6 +263,7 @@ pub record IsChainDraft (d : ChainDraft) : Type 0 where
   pub journal : IsJournal d.journal
   pub leg : (1 ≤ d.leg) × (d.leg ≤ LAST_LEG)
   pub every : All (IsNumberedAct d.world.plane) d.every
+  pub lasting : All (λ (a : NumberedAct). IsLasting a.act) d.every
   pub once : All (IsNumberedAct d.world.plane) d.once
   pub ordered : IsNonDecreasingBy (λ (a : NumberedAct). a.number) d.once
   pub before : All (λ (a : NumberedAct). a.number ≤ d.leg) d.once

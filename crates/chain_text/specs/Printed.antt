@@ -1,5 +1,5 @@
 -- The text of a chain.
-use Rattle.std.specs.Prelude.{ℕ, zero, suc, ◌≡◌, ◌+◌, ◌-◌, ◌/◌, ◌%◌, ◌^◌, ◌==◌, List, [], ◌∷◌, ◌++◌, codes, decimal, map, Ok, if◌then◌else◌}
+use Rattle.std.specs.Prelude.{ℕ, zero, suc, ◌≡◌, ◌≤◌, ◌+◌, ◌-◌, ◌/◌, ◌%◌, ◌^◌, ◌==◌, List, [], ◌∷◌, ◌++◌, codes, decimal, map, Ok, if◌then◌else◌}
 use Rattle.cell_grid.specs.declared.marks.Rectangle.{Rectangle}
 use Rattle.feast_base.specs.Digits.{digit_zero, hex}
 use Rattle.feast_base.specs.TypeNames.{name_of}
@@ -124,6 +124,18 @@ lines_text ls = text_of (map line_fields ls)
 
 abbrev pub chain_text : List (List ℕ) → ChainValue → List ℕ
 chain_text names c = lines_text (chain_lines names c)
+
+-- what printing needs of an area: it does not end before it begins
+abbrev pub HasSides : Rectangle → Type 0
+HasSides r = (r.left ≤ r.right) × (r.top ≤ r.bottom)
+
+-- what printing needs of an act: the sides of its area, and a name for the type of its atom
+abbrev pub IsPrintable : ℕ → Act → Type 0
+IsPrintable n (Clear r) = HasSides r
+IsPrintable n (Put r a) = HasSides r × (1 ≤ a.kind) × (a.kind ≤ n)
+IsPrintable n (Erase p r) = HasSides r
+IsPrintable n (Flip p r) = HasSides r
+IsPrintable n (Attempts k) = Unit {0}
 
 -- a chain that these names give
 abbrev pub IsNamed : List (List ℕ) → ChainValue → Type 0

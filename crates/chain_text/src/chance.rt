@@ -1,8 +1,9 @@
 //! Chances: decimals from 0 to 1.
-ghost use Rattle.std.specs.Prelude.{◌≡◌, ◌≤◌, ◌<◌, ◌*◌, ◌-◌, ◌^◌, IfSome, IsTrue, length, option_map};
+ghost use Rattle.std.specs.Prelude.{◌≡◌, ◌≤◌, ◌<◌, ◌*◌, ◌-◌, ◌^◌, ◌++◌, IfSome, IsTrue, codes, length, option_map};
 ghost use Rattle.std.specs.List.{list_all};
 ghost use Rattle.text_lines.specs.Fields.{fields_left, is_digit, number_and_fields, worth};
 ghost use Rattle.plane_acts.specs.declared.chance.TheConstants.{BILLION};
+ghost use Rattle.chain_text.specs.Printed.{places};
 ghost use Rattle.chain_text.specs.Forms.{are_places, billionths_of, chance_of, fraction_of, take_chance};
 
 use plane_acts::BILLION;
@@ -75,6 +76,19 @@ fn chance(field: &[u8]) -> Option<u32>
         return Some(BILLION);
     }
     fraction(field)
+}
+
+/// The text of a chance of so many billionths that is neither 0 nor 1: `0.` and nine digits.
+pub(crate) fn fraction_text(billionths: u32) -> [u8; 11]
+    ensures { result ≡ codes "0." ++ places 9 billionths }
+{
+    let mut text = *b"0.000000000";
+    let mut left = billionths;
+    for i in (2..11usize).rev() {
+        text[i] = b'0' + (left % 10) as u8;
+        left /= 10;
+    }
+    text
 }
 
 /// The chance that the first of some fields is, and the other fields. None if there is no field, or

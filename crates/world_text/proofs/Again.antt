@@ -45,7 +45,7 @@ some_fields (atom x y name s) = omega arith
 some_fields (order_seed n) = omega arith
 some_fields (order ts) = omega arith
 
-line_is : (l : Line) → IsPrinted l → IsLine (line_fields l)
+pub line_is : (l : Line) → IsPrinted l → IsLine (line_fields l)
 line_is l p = record { some = some_fields l; high = fields_high l p }
 
 all_numbers : (ts : List ℕ) → All (λ n. n < 2 ^ 64) ts → numbers_of (map decimal ts) ≡ Some ts
@@ -93,7 +93,7 @@ form_again (order ts) p = order_again ts p.0 p.1
 line_again : (l : Line) → IsPrinted l → line_of (line_text (line_fields l)) ≡ Some l
 line_again l p = ap form_of (fields_again (line_fields l) (line_is l p)) ∙ form_again l p
 
-not_skipped : (l : Line) → is_skipped (line_text (line_fields l)) ≡ false
+pub not_skipped : (l : Line) → is_skipped (line_text (line_fields l)) ≡ false
 not_skipped (header second) = refl
 not_skipped (tiles a b) = refl
 not_skipped (size a b) = refl

@@ -16,7 +16,7 @@ use Rattle.world_text.specs.declared.kind.Kind.TheVariants.{Header, Off, Size, T
 use Rattle.world_text.proofs.Kept.{all_on}
 use Rattle.world_text.proofs.Taken.{Takes, off_may, takes_none, takes_one, takes_then}
 
-between_true : (low high n : ℕ) → low ≤ n → n ≤ high → between low high n ≡ true
+pub between_true : (low high n : ℕ) → low ≤ n → n ≤ high → between low high n ≡ true
 between_true low high n a b = grind arith
 
 -- the header, how many tiles there are, and their size

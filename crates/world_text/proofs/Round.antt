@@ -182,7 +182,7 @@ record OrderTaken (turns : List ℕ) (start : Option ℕ) (n : ℕ) (d : DraftVa
   same : order_by listing seeding ≡ order_by turns start
   takes : Takes n d (order_lines (order_by turns start)) number (record d { last = last; order = listing; order_seed = seeding })
 
-whole_after : (k : Kind) → after_atoms k ≡ true → missing k ≡ None
+pub whole_after : (k : Kind) → after_atoms k ≡ true → missing k ≡ None
 unfolding missing
 whole_after k h = grind (arith, h)
 
