@@ -8,6 +8,7 @@ pub mod Kept
 pub mod Lifted
 pub mod Naming
 pub mod Places
+pub mod Prints
 pub mod Round
 pub mod Said
 pub mod Small

@@ -25,7 +25,7 @@ use Rattle.chain_text.specs.Drafts.{ChainDraft, IsChainDraft, after_act, after_a
 use Rattle.chain_text.specs.Forms.{plain_line}
 use Rattle.chain_text.specs.Line.{ChainLine, header, plain, legs}
 use Rattle.chain_text.specs.Named.{ReadsChain, acts_fault, chain_of, chain_with_names, every_of, name_fault, once_of, origin_of, unless}
-use Rattle.chain_text.specs.Printed.{IsNamed, chain_lines, chain_text, every_line, first_lines, journal_lines, once_line, placed_line}
+use Rattle.chain_text.specs.Printed.{IsNamed, act_lines, chain_lines, chain_text, every_line, first_lines, journal_lines, once_line, placed_line}
 use Rattle.chain_text.specs.Reading.{read_text}
 use Rattle.chain_text.specs.declared.stage.Stage.{Stage}
 use Rattle.chain_text.specs.declared.stage.Stage.TheVariants.{Legs}
@@ -44,12 +44,12 @@ abbrev planned : MapValue → ℕ × ℕ → DraftValue
 planned m o = record (only_plane Attempts true m) { origin = Some o }
 
 world_taken : (m : MapValue) (o : ℕ × ℕ) → IsMap m → 1 ≤ tiles_on m.off → o.0 < 2 ^ 64 → o.1 * tiles_on m.off ≤ 1000000 → (k : ℕ) × WorldTakes 1 no_world_said (world_header true ∷ world_part m o) k (planned m o)
-world_taken m o map on small few =
-    let z = map.sizes in
+world_taken m o shape on small few =
+    let z = shape.sizes in
     let most : tiles_of m ≤ 64 = grind (arith, z.tx_high, z.ty_high) in
-    let bare : replicate (m.tx * m.ty) false ≡ replicate (length m.off) false = ap (λ k. replicate k false) (sym map.marks) in
-    let first = plane_taken true m map in
-    let marks = off_taken m.off [] (replicate (m.tx * m.ty) false) m.off 0 4 Size true m refl bare refl map.marks most on refl (λ h. refl) in
+    let bare : replicate (m.tx * m.ty) false ≡ replicate (length m.off) false = ap (λ k. replicate k false) (sym shape.marks) in
+    let first = plane_taken true m shape in
+    let marks = off_taken m.off [] (replicate (m.tx * m.ty) false) m.off 0 4 Size true m refl bare refl shape.marks most on refl (λ h. refl) in
     let plan = drawn_taken marks.0 marks.1 true m o marks.2 on small few in (
       marks.0 + 1 + 1,
       world_then 1 no_world_said _ 4 (only_plane Size true (whole_plane m.tx m.ty m.w m.h)) _ (marks.0 + 1 + 1) (planned m o) first
@@ -73,9 +73,9 @@ part_of_plane m o =
 part_taken : (m : MapValue) (o : ℕ × ℕ) → IsMap m → 1 ≤ tiles_on m.off → o.0 < 2 ^ 64 → o.1 * tiles_on m.off ≤ 1000000 →
     Takes 1 nothing_said (header ∷ map plain (world_part m o)) (2 + length (world_part m o)) (only_world (planned m o))
 unfolding world_after_lines world_missing
-part_taken m o map on small few =
+part_taken m o shape on small few =
     let ls = world_part m o in
-    let all = world_taken m o map on small few in
+    let all = world_taken m o shape on small few in
     let said : world_after_lines 1 no_world_said (world_header true ∷ ls) ≡ Ok (planned m o) = ap (world_after_lines 1 no_world_said) (sym (append-nil (world_header true ∷ ls))) ∙ all.1.next [] in
     let of = part_of_plane m o in
     let printed = All-tail IsWorldPrinted (world_header true) ls all.1.printed in record {
@@ -172,15 +172,17 @@ record ChainTaken (names : List (List ℕ)) (c : ChainValue) : Type 0 where
   said : draft_after_lines 1 nothing_said (chain_lines names c) ≡ Ok draft
   same : chain_with_names names draft ≡ Ok c
 
--- the same lines in other parts
-parts_same : (marks : List Line) (a b : Line) (l : ChainLine) (f j e n t : List ChainLine) →
-    map plain marks ++ (plain a ∷ plain b ∷ l ∷ (f ++ (j ++ (e ++ (n ++ t))))) ≡ map plain (marks ++ (a ∷ b ∷ [])) ++ ((l ∷ (f ++ j)) ++ ((e ++ n) ++ t))
-parts_same marks a b l f j e n t =
-    let acts : e ++ (n ++ t) ≡ (e ++ n) ++ t = sym (append_assoc e n t) in
-    let numbers : f ++ (j ++ ((e ++ n) ++ t)) ≡ (f ++ j) ++ ((e ++ n) ++ t) = sym (append_assoc f j ((e ++ n) ++ t)) in
-    ap (λ z. map plain marks ++ (plain a ∷ plain b ∷ l ∷ z)) (ap (λ z. f ++ (j ++ z)) acts ∙ numbers)
-    ∙ sym (append_assoc (map plain marks) (plain a ∷ plain b ∷ []) (l ∷ ((f ++ j) ++ ((e ++ n) ++ t))))
-    ∙ ap (λ z. z ++ (l ∷ ((f ++ j) ++ ((e ++ n) ++ t)))) (sym (map-append plain marks (a ∷ b ∷ [])))
+-- the lines of the seed and the attempts stand behind those about the plane
+parts_same : (marks : List Line) (a b : Line) (rest : List ChainLine) → map plain marks ++ (plain a ∷ plain b ∷ rest) ≡ map plain (marks ++ (a ∷ b ∷ [])) ++ rest
+parts_same marks a b rest = sym (append_assoc (map plain marks) (plain a ∷ plain b ∷ []) rest) ∙ ap (λ z. z ++ rest) (sym (map-append plain marks (a ∷ b ∷ [])))
+
+-- lines that are taken one after another, and others that end them
+said_then : (n k i j : ℕ) (d e f g : ChainDraft) (a b c t : List ChainLine) (r : Result ChainDraft (ℕ × ℕ)) → Takes n d a k e → Takes k e b i f → Takes i f c j g → draft_after_lines j g t ≡ r →
+    draft_after_lines n d (a ++ (b ++ (c ++ t))) ≡ r
+said_then n k i j d e f g a b c t r p q s h = p.next (b ++ (c ++ t)) ∙ q.next (c ++ t) ∙ s.next t ∙ h
+
+printed_then : (a b c t : List ChainLine) → All IsPrinted a → All IsPrinted b → All IsPrinted c → All IsPrinted t → All IsPrinted (a ++ (b ++ (c ++ t)))
+printed_then a b c t p q s h = All-append IsPrinted a (b ++ (c ++ t)) p (All-append IsPrinted b (c ++ t) q (All-append IsPrinted c t s h))
 
 chain_taken : (names : List (List ℕ)) (d : ChainDraft) → IsChainDraft d → name_fault names d ≡ None → ChainTaken names (chain_of names d)
 chain_taken names d k fine =
@@ -191,22 +193,25 @@ chain_taken names d k fine =
     let range = origin_seed m.off d.world.origin k.world.drawn in
     let w = planned m o in
     let part = part_taken m o k.world.map k.world.on range.0 range.1 in
-    let numbers = numbers_taken (2 + length (world_part m o)) m o d k in
+    let n = 2 + length (world_part m o) in
+    let numbers = numbers_taken n m o d k in
     let acts = acts_taken names numbers.0 o numbers.1 d k numbers.2 f.0 g.0 in
     let before = acted w acts.stage d acts.leg numbers.0 acts.second in
     let t = atoms_taken names d.world.atoms acts.number w k.world.map refl k.world.atoms (all_known names (m.tx * m.w) [] d.world.atoms g.1) in
     let end = atoms_ended names d.world.atoms acts.number before acts.after t in
     let atoms = map (placed_line names) (map (placed_atom names) d.world.atoms) in
-    let every = map (every_line names) (map (every_of names) d.every) in
-    let once = map (once_line names) (map (once_of names) d.once) in
+    let c = chain_of names d in
     let middle : List ChainLine = legs d.legs ∷ (first_lines d.first ++ journal_lines d.journal) in
     let front : List ChainLine = header ∷ map plain (world_part m o) in
-    let same : chain_lines names (chain_of names d) ≡ front ++ (middle ++ ((every ++ once) ++ atoms)) = ap (λ z. header ∷ plain (tiles m.tx m.ty) ∷ plain (size m.w m.h) ∷ z)
-    (parts_same (off_lines 0 m.off) (seed o.0) (world_attempts o.1) (legs d.legs) (first_lines d.first) (journal_lines d.journal) every once atoms) in
+    let done = act_lines names c.schedule in
+    let same : chain_lines names c ≡ front ++ (middle ++ (done ++ atoms)) = ap (λ z. header ∷ plain (tiles m.tx m.ty) ∷ plain (size m.w m.h) ∷ z)
+    (parts_same (off_lines 0 m.off) (seed o.0) (world_attempts o.1) (middle ++ (done ++ atoms))) in
+    let e : ChainDraft = record before { stage = end.stage; world = record w { last = t.last; atoms = t.again } } in
     record {
-      draft = record before { stage = end.stage; world = record w { last = t.last; atoms = t.again } };
-      printed = subst (All IsPrinted) (sym same) (All-append IsPrinted front _ part.printed (All-append IsPrinted middle _ numbers.3.printed (All-append IsPrinted (every ++ once) atoms acts.takes.printed end.printed)));
-      said = ap (draft_after_lines 1 nothing_said) same ∙ part.next _ ∙ numbers.3.next _ ∙ acts.takes.next atoms ∙ end.said;
+      draft = e;
+      printed = subst (All IsPrinted) (sym same) (printed_then front middle done atoms part.printed numbers.3.printed acts.takes.printed end.printed);
+      said = ap (draft_after_lines 1 nothing_said) same
+          ∙ said_then 1 n numbers.0 acts.number nothing_said (only_world w) (counted w numbers.1 d) before front middle done atoms (Ok e) part numbers.3 acts.takes end.said;
       same = rw (relined_fine names numbers.0 d.every f.0, relined_fine names acts.second d.once g.0, t.fine (m.tx * m.w) [] g.1, relined_every names numbers.0 d.every, relined_once names acts.second d.once, t.same) refl;
     }
 

@@ -37,8 +37,8 @@ area_same m r is =
     rw (across, down) refl
 
 area_small : (m : MapValue) (r : Rectangle) → IsMap m → IsAreaIn m r → IsPrintedArea (said_area r)
-area_small m r map is =
-    let most = sides m map in
+area_small m r shape is =
+    let most = sides m shape in
     let right : r.right ≤ 512 = omega (arith, is.columns.1, most.0) in
     let bottom : r.bottom ≤ 512 = omega (arith, is.rows.1, most.1) in
     (omega (arith, right, is.columns.0), omega (arith, bottom, is.rows.0), omega (arith, right), omega (arith, bottom))
@@ -55,20 +55,20 @@ not_more k h = grind arith
 
 pub act_said : (names : List (List ℕ)) (w : DraftValue) (a : RawAct) → IsMap w.plane → 1 ≤ tiles_on w.plane.off → IsRawAct w.plane a → is_named names a ≡ true → IsSaid names w a
 unfolding world_too_many
-act_said names w (Known (Clear r)) map on is known =
-    record { printed = area_small w.plane r map is.0; fits = area_fits w.plane r is.0; few = refl; same = ap (λ z. Known (Clear z)) (area_same w.plane r is.0) }
-act_said names w (Known (Put r x)) map on is known = absurd is.2
-act_said names w (Known (Erase p r)) map on is known =
-    record { printed = (area_small w.plane r map is.0, is.3); fits = area_fits w.plane r is.0; few = refl; same = ap (λ z. Known (Erase p z)) (area_same w.plane r is.0) }
-act_said names w (Known (Flip p r)) map on is known =
-    record { printed = (area_small w.plane r map is.0, is.3); fits = area_fits w.plane r is.0; few = refl; same = ap (λ z. Known (Flip p z)) (area_same w.plane r is.0) }
-act_said names w (Known (Attempts k)) map on is known =
+act_said names w (Known (Clear r)) shape on is known =
+    record { printed = area_small w.plane r shape is.0; fits = area_fits w.plane r is.0; few = refl; same = ap (λ z. Known (Clear z)) (area_same w.plane r is.0) }
+act_said names w (Known (Put r x)) shape on is known = absurd is.2
+act_said names w (Known (Erase p r)) shape on is known =
+    record { printed = (area_small w.plane r shape is.0, is.3); fits = area_fits w.plane r is.0; few = refl; same = ap (λ z. Known (Erase p z)) (area_same w.plane r is.0) }
+act_said names w (Known (Flip p r)) shape on is known =
+    record { printed = (area_small w.plane r shape is.0, is.3); fits = area_fits w.plane r is.0; few = refl; same = ap (λ z. Known (Flip p z)) (area_same w.plane r is.0) }
+act_said names w (Known (Attempts k)) shape on is known =
     let small = count_fits k (tiles_on w.plane.off) on is.1 in
     record { printed = omega (arith, small); fits = refl; few = not_more (k * tiles_on w.plane.off) is.1; same = refl }
-act_said names w (Named r name s) map on is known =
+act_said names w (Named r name s) shape on is known =
     let again : name_of names (or_zero (type_of names name)) ≡ name = name_again names name known in
     record {
-      printed = (area_small w.plane r map is.0, ap is_type_name again ∙ is.1, omega (arith, is.2));
+      printed = (area_small w.plane r shape is.0, ap is_type_name again ∙ is.1, omega (arith, is.2));
       fits = together _ _ (area_fits w.plane r is.0) (lt-ltb s (2 ^ 71) is.2);
       few = refl;
       same = ap (λ z. Named z (name_of names (or_zero (type_of names name))) s) (area_same w.plane r is.0) ∙ ap (λ z. Named r z s) again;

@@ -111,17 +111,17 @@ pub every_taken : (names : List (List ℕ)) (more : List NumberedAct) (n : ℕ) 
     All (IsNumberedAct d.world.plane) more → All (λ (a : NumberedAct). IsLasting a.act) more → All (λ (a : NumberedAct). is_named names a.act ≡ true) more →
     (i : ℕ) × (s : Stage) × (after_every s ≡ true) × Takes n d (map (every_line names) (map (every_of names) more)) i (record d { stage = s; every = d.every ++ relined n more })
 unfolding put_line
-every_taken names [] n d map on may are last known = (n, d.stage, may, subst (λ (z : List NumberedAct). Takes n d [] n (record d { every = z })) (sym (append-nil d.every)) (takes_none n d))
-every_taken names (a ∷ more) n d map on may are last known =
+every_taken names [] n d shape on may are last known = (n, d.stage, may, subst (λ (z : List NumberedAct). Takes n d [] n (record d { every = z })) (sym (append-nil d.every)) (takes_none n d))
+every_taken names (a ∷ more) n d shape on may are last known =
     let one = All-head (IsNumberedAct d.world.plane) a more are in
-    let said = act_said names d.world a.act map on one.act (All-head (λ (x : NumberedAct). is_named names x.act ≡ true) a more known) in
+    let said = act_said names d.world a.act shape on one.act (All-head (λ (x : NumberedAct). is_named names x.act ≡ true) a more known) in
     let l = said_act names (act_of names a.act) in
     let b : NumberedAct = record a { line = n } in
     let e : ChainDraft = record d { stage = Every; every = d.every ++ b ∷ [] } in
     let put : put_line n d (every a.number l) ≡ e = ap (λ (z : RawAct). record d { stage = Every; every = d.every ++ record { line = n; number = a.number; act = z } ∷ [] }) said.same in
     let printed : IsPrinted (every a.number l) = (omega (arith, one.high), said.printed, act_repeats names a.act (All-head (λ (x : NumberedAct). IsLasting x.act) a more last)) in
     let first = takes_step n d e (every a.number l) printed (every_step n a.number l d may one.low one.high said.fits ∙ ap (λ z. Ok z) put) in
-    let rest = every_taken names more (n + 1) e map on refl (All-tail (IsNumberedAct d.world.plane) a more are) (All-tail (λ (x : NumberedAct). IsLasting x.act) a more last)
+    let rest = every_taken names more (n + 1) e shape on refl (All-tail (IsNumberedAct d.world.plane) a more are) (All-tail (λ (x : NumberedAct). IsLasting x.act) a more last)
     (All-tail (λ (x : NumberedAct). is_named names x.act ≡ true) a more known) in
     let ls = map (every_line names) (map (every_of names) more) in
     let all = takes_then n d (every a.number l ∷ []) (n + 1) e ls rest.0 (record e { stage = rest.1; every = e.every ++ relined (n + 1) more }) first rest.3 in
@@ -133,10 +133,10 @@ pub once_taken : (names : List (List ℕ)) (more : List NumberedAct) (n : ℕ) (
     IsNonDecreasingBy (λ (a : NumberedAct). a.number) more →
     (i : ℕ) × (s : Stage) × (after_act s ≡ true) × (j : ℕ) × Takes n d (map (once_line names) (map (once_of names) more)) i (record d { stage = s; leg = j; once = d.once ++ relined n more })
 unfolding put_line
-once_taken names [] n d map on may are known late sorted = (n, d.stage, may, d.leg, subst (λ (z : List NumberedAct). Takes n d [] n (record d { once = z })) (sym (append-nil d.once)) (takes_none n d))
-once_taken names (a ∷ more) n d map on may are known late sorted =
+once_taken names [] n d shape on may are known late sorted = (n, d.stage, may, d.leg, subst (λ (z : List NumberedAct). Takes n d [] n (record d { once = z })) (sym (append-nil d.once)) (takes_none n d))
+once_taken names (a ∷ more) n d shape on may are known late sorted =
     let one = All-head (IsNumberedAct d.world.plane) a more are in
-    let said = act_said names d.world a.act map on one.act (All-head (λ (x : NumberedAct). is_named names x.act ≡ true) a more known) in
+    let said = act_said names d.world a.act shape on one.act (All-head (λ (x : NumberedAct). is_named names x.act ≡ true) a more known) in
     let l = said_act names (act_of names a.act) in
     let b : NumberedAct = record a { line = n } in
     let e : ChainDraft = record d { stage = Once; leg = a.number; once = d.once ++ b ∷ [] } in
@@ -145,7 +145,7 @@ once_taken names (a ∷ more) n d map on may are known late sorted =
     let here = All-head (λ (x : NumberedAct). d.leg ≤ x.number) a more late in
     let first = takes_step n d e (act a.number l) printed (once_step n a.number l d may here one.high said.fits said.few ∙ ap (λ z. Ok z) put) in
     let behind : All (λ (x : NumberedAct). a.number ≤ x.number) more = λ i x lt. sorted 0 (suc i) x (omega arith) (omega (arith, lt)) in
-    let rest = once_taken names more (n + 1) e map on refl (All-tail (IsNumberedAct d.world.plane) a more are) (All-tail (λ (x : NumberedAct). is_named names x.act ≡ true) a more known) behind
+    let rest = once_taken names more (n + 1) e shape on refl (All-tail (IsNumberedAct d.world.plane) a more are) (All-tail (λ (x : NumberedAct). is_named names x.act ≡ true) a more known) behind
     (IsNonDecreasingBy-drop (λ (x : NumberedAct). x.number) 1 (a ∷ more) sorted) in
     let ls = map (once_line names) (map (once_of names) more) in
     let all = takes_then n d (act a.number l ∷ []) (n + 1) e ls rest.0 (record e { stage = rest.1; leg = rest.3; once = e.once ++ relined (n + 1) more }) first rest.4 in

@@ -3,6 +3,7 @@ use Rattle.std.specs.Prelude.{ℕ, zero, suc, ◌≡◌, ◌≤◌, ◌+◌, ◌
 use Rattle.cell_grid.specs.declared.marks.Rectangle.{Rectangle}
 use Rattle.feast_base.specs.Digits.{digit_zero, hex}
 use Rattle.feast_base.specs.TypeNames.{name_of}
+use Rattle.plane_acts.specs.Schedules.{ScheduleValue}
 use Rattle.plane_acts.specs.declared.act.Act.{Act}
 use Rattle.plane_acts.specs.declared.act.Act.TheVariants.{Clear, Put, Erase, Flip, Attempts}
 use Rattle.plane_acts.specs.declared.chance.TheConstants.{BILLION}
@@ -71,9 +72,12 @@ said_act names (Erase p r) = erase p (said_area r)
 said_act names (Flip p r) = flip p (said_area r)
 said_act names (Attempts k) = attempts k
 
--- the header, how many tiles there are, and their size
+-- how many tiles there are, and their size
+abbrev pub size_lines : MapValue → List ChainLine
+size_lines m = plain (tiles m.tx m.ty) ∷ plain (size m.w m.h) ∷ []
+
 abbrev pub plane_lines : MapValue → List ChainLine
-plane_lines m = header ∷ plain (tiles m.tx m.ty) ∷ plain (size m.w m.h) ∷ []
+plane_lines m = header ∷ size_lines m
 
 -- the seed, the attempts and the number of legs
 abbrev pub count_lines : ChainValue → List ChainLine
@@ -93,11 +97,19 @@ journal_lines Whole = []
 journal_lines Short = journal Short ∷ []
 journal_lines (Counts p) = journal (Counts 1) ∷ print_lines p
 
+-- the lines of a chain's numbers
+abbrev pub number_lines : ChainValue → List ChainLine
+number_lines c = count_lines c ++ (first_lines c.first ++ journal_lines c.journal)
+
 abbrev pub every_line : List (List ℕ) → Every → ChainLine
 every_line names e = every e.period (said_act names e.act)
 
 abbrev pub once_line : List (List ℕ) → Once → ChainLine
 once_line names o = act o.leg (said_act names o.act)
+
+-- the lines of the acts
+abbrev pub act_lines : List (List ℕ) → ScheduleValue → List ChainLine
+act_lines names s = map (every_line names) s.every ++ map (once_line names) s.once
 
 abbrev pub placed_line : List (List ℕ) → Placed → ChainLine
 placed_line names p = plain (atom_line names p)
@@ -106,13 +118,7 @@ placed_line names p = plain (atom_line names p)
 abbrev pub chain_lines : List (List ℕ) → ChainValue → List ChainLine
 chain_lines names c =
     plane_lines c.plane
-    ++ (map plain (off_lines 0 c.plane.off)
-    ++ (count_lines c
-    ++ (first_lines c.first
-    ++ (journal_lines c.journal
-    ++ (map (every_line names) c.schedule.every
-    ++ (map (once_line names) c.schedule.once
-    ++ map (placed_line names) c.atoms))))))
+    ++ (map plain (off_lines 0 c.plane.off) ++ (number_lines c ++ (act_lines names c.schedule ++ map (placed_line names) c.atoms)))
 
 -- the text of a line, with its LF
 abbrev pub text_of_line : ChainLine → List ℕ

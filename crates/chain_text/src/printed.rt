@@ -2,11 +2,13 @@
 ghost use Rattle.std.specs.Prelude.{◌≡◌, ◌≤◌, ◌∷◌, ◌++◌, [], All, decimal, length, map};
 ghost use Rattle.bit_field.specs.Atom.{AtomValue};
 ghost use Rattle.chain_text.specs.Chain.{IsChain};
-ghost use Rattle.chain_text.specs.Printed.{HasSides, IsPrintable, act_fields, area_fields, chain_text, chance_text, count_lines, every_line, first_lines, journal_lines, lines_text, once_line, plane_lines, print_lines, said_act, said_area};
+ghost use Rattle.chain_text.specs.Line.{header};
+ghost use Rattle.chain_text.specs.Printed.{HasSides, IsPrintable, act_fields, act_lines, area_fields, chain_text, chance_text, count_lines, every_line, first_lines, journal_lines, lines_text, number_lines, once_line, plane_lines, print_lines, said_act, said_area, size_lines, text_of_line};
 ghost use Rattle.chain_text.specs.Values.{chain_value};
 ghost use Rattle.feast_base.specs.Appending.{Appends};
 ghost use Rattle.feast_base.specs.Digits.{hex};
 ghost use Rattle.feast_base.specs.TypeNames.{name_of};
+ghost use Rattle.plane_acts.specs.declared.act.Act.TheVariants.{Put};
 ghost use Rattle.plane_acts.specs.declared.schedule.Every.{Every};
 ghost use Rattle.plane_acts.specs.declared.schedule.Once.{Once};
 ghost use Rattle.text_lines.specs.Lines.{ended_line};
@@ -17,10 +19,24 @@ use crate::chance::fraction_text;
 use bit_field::Atom;
 use cell_grid::Rectangle;
 use feast_base::{Name, NoMemory};
-use plane_acts::{Act, BILLION, Chance, Every, Once};
+use plane_acts::{Act, BILLION, Chance, Every, Once, Schedule};
 use text_lines::{Field, push_line};
 use tile_map::Map;
 use world_text::{push_atoms, push_off};
+
+/// Appends a line of two words.
+fn push_words<'a>(out: &mut Vec<u8>, word: &'a [u8], value: &'a [u8]) -> Result<(), NoMemory>
+    ensures { Appends out.old.items out.new.items result (ended_line (word.now ∷ value.now ∷ [])) }
+{
+    push_line(out, &[Field::Word(word), Field::Word(value)])
+}
+
+/// Appends the header.
+fn push_header(out: &mut Vec<u8>) -> Result<(), NoMemory>
+    ensures { Appends out.old.items out.new.items result (text_of_line header) }
+{
+    push_words(out, b"chain", b"1")
+}
 
 /// Appends a line of a word and a number.
 fn push_one(out: &mut Vec<u8>, word: &[u8], n: u64) -> Result<(), NoMemory>
@@ -58,13 +74,20 @@ fn tiles_down(map: &Map) -> u32
     map.height() / map.tile_height()
 }
 
-/// Appends the lines of a plane: the header, how many tiles there are, and their size.
+/// Appends the lines that say how many tiles there are, and their size.
+fn push_sizes(out: &mut Vec<u8>, map: &Map) -> Result<(), NoMemory>
+    ensures { Appends out.old.items out.new.items result (lines_text (size_lines map.now)) }
+{
+    push_two(out, b"tiles", tiles_across(map), tiles_down(map))?;
+    push_two(out, b"size", map.tile_width(), map.tile_height())
+}
+
+/// Appends the header and the lines of the tiles' number and size.
 fn push_plane(out: &mut Vec<u8>, map: &Map) -> Result<(), NoMemory>
     ensures { Appends out.old.items out.new.items result (lines_text (plane_lines map.now)) }
 {
-    push_line(out, &[Field::Word(b"chain"), Field::Word(b"1")])?;
-    push_two(out, b"tiles", tiles_across(map), tiles_down(map))?;
-    push_two(out, b"size", map.tile_width(), map.tile_height())
+    push_header(out)?;
+    push_sizes(out, map)
 }
 
 /// Appends the lines of the seed, the attempts and the number of legs.
@@ -104,20 +127,29 @@ fn push_journal(out: &mut Vec<u8>, journal: Journal) -> Result<(), NoMemory>
 {
     match journal {
         Journal::Whole => Ok(()),
-        Journal::Short => push_line(out, &[Field::Word(b"journal"), Field::Word(b"short")]),
+        Journal::Short => push_words(out, b"journal", b"short"),
         Journal::Counts { print } => {
-            push_line(out, &[Field::Word(b"journal"), Field::Word(b"none")])?;
+            push_words(out, b"journal", b"none")?;
             push_print(out, print)
         }
     }
 }
 
+/// Appends the lines of a chain's numbers.
+fn push_numbers(out: &mut Vec<u8>, chain: &Chain) -> Result<(), NoMemory>
+    ensures { Appends out.old.items out.new.items result (lines_text (number_lines (chain_value chain.now))) }
+{
+    push_counts(out, chain)?;
+    push_first(out, chain.first)?;
+    push_journal(out, chain.journal)
+}
+
 /// Appends the line of an act that has an area alone.
-fn push_area(
+fn push_area<'a>(
     out: &mut Vec<u8>,
-    word: &[u8],
+    word: &'a [u8],
     number: u32,
-    verb: &[u8],
+    verb: &'a [u8],
     area: &Rectangle,
 ) -> Result<(), NoMemory>
     requires { HasSides area.now }
@@ -138,10 +170,10 @@ fn push_area(
 }
 
 /// Appends the line of an act that puts an atom.
-fn push_put(
+fn push_put<'a>(
     out: &mut Vec<u8>,
-    names: &[Name],
-    word: &[u8],
+    names: &'a [Name],
+    word: &'a [u8],
     number: u32,
     area: &Rectangle,
     atom: Atom,
@@ -168,12 +200,12 @@ fn push_put(
 }
 
 /// Appends the line of an act with a chance of this text.
-fn push_likely(
+fn push_likely<'a>(
     out: &mut Vec<u8>,
-    word: &[u8],
+    word: &'a [u8],
     number: u32,
-    verb: &[u8],
-    chance: &[u8],
+    verb: &'a [u8],
+    chance: &'a [u8],
     area: &Rectangle,
 ) -> Result<(), NoMemory>
     requires { HasSides area.now }
@@ -267,6 +299,16 @@ fn push_once(out: &mut Vec<u8>, names: &[Name], acts: &[Once]) -> Result<(), NoM
     Ok(())
 }
 
+/// Appends the lines of the acts.
+fn push_acts(out: &mut Vec<u8>, names: &[Name], schedule: &Schedule) -> Result<(), NoMemory>
+    requires every { All (λ (e : Every). IsPrintable (length names.now) e.act) schedule.now.every }
+    requires once { All (λ (o : Once). IsPrintable (length names.now) o.act) schedule.now.once }
+    ensures { Appends out.old.items out.new.items result (lines_text (act_lines names.now schedule.now)) }
+{
+    push_every(out, names, schedule.every())?;
+    push_once(out, names, schedule.once())
+}
+
 /// Appends the text of a chain that `name` gave with these names. The lines `first`, `journal` and
 /// `print` stand only where they say something else than a text without them. A chance that is
 /// neither 0 nor 1 has nine digits, and a state 18. `NoMemory` if `out` can't grow.
@@ -276,10 +318,7 @@ pub fn print(chain: &Chain, names: &[Name], out: &mut Vec<u8>) -> Result<(), NoM
 {
     push_plane(out, &chain.map)?;
     push_off(out, &chain.map)?;
-    push_counts(out, chain)?;
-    push_first(out, chain.first)?;
-    push_journal(out, chain.journal)?;
-    push_every(out, names, chain.schedule.every())?;
-    push_once(out, names, chain.schedule.once())?;
+    push_numbers(out, chain)?;
+    push_acts(out, names, &chain.schedule)?;
     push_atoms(out, names, chain.atoms.as_slice())
 }
