@@ -177,9 +177,9 @@ parts_same : (marks : List Line) (a b : Line) (rest : List ChainLine) → map pl
 parts_same marks a b rest = sym (append_assoc (map plain marks) (plain a ∷ plain b ∷ []) rest) ∙ ap (λ z. z ++ rest) (sym (map-append plain marks (a ∷ b ∷ [])))
 
 -- lines that are taken one after another, and others that end them
-said_then : (n k i j : ℕ) (d e f g : ChainDraft) (a b c t : List ChainLine) (r : Result ChainDraft (ℕ × ℕ)) → Takes n d a k e → Takes k e b i f → Takes i f c j g → draft_after_lines j g t ≡ r →
-    draft_after_lines n d (a ++ (b ++ (c ++ t))) ≡ r
-said_then n k i j d e f g a b c t r p q s h = p.next (b ++ (c ++ t)) ∙ q.next (c ++ t) ∙ s.next t ∙ h
+said_then : (n k i j : ℕ) (d e f g : ChainDraft) (a b c t all : List ChainLine) (r : Result ChainDraft (ℕ × ℕ)) → all ≡ a ++ (b ++ (c ++ t)) → Takes n d a k e → Takes k e b i f → Takes i f c j g → draft_after_lines j g t ≡ r →
+    draft_after_lines n d all ≡ r
+said_then n k i j d e f g a b c t all r same p q s h = ap (draft_after_lines n d) same ∙ p.next (b ++ (c ++ t)) ∙ q.next (c ++ t) ∙ s.next t ∙ h
 
 printed_then : (a b c t : List ChainLine) → All IsPrinted a → All IsPrinted b → All IsPrinted c → All IsPrinted t → All IsPrinted (a ++ (b ++ (c ++ t)))
 printed_then a b c t p q s h = All-append IsPrinted a (b ++ (c ++ t)) p (All-append IsPrinted b (c ++ t) q (All-append IsPrinted c t s h))
@@ -210,8 +210,7 @@ chain_taken names d k fine =
     record {
       draft = e;
       printed = subst (All IsPrinted) (sym same) (printed_then front middle done atoms part.printed numbers.3.printed acts.takes.printed end.printed);
-      said = ap (draft_after_lines 1 nothing_said) same
-          ∙ said_then 1 n numbers.0 acts.number nothing_said (only_world w) (counted w numbers.1 d) before front middle done atoms (Ok e) part numbers.3 acts.takes end.said;
+      said = said_then 1 n numbers.0 acts.number nothing_said (only_world w) (counted w numbers.1 d) before front middle done atoms (chain_lines names c) (Ok e) same part numbers.3 acts.takes end.said;
       same = rw (relined_fine names numbers.0 d.every f.0, relined_fine names acts.second d.once g.0, t.fine (m.tx * m.w) [] g.1, relined_every names numbers.0 d.every, relined_once names acts.second d.once, t.same) refl;
     }
 

@@ -3,6 +3,7 @@ ghost use Rattle.std.specs.Prelude.{ℕ, ◌≡◌, ◌≤◌, ◌<◌, ◌^◌,
 ghost use Rattle.bit_field.specs.declared.TheConstants.{STATE_BITS};
 ghost use Rattle.chain_text.specs.Chain.{IsChain};
 ghost use Rattle.chain_text.specs.Named.{FitsAtom, IfNamed, NamesEvery, NamesOnce, named_act, origin_of};
+ghost use Rattle.chain_text.specs.Printed.{IsNamed};
 ghost use Rattle.world_text.specs.Named.{AreKinds};
 ghost use Rattle.chain_text.specs.Values.{Names, chain_value};
 
@@ -93,6 +94,7 @@ fn origin(plan: &AttemptPlan) -> (u64, u64)
 pub fn name(alloc: Global, raw: RawChain, names: &[Name]) -> Result<Chain, WorldFault>
     requires { length names.now ≤ 65535 }
     ensures chain { Names names.now raw result }
+    ensures named { IfOk result (λ c. IsNamed names.now (chain_value c)) }
     ensures valid { IfOk result (λ c. IsChain names.now (chain_value c)) }
 {
     let draft = raw.into_draft();

@@ -75,5 +75,8 @@ returns-clause-chain c =
     let parts = chain_parts names d w c.into_map_and_atoms-map.result.0 c.origin-seed.result c.new.result c.into_map_and_atoms-map.result.1.items c.into_map_and_atoms-map.ensures.map c.origin-seed.ensures acts c.into_map_and_atoms-map.ensures.atoms in
     ap (chain_with_names names) (sym c.into_draft-draft.ensures.draft) ∙ chain_named names d w no_every no_once world ∙ ap (λ x. Ok x) parts
 
+pub returns-clause-named : goal.returns-clause-named
+returns-clause-named c = (c.args.raw, c.into_draft-draft.ensures.valid, returns-clause-chain c)
+
 pub returns-clause-valid : goal.returns-clause-valid
 returns-clause-valid c = chain_valid c.args.names.now c.args.raw _ c.into_draft-draft.ensures.valid (returns-clause-chain c)
