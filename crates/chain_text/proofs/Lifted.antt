@@ -1,5 +1,5 @@
 -- Lines of a world that a chain takes among its own.
-use Rattle.std.proofs.Common.{ℕ, ◌≡◌, ◌+◌, Bool, true, false, not, List, [], ◌∷◌, ◌++◌, All, ap, sym, refl, ◌∙◌, arith, length, map, subst, Option, Some, None, Result, Ok, Err, if◌then◌else◌}
+use Rattle.std.proofs.Common.{ℕ, ◌≡◌, ◌+◌, true, false, not, List, [], ◌∷◌, ◌++◌, All, ap, sym, refl, ◌∙◌, arith, length, map, Option, Some, None, Result, Ok, Err, if◌then◌else◌}
 use Rattle.std.proofs.lemmas.List.Elements.{All-head, All-tail}
 use Rattle.world_text.specs.Drafts.{DraftValue, misplaced_code, missing as world_missing, nothing_said as no_world_said, step as world_step}
 use Rattle.world_text.specs.Line.{Line, header as world_header, tiles, size, off, seed, attempts as world_attempts, try, atom, order_seed, order}

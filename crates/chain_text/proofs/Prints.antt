@@ -1,5 +1,5 @@
 -- What is known of a chain that is printed, and of lines that are printed one after another.
-use Rattle.std.proofs.Common.{ℕ, ◌≡◌, ◌+◌, ◌*◌, ◌<◌, ◌≤◌, drop, get_or, List, [], ◌∷◌, ◌++◌, All, Result, ap, sym, ◌∙◌, refl, subst, map, length, append_assoc, arith}
+use Rattle.std.proofs.Common.{ℕ, ◌≡◌, ◌+◌, ◌*◌, ◌<◌, drop, get_or, List, [], ◌∷◌, ◌++◌, All, Result, ap, sym, ◌∙◌, refl, subst, map, length, append_assoc, arith}
 use Rattle.std.proofs.lemmas.List.{drop_more, map-id}
 use Rattle.plane_acts.specs.Acts.{IsActOn}
 use Rattle.plane_acts.specs.declared.act.Act.{Act}
@@ -14,7 +14,7 @@ use Rattle.world_text.specs.Line.{Line}
 use Rattle.world_text.specs.Printed.{line_fields as world_fields, lines_text as world_text_of}
 use Rattle.chain_text.specs.Chain.{ChainValue, IsChain, IsChainAct}
 use Rattle.chain_text.specs.Line.{ChainLine, plain}
-use Rattle.chain_text.specs.Printed.{IsPrintable, line_fields, lines_text, text_of_line}
+use Rattle.chain_text.specs.Printed.{IsPrintable, lines_text, text_of_line}
 
 -- an act of a chain can be printed
 act_prints : (n : ℕ) (m : MapValue) (a : Act) → IsActOn (m.tx * m.w) (m.ty * m.h) a → IsChainAct n m a → IsPrintable n a

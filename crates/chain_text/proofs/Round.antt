@@ -1,18 +1,16 @@
 -- The text of a chain says this chain again.
-use Rattle.std.proofs.Common.{ℕ, ◌≡◌, ◌+◌, ◌*◌, ◌^◌, ◌<◌, ◌≤◌, Bool, true, false, List, [], ◌∷◌, ◌++◌, All, append_assoc, length, map, replicate, refl, ap, sym, ◌∙◌, subst, arith, Option, Some, None, IfSome, Result, Ok, Err}
+use Rattle.std.proofs.Common.{ℕ, ◌≡◌, ◌+◌, ◌*◌, ◌^◌, ◌<◌, ◌≤◌, Bool, true, false, List, [], ◌∷◌, ◌++◌, All, append_assoc, length, map, replicate, refl, ap, sym, ◌∙◌, subst, arith, Some, None, Result, Ok}
 use Rattle.std.proofs.lemmas.List.{append-nil, map-append}
 use Rattle.std.proofs.lemmas.List.Elements.{All-append, All-cons, All-head, All-map, All-nil, All-tail}
 use Rattle.draw_stream.specs.Plans.{tiles_on}
-use Rattle.draw_stream.specs.declared.attempt.Attempt.{Attempt}
 use Rattle.tile_map.specs.Plane.{MapValue, IsMap, tiles_of, whole_plane}
 use Rattle.world_text.specs.Atoms.{RawAtom}
 use Rattle.world_text.specs.Drafts.{DraftValue, only_plane, missing as world_missing, nothing_said as no_world_said}
 use Rattle.world_text.specs.Line.{Line, header as world_header, tiles, size, off, seed, attempts as world_attempts}
-use Rattle.world_text.specs.Named.{name_fault as atoms_fault, placed_atom}
-use Rattle.world_text.specs.Printed.{atom_line, off_lines, off_one}
+use Rattle.world_text.specs.Named.{placed_atom}
+use Rattle.world_text.specs.Printed.{atom_line, off_lines}
 use Rattle.world_text.specs.Reading.{over as world_over}
 use Rattle.world_text.specs.Saying.{IsPrinted as IsWorldPrinted, draft_after_lines as world_after_lines}
-use Rattle.world_text.specs.declared.kind.Kind.{Kind}
 use Rattle.world_text.specs.declared.kind.Kind.TheVariants.{Attempts, Size}
 use Rattle.world_text.specs.declared.world.Placed.{Placed}
 use Rattle.world_text.proofs.Planes.{off_taken, plane_taken}
@@ -22,11 +20,9 @@ use Rattle.world_text.proofs.Taken.{Takes as WorldTakes, takes_then as world_the
 use Rattle.world_text.proofs.Tried.{drawn_taken}
 use Rattle.chain_text.specs.Chain.{ChainValue}
 use Rattle.chain_text.specs.Drafts.{ChainDraft, IsChainDraft, after_act, after_atom, after_every, after_journal, is_plane, nothing_said, only_world}
-use Rattle.chain_text.specs.Forms.{plain_line}
 use Rattle.chain_text.specs.Line.{ChainLine, header, plain, legs}
-use Rattle.chain_text.specs.Named.{ReadsChain, acts_fault, chain_of, chain_with_names, every_of, name_fault, once_of, origin_of, unless}
+use Rattle.chain_text.specs.Named.{ReadsChain, acts_fault, chain_of, chain_with_names, every_of, name_fault, once_of, origin_of}
 use Rattle.chain_text.specs.Printed.{IsNamed, act_lines, chain_lines, chain_text, every_line, first_lines, journal_lines, once_line, placed_line}
-use Rattle.chain_text.specs.Reading.{read_text}
 use Rattle.chain_text.specs.declared.stage.Stage.{Stage}
 use Rattle.chain_text.specs.declared.stage.Stage.TheVariants.{Legs}
 use Rattle.chain_text.proofs.Again.{IsPrinted, draft_after_lines, text_again}
@@ -53,7 +49,7 @@ world_taken m o shape on small few =
     let plan = drawn_taken marks.0 marks.1 true m o marks.2 on small few in (
       marks.0 + 1 + 1,
       world_then 1 no_world_said _ 4 (only_plane Size true (whole_plane m.tx m.ty m.w m.h)) _ (marks.0 + 1 + 1) (planned m o) first
-      (world_then 4 (only_plane Size true (whole_plane m.tx m.ty m.w m.h)) (off_lines 0 m.off) marks.0 (only_plane marks.1 true m) _ (marks.0 + 1 + 1) (planned m o) marks.3 plan),
+          (world_then 4 (only_plane Size true (whole_plane m.tx m.ty m.w m.h)) (off_lines 0 m.off) marks.0 (only_plane marks.1 true m) _ (marks.0 + 1 + 1) (planned m o) marks.3 plan),
     )
 
 off_of_plane : (t : ℕ) (marks : List Bool) (ls : List Line) → All IsOfPlane ls → All IsOfPlane (off_lines t marks ++ ls)

@@ -1,20 +1,18 @@
 -- Acts as lines say them, and acts that lines said.
-use Rattle.std.proofs.Common.{ℕ, ◌≡◌, ◌+◌, ◌-◌, ◌*◌, ◌^◌, ◌<◌, ◌≤◌, Bool, true, false, ◌&&◌, List, [], ◌∷◌, All, ap, sym, refl, ◌∙◌, arith, is_some, length, map, nat_le, nat_lt, le-leb, lt-ltb, None, Some, Option, if◌then◌else◌}
-use Rattle.std.proofs.lemmas.List.Elements.{All-cons, All-head, All-nil, All-tail}
+use Rattle.std.proofs.Common.{ℕ, ◌≡◌, ◌+◌, ◌-◌, ◌*◌, ◌^◌, ◌≤◌, Bool, true, false, List, [], ◌∷◌, ap, refl, ◌∙◌, arith, map, nat_lt, le-leb, lt-ltb, None, Some, if◌then◌else◌}
 use Rattle.list_laws.specs.Options.{or_zero}
 use Rattle.list_laws.proofs.Tests.{together}
 use Rattle.cell_grid.specs.declared.marks.Rectangle.{Rectangle}
 use Rattle.draw_stream.specs.Plans.{tiles_on}
 use Rattle.feast_base.specs.TypeNames.{is_type_name, name_of}
-use Rattle.plane_acts.specs.declared.act.Act.{Act}
 use Rattle.plane_acts.specs.declared.act.Act.TheVariants.{Clear, Put, Erase, Flip, Attempts}
 use Rattle.tile_map.specs.Plane.{MapValue, IsMap}
 use Rattle.world_text.proofs.Drafts.{count_fits}
 use Rattle.world_text.proofs.Round.{name_again}
 use Rattle.world_text.specs.Drafts.{DraftValue, too_many as world_too_many}
 use Rattle.world_text.specs.Named.{type_of}
-use Rattle.chain_text.specs.Drafts.{IsAreaIn, IsFew, IsLasting, IsNumberedAct, IsRawAct, act_in_range, area_in_range, raw_act, rectangle_of, too_many}
-use Rattle.chain_text.specs.Line.{Area, ActLine, IsRepeated, clear, put, erase, flip, attempts}
+use Rattle.chain_text.specs.Drafts.{IsAreaIn, IsLasting, IsRawAct, act_in_range, area_in_range, raw_act, rectangle_of, too_many}
+use Rattle.chain_text.specs.Line.{IsRepeated}
 use Rattle.chain_text.specs.Named.{act_of, acts_fault, every_of, is_named, once_of}
 use Rattle.chain_text.specs.Printed.{said_act, said_area}
 use Rattle.chain_text.specs.declared.raw_act.NumberedAct.{NumberedAct}

@@ -1,15 +1,15 @@
 -- Lines of a chain that are taken one after another.
-use Rattle.std.proofs.Common.{ℕ, suc, ◌≡◌, ◌+◌, ◌*◌, ◌^◌, ◌<◌, ◌≤◌, ◌==◌, Bool, true, false, List, [], ◌∷◌, ◌++◌, All, append_assoc, refl, ap, sym, ◌∙◌, arith, length, map, subst, le-leb, eqb-true, not, Option, Some, None, Result, Ok, Err, if◌then◌else◌}
+use Rattle.std.proofs.Common.{ℕ, suc, ◌≡◌, ◌+◌, ◌^◌, ◌<◌, ◌≤◌, ◌==◌, Bool, true, false, List, [], ◌∷◌, ◌++◌, All, append_assoc, refl, ap, sym, ◌∙◌, arith, map, subst, le-leb, eqb-true, Some, Ok, if◌then◌else◌}
 use Rattle.std.specs.List.Sorted.{IsNonDecreasingBy}
 use Rattle.std.proofs.lemmas.List.{append-nil}
 use Rattle.std.proofs.lemmas.List.Elements.{All-append, All-cons, All-head, All-nil, All-tail}
 use Rattle.std.proofs.lemmas.List.Sorted.{IsNonDecreasingBy-drop}
 use Rattle.list_laws.proofs.Tests.{together}
 use Rattle.draw_stream.specs.Plans.{tiles_on}
-use Rattle.tile_map.specs.Plane.{MapValue, IsMap}
+use Rattle.tile_map.specs.Plane.{IsMap}
 use Rattle.world_text.proofs.Planes.{between_true}
 use Rattle.world_text.specs.Drafts.{DraftValue}
-use Rattle.chain_text.specs.Drafts.{ChainDraft, IsJournal, IsLasting, IsNumberedAct, after_act, after_counted, after_every, after_first, after_journal, after_legs, act_in_range, in_range, is_attempts, may_come, numbered, only_world, put_line, step, step_line, too_many}
+use Rattle.chain_text.specs.Drafts.{ChainDraft, IsJournal, IsLasting, IsNumberedAct, after_act, after_every, after_first, after_journal, after_legs, act_in_range, in_range, is_attempts, only_world, put_line, step, step_line, too_many}
 use Rattle.chain_text.specs.Line.{ActLine, ChainLine, legs, first, journal, print, every, act}
 use Rattle.chain_text.specs.Named.{act_of, every_of, is_named, once_of}
 use Rattle.chain_text.specs.Printed.{every_line, first_lines, journal_lines, once_line, print_lines, said_act}
@@ -20,7 +20,7 @@ use Rattle.chain_text.specs.declared.raw_act.RawAct.{RawAct}
 use Rattle.chain_text.specs.declared.stage.Stage.{Stage}
 use Rattle.chain_text.specs.declared.stage.Stage.TheVariants.{Legs, First, Recorded, Counted, Print, Every, Once}
 use Rattle.chain_text.proofs.Again.{IsPrinted, draft_after_lines}
-use Rattle.chain_text.proofs.Said.{IsSaid, act_repeats, act_said, relined}
+use Rattle.chain_text.proofs.Said.{act_repeats, act_said, relined}
 
 -- behind a draft these lines are taken, of which the first has number n: whatever comes behind them comes behind draft e,
 -- from number k on

@@ -11,7 +11,7 @@ use Rattle.plane_acts.specs.declared.schedule.Every.{Every}
 use Rattle.plane_acts.specs.declared.schedule.Once.{Once}
 use Rattle.text_lines.specs.Lines.{ended_line, text_of}
 use Rattle.tile_map.specs.Plane.{MapValue}
-use Rattle.world_text.specs.Line.{tiles, size, seed, attempts as world_attempts, Line}
+use Rattle.world_text.specs.Line.{tiles, size, seed, attempts as world_attempts}
 use Rattle.world_text.specs.Printed.{atom_line, line_fields as world_fields, off_lines}
 use Rattle.world_text.specs.declared.world.Placed.{Placed}
 use Rattle.chain_text.specs.Chain.{ChainValue}
