@@ -2,12 +2,14 @@ mod Acted
 mod Audited
 pub mod Audits
 pub mod Behind
+pub mod Betweens
 mod Chains
 mod First
 mod Follows
 mod Laws
 mod Left
 mod LegReads
+mod LegWorlds
 pub mod Legs
 mod Numbered
 mod Onward
@@ -15,6 +17,7 @@ mod Plans
 mod ReadAgain
 mod Readers
 mod Replayed
+mod ShownAgain
 mod Sought
 mod Stored
 mod Texts
