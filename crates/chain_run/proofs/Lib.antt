@@ -11,6 +11,8 @@ mod Left
 mod LegReads
 mod LegWorlds
 pub mod Legs
+pub mod LoneLegs
+mod LoneSteps
 mod Numbered
 mod Onward
 mod Plans

@@ -4,6 +4,7 @@ ghost use Rattle.chain_run.specs.Audits.{AreReportsJoined, IsAuditable, IsReport
 ghost use Rattle.chain_run.specs.Chains.{AreChainsCutAndJoined, AreChainsCutWhereShown, ChainsHaveOneCourse};
 ghost use Rattle.chain_run.specs.Laws.{AreCutAndJoined, HaveOneCourse};
 ghost use Rattle.chain_run.specs.LegWorlds.{AreLegsRuns, AreNextLegsRuns};
+ghost use Rattle.chain_run.specs.Runs.{AreLoneLegsStepped};
 ghost use Rattle.chain_text.specs.Chain.{ChainValue};
 ghost use Rattle.window_sites.specs.Window.{WindowValue};
 
@@ -36,6 +37,12 @@ pub fn cut_and_join()
 pub fn legs_are_runs()
     ensures grids { AreLegsRuns }
     ensures chains { AreNextLegsRuns }
+{}
+
+/// On a plane of one tile a run of a chain and its stepped run leave the same legs. The call does nothing:
+/// its contract is the law.
+pub fn lone_legs()
+    ensures { AreLoneLegsStepped }
 {}
 
 /// What `Yes` says of the report of a chain whose legs have whole or short ones: bytes that are read and
