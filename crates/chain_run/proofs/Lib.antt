@@ -11,6 +11,7 @@ mod Left
 mod LegReads
 mod LegWorlds
 pub mod Legs
+mod LoneEntries
 pub mod LoneLegs
 mod LoneSteps
 mod Numbered

@@ -1,12 +1,11 @@
--- On a plane of one tile, legs each of whose attempts is an event are those of the stepped run.
-use Rattle.std.proofs.Common.{ℕ, ◌≡◌, ◌+◌, ◌*◌, ◌%◌, ◌<◌, ◌≤◌, List, [], ◌∷◌, All, arith, filter, get_or, length, map, refl, subst, sym, ap, ◌∙◌}
+-- On a plane of one tile the legs of a chain are those of its stepped run.
+use Rattle.std.proofs.Common.{ℕ, ◌≡◌, ◌+◌, ◌*◌, ◌%◌, ◌<◌, ◌≤◌, List, [], ◌∷◌, All, arith, get_or, length, map, refl, sym, ap, ◌∙◌}
 use Rattle.std.specs.List.{range_with_len}
 use Rattle.std.proofs.Math.Nat.{mod-lt}
 use Rattle.std.proofs.lemmas.List.Elements.{All-map}
 use Rattle.window_sites.specs.Window.{WindowValue}
 use Rattle.cell_grid.specs.Grid.{GridValue}
 use Rattle.cell_grid.specs.Records.{replay}
-use Rattle.cell_grid.specs.declared.record.Record.{Record}
 use Rattle.chain_text.proofs.Counts.{leg_few}
 use Rattle.chain_text.specs.Chain.{ChainValue, IsChain}
 use Rattle.chain_text.specs.Legs.{leg_attempts, leg_seed, order_seed}
@@ -14,18 +13,21 @@ use Rattle.draw_stream.proofs.Plans.{attempts_few, length_seeded_lists, seeded_p
 use Rattle.draw_stream.specs.Words.{tile_word}
 use Rattle.draw_stream.specs.Plans.{attempts}
 use Rattle.draw_stream.specs.declared.attempt.Attempt.{Attempt}
-use Rattle.event_journal.specs.Logs.{LogValue, abandoned_by, abandoned_in, log_of, of_tile, records_in}
+use Rattle.event_journal.specs.Logs.{abandoned_by, abandoned_in, log_of, of_tile, records_in}
+use Rattle.event_journal.specs.Serial.{IsSerial}
 use Rattle.stepped_world.specs.Ends.{logs_in}
 use Rattle.stepped_world.specs.Machine.{Machine}
 use Rattle.tile_map.specs.Plane.{MapValue, tiles_of}
 use Rattle.world_runs.proofs.Alone.{events_in}
 use Rattle.world_runs.specs.OneTile.{event_of, events_from, events_of}
 use Rattle.world_runs.specs.Orders.{attempts_in, drawn_order}
+use Rattle.chain_run.proofs.LoneEntries.{lone_entries}
 use Rattle.chain_run.proofs.LoneSteps.{IsLeft, lone_machine}
+use Rattle.chain_run.proofs.Plans.{leg_runs}
 use Rattle.chain_run.specs.Chains.{AreLegsOf, first_grid, making}
-use Rattle.chain_run.specs.Legs.{AreLegs, Leg}
+use Rattle.chain_run.specs.Legs.{AreLegs, Leg, leg_course}
 use Rattle.chain_run.specs.Reading.{leg_plan}
-use Rattle.chain_run.specs.Runs.{AreAlone, leg_left, leg_order, machine_of_leg, stepped_leg, stepped_legs, stepped_legs_from}
+use Rattle.chain_run.specs.Runs.{leg_order, machine_of_leg, stepped_leg, stepped_legs, stepped_legs_from}
 
 -- all events of one tile are its own
 own_events : (m : MapValue) (i : ℕ) (list : List Attempt) → of_tile 0 (events_from m i list) ≡ events_from m i list
@@ -67,15 +69,19 @@ module _ (names : List (List ℕ)) (c : ChainValue) (meaning : WindowValue → �
       let logs = one_log (machine_of_leg c meaning k g) _ k left in
       λ i. record { grid = left.grid i; records = (ap records_in logs ∙ events_in c.plane (attempts plan 0) (few k)) i; abandoned = abandoned_in (logs i) }
 
-  leg_lone : (k : ℕ) (g : GridValue) (l : Leg) → l.grid ≡ replay meaning ((making c meaning).acts k g) l.records → l.records ≡ events_of c.plane (leg_plan c k) → l.abandoned ≡ [] → l ≡ lone_leg k g
-  leg_lone k g l replayed events none = λ i. record { grid = (replayed ∙ ap (replay meaning ((making c meaning).acts k g)) events) i; records = events i; abandoned = none i }
+  leg_lone : (k : ℕ) (g : GridValue) (l : Leg) → IsSerial (leg_course (making c meaning) k g) l.grid l.records l.abandoned → l ≡ lone_leg k g
+  leg_lone k g l serial =
+      let entries = lone_entries c.plane one (leg_plan c k) l.records l.abandoned (leg_runs names c k is).lists serial.owes in
+      let grid = serial.replayed ∙ ap (replay meaning ((making c meaning).acts k g)) entries.0 in
+      λ i. record { grid = grid i; records = entries.0 i; abandoned = entries.1 i }
 
-  legs_lone : (k : ℕ) (g : GridValue) (legs : List Leg) → AreLegs (making c meaning) k g legs → AreAlone (making c meaning) k legs → legs ≡ stepped_legs_from c meaning k g (length legs)
-  unfolding AreLegs AreAlone stepped_legs_from
-  legs_lone k g [] h alone = refl
-  legs_lone k g (l ∷ ls) h alone =
-      let same = leg_lone k g l h.0.replayed alone.0.0 alone.0.1 ∙ sym (steps_lone k g) in
-      (λ i. same i ∷ (legs_lone (k + 1) l.grid ls h.1 alone.1 ∙ ap (λ (x : Leg). stepped_legs_from c meaning (k + 1) x.grid (length ls)) same) i)
+  legs_lone : (k : ℕ) (g : GridValue) (legs : List Leg) → AreLegs (making c meaning) k g legs → legs ≡ stepped_legs_from c meaning k g (length legs)
+  unfolding AreLegs stepped_legs_from
+  legs_lone k g [] h = refl
+  legs_lone k g (l ∷ ls) h =
+      let same = leg_lone k g l h.0 ∙ sym (steps_lone k g) in
+      let more = legs_lone (k + 1) l.grid ls h.1 ∙ ap (λ (x : Leg). stepped_legs_from c meaning (k + 1) x.grid (length ls)) same in
+      λ i. same i ∷ more i
 
-  pub lone_are_stepped : (legs : List Leg) → AreLegsOf c meaning legs → AreAlone (making c meaning) c.first legs → legs ≡ stepped_legs c meaning
-  lone_are_stepped legs h alone = legs_lone c.first (first_grid c) legs h.follow alone ∙ ap (stepped_legs_from c meaning c.first (first_grid c)) h.count
+  pub lone_are_stepped : (legs : List Leg) → AreLegsOf c meaning legs → legs ≡ stepped_legs c meaning
+  lone_are_stepped legs h = legs_lone c.first (first_grid c) legs h.follow ∙ ap (stepped_legs_from c meaning c.first (first_grid c)) h.count

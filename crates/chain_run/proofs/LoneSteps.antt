@@ -1,5 +1,5 @@
 -- On a plane of one tile the stepped machine makes each attempt an event, in its order.
-use Rattle.std.proofs.Common.{ℕ, ◌≡◌, ◌+◌, ◌<◌, ◌++◌, List, [], ◌∷◌, All, append_assoc, arith, cond, false, filter, length, map, refl, subst, sym, ap, ◌∙◌, ◌&&◌}
+use Rattle.std.proofs.Common.{ℕ, ◌≡◌, ◌+◌, ◌++◌, List, [], ◌∷◌, All, append_assoc, arith, cond, false, filter, length, map, refl, subst, sym, ap, ◌∙◌, ◌&&◌}
 use Rattle.std.specs.Prelude.{flat_map}
 use Rattle.std.specs.List.{range_with_len}
 use Rattle.std.proofs.Math.Bool.{and-false}

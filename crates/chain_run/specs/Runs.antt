@@ -60,7 +60,7 @@ unfoldable pub AreAlone : Making → ℕ → List Leg → Type 0
 AreAlone c k [] = Unit {0}
 AreAlone c k (l ∷ ls) = ((l.records ≡ events_of c.map (c.plan k)) × (l.abandoned ≡ [])) × AreAlone c (k + 1) ls
 
--- on a plane of one tile the legs of a chain that names give are those of its stepped run, if each attempt is an event, in its order
+-- on a plane of one tile the legs of a chain that names give are those of its stepped run
 abbrev pub AreLoneLegsStepped : Type 0
 AreLoneLegsStepped = (names : List (List ℕ)) (c : ChainValue) (meaning : WindowValue → ℕ → WindowValue) → IsChain names c → tiles_of c.plane ≡ 1
-    → (legs : List Leg) → AreLegsOf c meaning legs → AreAlone (making c meaning) c.first legs → legs ≡ stepped_legs c meaning
+    → (legs : List Leg) → AreLegsOf c meaning legs → legs ≡ stepped_legs c meaning

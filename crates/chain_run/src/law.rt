@@ -39,8 +39,8 @@ pub fn legs_are_runs()
     ensures chains { AreNextLegsRuns }
 {}
 
-/// On a plane of one tile a run of a chain and its stepped run leave the same legs. The call does nothing:
-/// its contract is the law.
+/// On a plane of one tile a chain has but one list of legs, that of its stepped run: each run of the chain leaves it, and each
+/// attempt is an event. The call does nothing: its contract is the law.
 pub fn lone_legs()
     ensures { AreLoneLegsStepped }
 {}

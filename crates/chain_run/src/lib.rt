@@ -6,8 +6,8 @@
 //!
 //! [`one_course`] says that everything that happens in a chain, its acts and its events, stands in one
 //! course, and what one uncut grid comes to by it; [`cut_and_join`] says that a chain may be cut between
-//! two legs, and its parts joined again; [`legs_are_runs`] says of which world each leg is a run;
-//! [`sound_audits`] says what `yes` is.
+//! two legs, and its parts joined again; [`legs_are_runs`] says of which world each leg is a run, and
+//! [`lone_legs`] that on one tile there is one list of legs; [`sound_audits`] says what `yes` is.
 #![tactic(auto)]
 
 mod auditing;
