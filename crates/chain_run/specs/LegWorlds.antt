@@ -7,6 +7,7 @@ use Rattle.chain_text.specs.Chain.{ChainValue, IsChain}
 use Rattle.chain_text.specs.Legs.{leg_world}
 use Rattle.world_runs.specs.Fresh.{world_course}
 use Rattle.world_runs.specs.Orders.{order_in}
+use Rattle.world_runs.specs.Worlds.{IsWorld}
 use Rattle.world_text.specs.Named.{WorldValue}
 use Rattle.chain_run.specs.Between.{IsBetween}
 use Rattle.chain_run.specs.Chains.{first_grid, making}
@@ -17,9 +18,10 @@ use Rattle.chain_run.specs.Runs.{leg_order}
 abbrev pub world_behind : ChainValue → (WindowValue → ℕ → WindowValue) → ℕ → GridValue → WorldValue
 world_behind c meaning k g = leg_world c k ((making c meaning).acts k g)
 
--- leg k is a run of its world, if the leg before it left this grid: it is a run of what a run of that world is of, and if it is
--- stepped, its order is that of the world
+-- leg k is a run of its world, if the leg before it left this grid: that world can be run, the leg is a run of what a run of it is
+-- of, and if the leg is stepped, its order is that of the world
 pub record IsRunOfItsWorld (c : ChainValue) (meaning : WindowValue → ℕ → WindowValue) (k : ℕ) (g : GridValue) : Type 0 where
+  pub world : IsWorld (world_behind c meaning k g)
   pub course : leg_course (making c meaning) k g ≡ world_course (world_behind c meaning k g) meaning
   pub order : leg_order c k ≡ order_in (world_behind c meaning k g)
 

@@ -30,10 +30,10 @@ pub fn cut_and_join()
     ensures reports { AreReportsJoined }
 {}
 
-/// A leg of a chain is a run of a world of its own: that of the chain's plane, the leg's seeds and attempts, and the
-/// atoms that the grid before it shows after the leg's acts. It is a run of what a run of that world is of, with the same
-/// order if it is stepped; so what is known of runs of worlds holds of legs. The call does nothing: its
-/// contract is the law, over grids between legs and behind the first legs of a chain.
+/// A leg of a chain is a run of a world of its own, which can be run: that of the chain's plane, the leg's seeds and
+/// attempts, and the atoms that are shown by the grid before the leg once its acts are done. It is a run of what a run of
+/// that world is of, with the same order if it is stepped; so what is known of runs of worlds holds of legs. The call does
+/// nothing: its contract is the law, over grids between legs and behind the first legs of a chain.
 pub fn legs_are_runs()
     ensures grids { AreLegsRuns }
     ensures chains { AreNextLegsRuns }
