@@ -2,11 +2,13 @@
 use Rattle.std.proofs.Common.{ℕ, ◌≡◌, ◌+◌, ◌≤◌, List, ◌++◌, length, length-append, refl, sym, subst, arith}
 use Rattle.window_sites.specs.Window.{WindowValue}
 use Rattle.cell_grid.specs.Grid.{GridValue}
-use Rattle.chain_text.specs.Chain.{ChainValue}
+use Rattle.cell_grid.specs.Known.{BringsNone}
+use Rattle.chain_text.specs.Chain.{ChainValue, IsChain}
 use Rattle.world_runs.specs.Start.{start_grid}
 use Rattle.world_text.specs.declared.world.Placed.{Placed}
+use Rattle.chain_run.proofs.Betweens.{between_again, front_between}
 use Rattle.chain_run.proofs.Laws.{cut, join, one_course}
-use Rattle.chain_run.specs.Chains.{AreLegsOf, AreLegsOfBoth, IsChainCut, first_grid, making}
+use Rattle.chain_run.specs.Chains.{AreLegsOf, AreLegsOfBoth, IsChainCut, atoms_shown, first_grid, making}
 use Rattle.chain_run.specs.Course.{items_from, played}
 use Rattle.chain_run.specs.Legs.{AreLegs, Leg, grid_after}
 
@@ -32,3 +34,16 @@ module _ (c : ChainValue) (meaning : WindowValue → ℕ → WindowValue) (front
 
   pub chain_cut_and_join : IsChainCut c meaning front back atoms
   chain_cut_and_join = record { cut = chain_cut; join = chain_join }
+
+-- the second part begins with the atoms that the last grid of the first one shows
+pub chain_cut_where_shown : (names : List (List ℕ)) (c : ChainValue) (meaning : WindowValue → ℕ → WindowValue) (front back : List Leg) → IsChain names c → BringsNone (length names) meaning → length front ≤ c.legs
+    → IsChainCut c meaning front back (atoms_shown (grid_after (first_grid c) front))
+chain_cut_where_shown names c meaning front back is brings few = record {
+  cut = λ h. (at (cut (making c meaning) c.first (first_grid c) front back h.follow).0).cut h;
+  join = λ h. (at h.0.follow).join h;
+}
+  where
+    at : AreLegs (making c meaning) c.first (first_grid c) front → IsChainCut c meaning front back (atoms_shown (grid_after (first_grid c) front))
+    at legs =
+        let left = grid_after (first_grid c) front in
+        chain_cut_and_join c meaning front back (atoms_shown left) few (between_again names c is left (front_between names c is meaning front brings legs))

@@ -2,19 +2,25 @@ mod Acted
 mod Audited
 pub mod Audits
 pub mod Behind
+pub mod Betweens
 mod Chains
 mod First
 mod Follows
 mod Laws
 mod Left
 mod LegReads
+mod LegWorlds
 pub mod Legs
+mod LoneEntries
+pub mod LoneLegs
+mod LoneSteps
 mod Numbered
 mod Onward
 mod Plans
 mod ReadAgain
 mod Readers
 mod Replayed
+mod ShownAgain
 mod Sought
 mod Stored
 mod Texts

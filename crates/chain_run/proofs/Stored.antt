@@ -3,6 +3,7 @@ use Rattle.std.proofs.Common.{ℕ, ◌≡◌, ◌+◌, ◌*◌, ◌&&◌, false,
 use Rattle.std.proofs.lemmas.List.{get_or-replicate, length-replicate}
 use Rattle.std.proofs.lemmas.List.Elements.{All-head, All-tail}
 use Rattle.std.proofs.lemmas.List.FromFn.{get_or-map-range_with_len, length-map-range_with_len}
+use Rattle.std.proofs.lemmas.Nat.{div-mul-add, mod-mul-add, mul-add-lt}
 use Rattle.bit_field.specs.Atom.{AtomValue, empty_atom}
 use Rattle.cell_grid.proofs.Places.{IsGrid-set}
 use Rattle.cell_grid.proofs.Windows.{IsGrid-put}
@@ -14,11 +15,11 @@ use Rattle.plane_acts.specs.Acts.{after_act, atom_left_at, words_drawn}
 use Rattle.plane_acts.specs.Schedules.{after_acts}
 use Rattle.plane_acts.specs.declared.act.Act.{Act}
 use Rattle.plane_grid.proofs.Blanks.{high, wide}
-use Rattle.plane_grid.specs.BlankGrid.{blank_grid, plane_sites}
+use Rattle.plane_grid.specs.BlankGrid.{blank_grid, plane_sites, site_at}
 use Rattle.plane_grid.specs.PlaneGrids.{IsGridOf}
-use Rattle.tile_map.specs.Plane.{IsMap, MapValue}
+use Rattle.tile_map.specs.Plane.{IsMap, MapValue, is_live, site}
 use Rattle.window_sites.specs.Window.{WindowValue}
-use Rattle.world_runs.proofs.Placing.{live_in}
+use Rattle.world_runs.proofs.Placing.{fits_placed, live_in}
 use Rattle.world_runs.specs.Start.{start_grid, with_placed}
 use Rattle.world_text.specs.declared.world.Placed.{Placed}
 
@@ -69,10 +70,25 @@ placed_stored n m g (p ∷ ps) all fits h =
     let live = live_in m g p.x p.y fits (All-head (IsPlacedIn n m) p ps all).live in
     placed_stored n m (with_placed g p) ps (All-tail (IsPlacedIn n m) p ps all) (record { wide = fits.wide; high = fits.high; live = fits.live }) (IsGrid-set g (p.y * g.width + p.x) p.atom live.marked h)
 
--- atoms change no live mark
-unplaced : (m : MapValue) (g : GridValue) (ps : List Placed) → IsGridOf m (fold with_placed g ps) → IsGridOf m g
-unplaced m g [] h = h
-unplaced m g (p ∷ ps) h = let k = unplaced m (with_placed g p) ps h in record { wide = k.wide; high = k.high; live = k.live }
+-- the plane without atoms has its size and its live sites, and atoms change neither
+blank_fits : (m : MapValue) → IsGridOf m (blank_grid m)
+unfolding blank_grid
+blank_fits m = record {
+  wide = refl;
+  high = refl;
+  live = λ x y lx ly.
+      let w = m.tx * m.w in
+      let inside = mul-add-lt y w x (m.ty * m.h) ly lx in
+      get_or-map-range_with_len (λ i. is_live m (site_at m i)) 0 (plane_sites m) (y * w + x) (y * w + x) false (omega (arith, inside)) (omega arith)
+      ∙ (λ j. is_live m (site (mod-mul-add y w x lx j) (div-mul-add y w x lx j)));
+}
 
-pub first_stored : (names : List (List ℕ)) (c : ChainValue) → IsChain names c → IsGridOf c.plane (start_grid c.plane c.atoms) → IsGrid (start_grid c.plane c.atoms)
-first_stored names c is fits = placed_stored (length names) c.plane (blank_grid c.plane) c.atoms is.atoms (unplaced c.plane (blank_grid c.plane) c.atoms fits) (blank_stored c.plane is.map)
+placed_fits : (m : MapValue) (g : GridValue) (ps : List Placed) → IsGridOf m g → IsGridOf m (fold with_placed g ps)
+placed_fits m g [] h = h
+placed_fits m g (p ∷ ps) h = placed_fits m (with_placed g p) ps (fits_placed m g p h)
+
+pub start_fits : (m : MapValue) (ps : List Placed) → IsGridOf m (start_grid m ps)
+start_fits m ps = placed_fits m (blank_grid m) ps (blank_fits m)
+
+pub first_stored : (names : List (List ℕ)) (c : ChainValue) → IsChain names c → IsGrid (start_grid c.plane c.atoms)
+first_stored names c is = placed_stored (length names) c.plane (blank_grid c.plane) c.atoms is.atoms (blank_fits c.plane) (blank_stored c.plane is.map)

@@ -1,10 +1,12 @@
 -- The legs of a chain, by what its text says.
-use Rattle.std.specs.Prelude.{ℕ, ◌≡◌, ◌+◌, ◌-◌, ◌≤◌, List, ◌++◌, length}
+use Rattle.std.specs.Prelude.{ℕ, ◌≡◌, ◌+◌, ◌-◌, ◌≤◌, List, ◌++◌, length, map}
 use Rattle.window_sites.specs.Window.{WindowValue}
 use Rattle.cell_grid.specs.Grid.{GridValue}
-use Rattle.chain_text.specs.Chain.{ChainValue}
-use Rattle.chain_text.specs.Legs.{act_seed}
+use Rattle.cell_grid.specs.Known.{BringsNone}
+use Rattle.chain_text.specs.Chain.{ChainValue, IsChain}
+use Rattle.chain_text.specs.Legs.{act_seed, placed}
 use Rattle.plane_acts.specs.Schedules.{acts}
+use Rattle.report_text.specs.Report.{shown_atoms}
 use Rattle.world_runs.specs.Start.{start_grid}
 use Rattle.world_text.specs.declared.world.Placed.{Placed}
 use Rattle.chain_run.specs.Course.{items_from, played}
@@ -56,3 +58,12 @@ pub record IsChainCut (c : ChainValue) (meaning : WindowValue → ℕ → Window
 abbrev pub AreChainsCutAndJoined : Type 0
 AreChainsCutAndJoined = (c : ChainValue) (meaning : WindowValue → ℕ → WindowValue) (front back : List Leg) (atoms : List Placed) → length front ≤ c.legs
     → start_grid c.plane atoms ≡ grid_after (first_grid c) front → IsChainCut c meaning front back atoms
+
+-- the atoms that a grid shows, as those that a chain begins with
+abbrev pub atoms_shown : GridValue → List Placed
+atoms_shown g = map placed (shown_atoms g)
+
+-- the atoms that the last grid of the first part shows are such ones, if names give the chain and its elements bring no other atoms
+abbrev pub AreChainsCutWhereShown : Type 0
+AreChainsCutWhereShown = (names : List (List ℕ)) (c : ChainValue) (meaning : WindowValue → ℕ → WindowValue) (front back : List Leg) → IsChain names c
+    → BringsNone (length names) meaning → length front ≤ c.legs → IsChainCut c meaning front back (atoms_shown (grid_after (first_grid c) front))

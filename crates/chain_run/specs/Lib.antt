@@ -5,6 +5,7 @@ pub mod Chains
 pub mod Course
 pub mod Judging
 pub mod Laws
+pub mod LegWorlds
 pub mod Legs
 pub mod Lines
 pub mod Places

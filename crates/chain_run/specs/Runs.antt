@@ -2,7 +2,7 @@
 use Rattle.std.specs.Prelude.{ℕ, suc, zero, ◌≡◌, ◌+◌, List, [], ◌∷◌}
 use Rattle.window_sites.specs.Window.{WindowValue}
 use Rattle.cell_grid.specs.Grid.{GridValue}
-use Rattle.chain_text.specs.Chain.{ChainValue}
+use Rattle.chain_text.specs.Chain.{ChainValue, IsChain}
 use Rattle.chain_text.specs.Legs.{order_seed}
 use Rattle.event_journal.specs.Logs.{abandoned_in, records_in}
 use Rattle.event_journal.specs.Serial.{IsSerial}
@@ -13,7 +13,7 @@ use Rattle.tile_map.specs.Plane.{tiles_of}
 use Rattle.world_runs.specs.OneTile.{events_of}
 use Rattle.world_runs.specs.Orders.{turns_of}
 use Rattle.world_text.specs.Named.{drawn}
-use Rattle.chain_run.specs.Chains.{first_grid, making}
+use Rattle.chain_run.specs.Chains.{AreLegsOf, first_grid, making}
 use Rattle.chain_run.specs.Legs.{Leg, Making, leg_course}
 use Rattle.chain_run.specs.Reading.{leg_plan}
 
@@ -59,3 +59,8 @@ stepped_legs c meaning = stepped_legs_from c meaning c.first (first_grid c) c.le
 unfoldable pub AreAlone : Making → ℕ → List Leg → Type 0
 AreAlone c k [] = Unit {0}
 AreAlone c k (l ∷ ls) = ((l.records ≡ events_of c.map (c.plan k)) × (l.abandoned ≡ [])) × AreAlone c (k + 1) ls
+
+-- on a plane of one tile the legs of a chain that names give are those of its stepped run
+abbrev pub AreLoneLegsStepped : Type 0
+AreLoneLegsStepped = (names : List (List ℕ)) (c : ChainValue) (meaning : WindowValue → ℕ → WindowValue) → IsChain names c → tiles_of c.plane ≡ 1
+    → (legs : List Leg) → AreLegsOf c meaning legs → legs ≡ stepped_legs c meaning

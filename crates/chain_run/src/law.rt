@@ -1,8 +1,10 @@
 //! The laws of chains.
 ghost use Rattle.std.specs.Prelude.{ℕ, List};
 ghost use Rattle.chain_run.specs.Audits.{AreReportsJoined, IsAuditable, IsReportIfYes, IsYesIfReport};
-ghost use Rattle.chain_run.specs.Chains.{AreChainsCutAndJoined, ChainsHaveOneCourse};
+ghost use Rattle.chain_run.specs.Chains.{AreChainsCutAndJoined, AreChainsCutWhereShown, ChainsHaveOneCourse};
 ghost use Rattle.chain_run.specs.Laws.{AreCutAndJoined, HaveOneCourse};
+ghost use Rattle.chain_run.specs.LegWorlds.{AreLegsRuns, AreNextLegsRuns};
+ghost use Rattle.chain_run.specs.Runs.{AreLoneLegsStepped};
 ghost use Rattle.chain_text.specs.Chain.{ChainValue};
 ghost use Rattle.window_sites.specs.Window.{WindowValue};
 
@@ -17,13 +19,30 @@ pub fn one_course()
 
 /// A chain may be cut between any two legs: legs are those of a chain exactly if the first ones are
 /// those of its first part, and the others those of the part that goes on with the numbers that
-/// follow, from atoms that make the grid which the first ones leave. The report of the chain is that of the first
+/// follow, from atoms that make the grid which the first ones leave. The atoms that this grid shows are
+/// such ones, if names give the chain and its elements bring no other atoms. The report of the chain is that of the first
 /// part followed by that of the other, where counts, if those are printed, are printed between the two. The call does nothing: its
 /// contract is the law, of legs in general and of those of a chain.
 pub fn cut_and_join()
     ensures legs { AreCutAndJoined }
     ensures chains { AreChainsCutAndJoined }
+    ensures shown { AreChainsCutWhereShown }
     ensures reports { AreReportsJoined }
+{}
+
+/// A leg of a chain is a run of a world of its own, which can be run: that of the chain's plane, the leg's seeds and
+/// attempts, and the atoms that are shown by the grid before the leg once its acts are done. It is a run of what a run of
+/// that world is of, with the same order if it is stepped; so what is known of runs of worlds holds of legs. The call does
+/// nothing: its contract is the law, over grids between legs and behind the first legs of a chain.
+pub fn legs_are_runs()
+    ensures grids { AreLegsRuns }
+    ensures chains { AreNextLegsRuns }
+{}
+
+/// On a plane of one tile a chain has but one list of legs, that of its stepped run: each run of the chain leaves it, and each
+/// attempt is an event. The call does nothing: its contract is the law.
+pub fn lone_legs()
+    ensures { AreLoneLegsStepped }
 {}
 
 /// What `Yes` says of the report of a chain whose legs have whole or short ones: bytes that are read and
