@@ -3,6 +3,7 @@ mod Audited
 pub mod Audits
 pub mod Behind
 mod Chains
+mod Cuts
 mod First
 mod Follows
 mod Laws

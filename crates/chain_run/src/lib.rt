@@ -26,7 +26,7 @@ mod stepping;
 
 pub use auditing::audit_legs;
 pub use judgement::{ChainJudgement, chain_judgement_line};
-pub use law::{cut_and_join, one_course, sound_audits};
+pub use law::{cut_and_join, cut_reports, one_course, sound_audits};
 pub use leg::LegOf;
 pub use putting::LegWriter;
 pub use replaying::replay_legs;
