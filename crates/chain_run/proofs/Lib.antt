@@ -4,6 +4,7 @@ pub mod Audits
 pub mod Behind
 pub mod Betweens
 mod Chains
+mod Cuts
 mod First
 mod Follows
 mod Laws

@@ -3,6 +3,7 @@ pub mod Audits
 pub mod Between
 pub mod Chains
 pub mod Course
+pub mod Cuts
 pub mod Judging
 pub mod Laws
 pub mod LegWorlds

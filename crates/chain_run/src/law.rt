@@ -2,6 +2,7 @@
 ghost use Rattle.std.specs.Prelude.{ℕ, List};
 ghost use Rattle.chain_run.specs.Audits.{AreReportsJoined, IsAuditable, IsReportIfYes, IsYesIfReport};
 ghost use Rattle.chain_run.specs.Chains.{AreChainsCutAndJoined, AreChainsCutWhereShown, ChainsHaveOneCourse};
+ghost use Rattle.chain_run.specs.Cuts.{AreChainsCutShort};
 ghost use Rattle.chain_run.specs.Laws.{AreCutAndJoined, HaveOneCourse};
 ghost use Rattle.chain_run.specs.LegWorlds.{AreLegsRuns, AreNextLegsRuns};
 ghost use Rattle.chain_run.specs.Runs.{AreLoneLegsStepped};
@@ -51,4 +52,12 @@ pub fn lone_legs()
 pub fn sound_audits()
     ensures report { (names : List (List ℕ)) (c : ChainValue) (meaning : WindowValue → ℕ → WindowValue) → IsAuditable names c meaning → IsReportIfYes names c meaning }
     ensures yes { (names : List (List ℕ)) (c : ChainValue) (meaning : WindowValue → ℕ → WindowValue) → IsAuditable names c meaning → IsYesIfReport names c meaning }
+{}
+
+/// If a text of lines is the report of a chain whose legs have whole or short ones, then its first
+/// lines, unless they are all of them, are no report of the chain, and the fault is at the line after
+/// them. This holds of whatever is called a chain: nothing is asked of its plane or its seeds. The call
+/// does nothing: its contract is the law.
+pub fn cut_reports()
+    ensures { AreChainsCutShort }
 {}

@@ -27,7 +27,9 @@ mod stepping;
 
 pub use auditing::audit_legs;
 pub use judgement::{ChainJudgement, chain_judgement_line};
-pub use law::{cut_and_join, legs_are_runs, lone_legs, one_course, sound_audits};
+pub use law::{
+    cut_and_join, cut_reports, legs_are_runs, lone_legs, one_course, sound_audits,
+};
 pub use leg::LegOf;
 pub use putting::LegWriter;
 pub use replaying::replay_legs;

@@ -1,9 +1,11 @@
 pub mod Ahead
 pub mod Bounds
+pub mod Counted
 pub mod Counting
 pub mod Exact
 pub mod Firsts
 pub mod FormRead
+pub mod Fronts
 pub mod GridParts
 pub mod InARow
 pub mod Lists
@@ -24,6 +26,7 @@ pub mod ShortWhole
 pub mod Spellings
 pub mod Stamps
 pub mod Takings
+pub mod Unbroken
 pub mod WideKinds
 pub mod WideLines
 pub mod WideSaid

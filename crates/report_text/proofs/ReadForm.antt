@@ -1,5 +1,5 @@
 -- What is read as some entries is their report.
-use Rattle.std.proofs.Common.{ℕ, zero, suc, ◌≡◌, ◌+◌, ◌^◌, ◌<◌, ◌≤◌, ◌==◌, true, false, List, [], ◌∷◌, ◌++◌, All, append_assoc, append-nil, codes, drop, get_or, length, map, refl, ap, sym, subst, ◌∙◌, arith, Option, Some, None, Result, Ok, Err, eqb-true}
+use Rattle.std.proofs.Common.{ℕ, zero, suc, ◌≡◌, ◌+◌, ◌^◌, ◌<◌, ◌≤◌, ◌==◌, true, List, [], ◌∷◌, ◌++◌, All, append_assoc, append-nil, codes, drop, get_or, length, map, refl, ap, sym, subst, ◌∙◌, arith, Option, Some, None, Result, Ok, Err, eqb-true}
 use Rattle.std.proofs.Math.ListN.{set}
 use Rattle.std.proofs.lemmas.List.{get_or-set_same, length-replicate, length-set, map-append}
 use Rattle.std.proofs.lemmas.List.Elements.{All-cons, All-nil}
@@ -11,11 +11,11 @@ use Rattle.event_journal.specs.declared.abandoned.Abandoned.{Abandoned}
 use Rattle.report_text.proofs.Ahead.{IsAhead, found_event}
 use Rattle.report_text.proofs.Exact.{abandoned_exact, count_exact, ended, ended_exact, fields_joined, header_exact, record_exact, site_fields}
 use Rattle.report_text.proofs.FormRead.{form_read}
-use Rattle.report_text.proofs.ReadSteps.{IsStarted, ahead_of, atoms_said, by_fault, given_up_said, gone_said, header_said, record_said, records_said, site_said, stamp_low}
+use Rattle.report_text.proofs.ReadSteps.{IsStarted, Stepped, ahead_of, atoms_said, by_fault, given_up_said, gone_said, header_said, over_said, record_said, records_said, site_said, stamp_low, stepped}
 use Rattle.report_text.specs.Entries.{Entries, entries}
 use Rattle.report_text.specs.Forms.{count_form, is_atom, is_header}
 use Rattle.report_text.specs.JournalText.{abandoned_fields, abandoned_lines, count_fields, record_fields, record_lines}
-use Rattle.report_text.specs.Reading.{Said, Wants, abandoned, abandoned_count, atom_count, atoms, entries_said, fields_step, first_of, go_on, header, is_at_home, is_attempt, is_behind, is_over, line_step, not_later, nothing, nothing_said, put_record, read_lines, read_report, record_count, record_fault, records, want_abandoned, want_atoms, want_records}
+use Rattle.report_text.specs.Reading.{Said, abandoned, abandoned_count, atom_count, atoms, entries_said, first_of, header, is_at_home, is_attempt, is_behind, not_later, nothing_said, put_record, read_lines, read_report, record_count, record_fault, records, want_abandoned, want_atoms, want_records}
 use Rattle.report_text.specs.ReportForm.{AreReports, Comes, IsInPlace, IsReportOf, IsSmallAbandoned, IsSmallRecord, lines_of}
 use Rattle.report_text.specs.declared.journal_fault.LineFault.{LineFault}
 use Rattle.text_lines.specs.Fields.{fields}
@@ -24,32 +24,6 @@ use Rattle.tile_map.proofs.PlaneLaws.{owner_low}
 use Rattle.tile_map.specs.Plane.{IsMap, MapValue, in_plane, owner_of, site, tiles_of}
 
 module _ (m : MapValue) (plan : PlanValue) (map_is : IsMap m) where
-  -- a line where this is wanted
-  record Stepped (n : ℕ) (d e : Said) (w : Wants) (ts : List (Option (List ℕ))) : Type 0 where
-    text : List ℕ
-    rest : List (Option (List ℕ))
-    next : Said
-    is : ts ≡ Some text ∷ rest
-    step : fields_step m plan.lists n d w (fields text) ≡ Ok next
-    reads : read_lines m plan.lists (n + 1) next rest ≡ Ok e
-
-  stepped : (n : ℕ) (d e : Said) (w : Wants) (ts : List (Option (List ℕ))) → d.wants ≡ w → is_over w ≡ false → read_lines m plan.lists n d ts ≡ Ok e → Stepped n d e w ts
-  unfolding read_lines line_step
-  stepped n d e w [] is more h = let over : is_over d.wants ≡ false = ap is_over is ∙ more in let g = rw over at h in cc
-  stepped n d e w (None ∷ ts) is more h = cc
-  stepped n d e w (Some t ∷ ts) is more h = on (fields_step m plan.lists n d d.wants (fields t)) refl h
-    where
-      on : (r : Result Said LineFault) → fields_step m plan.lists n d d.wants (fields t) ≡ r → go_on n r (λ x. read_lines m plan.lists (n + 1) x ts) ≡ Ok e → Stepped n d e w (Some t ∷ ts)
-      on (Err fault) at g = cc
-      on (Ok x) at g = record { text = t; rest = ts; next = x; is = refl; step = ap (λ v. fields_step m plan.lists n d v (fields t)) (sym is) ∙ at; reads = g }
-
-  -- no line where nothing more is wanted
-  over_said : (n : ℕ) (d e : Said) (ts : List (Option (List ℕ))) → d.wants ≡ nothing → read_lines m plan.lists n d ts ≡ Ok e → (ts ≡ []) × (d ≡ e)
-  unfolding read_lines line_step fields_step
-  over_said n d e [] is h = let over : is_over d.wants ≡ true = ap is_over is in let g = rw over at h in (refl, cc)
-  over_said n d e (None ∷ ts) is h = cc
-  over_said n d e (Some t ∷ ts) is h = let g = rw is at h in cc
-
   -- a text whose fields are these
   spelt : (t : List ℕ) (fs : List (List ℕ)) → fields t ≡ fs → Some t ≡ Some (line_text fs)
   spelt t fs e = λ i. Some ((sym (fields_joined t) ∙ ap line_text e) i)
@@ -75,7 +49,7 @@ module _ (m : MapValue) (plan : PlanValue) (map_is : IsMap m) where
     reads = (λ i. read_lines m plan.lists n (record d { wants = sym is i }) ts) ∙ h;
   }
   sites_said (suc k) n d e ts is h =
-      let s = stepped n d e (atoms k) ts is refl h in
+      let s = stepped m plan.lists n d e (atoms k) ts is refl h in
       let w = site_said m plan.lists n k d s.next (fields s.text) s.step in
       let more = sites_said k (n + 1) (record d { wants = want_atoms k }) e s.rest refl (subst (λ (x : Said). read_lines m plan.lists (n + 1) x s.rest ≡ Ok e) (sym w.1) s.reads) in
       record {
@@ -151,7 +125,7 @@ module _ (m : MapValue) (plan : PlanValue) (map_is : IsMap m) where
     gone = refl;
   }
   events_said (suc k) n d e ts is size started h =
-      let s = stepped n d e (records k) ts is refl h in
+      let s = stepped m plan.lists n d e (records k) ts is refl h in
       let w = record_said m plan.lists n k d s.next (fields s.text) s.step in
       let r = w.0 in
       let form = record_exact (fields s.text) r w.1 in
@@ -191,7 +165,7 @@ module _ (m : MapValue) (plan : PlanValue) (map_is : IsMap m) where
 
   ends_said : (k n : ℕ) (d e : Said) (ts : List (Option (List ℕ))) → d.wants ≡ want_abandoned k → read_lines m plan.lists n d ts ≡ Ok e → EndsSaid n k d e ts
   ends_said zero n d e ts is h =
-      let o = over_said n d e ts is h in
+      let o = over_said m plan.lists n d e ts is h in
       record {
         gs = [];
         count = refl;
@@ -202,7 +176,7 @@ module _ (m : MapValue) (plan : PlanValue) (map_is : IsMap m) where
         gone = ap (λ (x : Said). x.gone) (sym o.1) ∙ sym (append-nil d.gone);
       }
   ends_said (suc k) n d e ts is h =
-      let s = stepped n d e (abandoned k) ts is refl h in
+      let s = stepped m plan.lists n d e (abandoned k) ts is refl h in
       let w = given_up_said m plan.lists n k d s.next (fields s.text) s.step in
       let g = w.0 in
       let form = abandoned_exact (fields s.text) g w.1 in
@@ -241,7 +215,7 @@ module _ (m : MapValue) (plan : PlanValue) (map_is : IsMap m) where
         gone = ends.gone;
       }
 
-  tail_step : (n : ℕ) (d e : Said) (ts : List (Option (List ℕ))) → Stepped n d e abandoned_count ts → TailSaid d e ts
+  tail_step : (n : ℕ) (d e : Said) (ts : List (Option (List ℕ))) → Stepped m plan.lists n d e abandoned_count ts → TailSaid d e ts
   tail_step n d e ts s =
       let w = gone_said m plan.lists n d s.next (fields s.text) s.step in
       let reads = subst (λ (x : Said). read_lines m plan.lists (n + 1) x s.rest ≡ Ok e) (sym w.2) s.reads in
@@ -289,9 +263,9 @@ module _ (m : MapValue) (plan : PlanValue) (map_is : IsMap m) where
 
   journal_events : (n k : ℕ) (d e : Said) (text : List ℕ) (rest : List (Option (List ℕ))) → count_form (codes "journal") (fields text) ≡ Some k → EventsSaid n k (record d { wants = want_records k }) e rest → JournalSaid d e (Some text ∷ rest)
   journal_events n k d e text rest form events =
-      journal_rest n k d e text rest form events (tail_step events.last events.said e events.rest (stepped events.last events.said e abandoned_count events.rest events.wants refl events.reads))
+      journal_rest n k d e text rest form events (tail_step events.last events.said e events.rest (stepped m plan.lists events.last events.said e abandoned_count events.rest events.wants refl events.reads))
 
-  journal_step : (n : ℕ) (d e : Said) (ts : List (Option (List ℕ))) → length d.lasts ≡ tiles_of m → IsStarted d.before → Stepped n d e record_count ts → JournalSaid d e ts
+  journal_step : (n : ℕ) (d e : Said) (ts : List (Option (List ℕ))) → length d.lasts ≡ tiles_of m → IsStarted d.before → Stepped m plan.lists n d e record_count ts → JournalSaid d e ts
   journal_step n d e ts size started s =
       let w = records_said m plan.lists n d s.next (fields s.text) s.step in
       let reads = subst (λ (x : Said). read_lines m plan.lists (n + 1) x s.rest ≡ Ok e) (sym w.2) s.reads in
@@ -320,10 +294,10 @@ module _ (m : MapValue) (plan : PlanValue) (map_is : IsMap m) where
         count = sites.count;
         few = c.1;
         each = sites.each;
-        behind = journal_step sites.last (record d { wants = record_count; sites = k }) e sites.rest size started (stepped sites.last (record d { wants = record_count; sites = k }) e record_count sites.rest refl refl sites.reads);
+        behind = journal_step sites.last (record d { wants = record_count; sites = k }) e sites.rest size started (stepped m plan.lists sites.last (record d { wants = record_count; sites = k }) e record_count sites.rest refl refl sites.reads);
       }
 
-  sites_step : (n : ℕ) (d e : Said) (ts : List (Option (List ℕ))) → length d.lasts ≡ tiles_of m → IsStarted d.before → Stepped n d e atom_count ts → AllSaid d e ts
+  sites_step : (n : ℕ) (d e : Said) (ts : List (Option (List ℕ))) → length d.lasts ≡ tiles_of m → IsStarted d.before → Stepped m plan.lists n d e atom_count ts → AllSaid d e ts
   sites_step n d e ts size started s =
       let w = atoms_said m plan.lists n d s.next (fields s.text) s.step in
       let reads = subst (λ (x : Said). read_lines m plan.lists (n + 1) x s.rest ≡ Ok e) (sym w.2) s.reads in
@@ -358,12 +332,12 @@ module _ (m : MapValue) (plan : PlanValue) (map_is : IsMap m) where
       subst (IsReportOf m plan bytes) (λ i. entries (sym j.sites i) (sym j.journal i) (sym j.gone i)) form
 
   -- all lines, one kind after another
-  form_said : (bytes : List ℕ) (e : Said) → Stepped 1 (nothing_said m) e header (ended_lines bytes) → IsReportOf m plan bytes (entries e.sites e.journal e.gone)
+  form_said : (bytes : List ℕ) (e : Said) → Stepped m plan.lists 1 (nothing_said m) e header (ended_lines bytes) → IsReportOf m plan bytes (entries e.sites e.journal e.gone)
   form_said bytes e s =
       let start = record (nothing_said m) { wants = atom_count } in
       let w = header_said m plan.lists 1 (nothing_said m) s.next (fields s.text) s.step in
       let reads = subst (λ (x : Said). read_lines m plan.lists (1 + 1) x s.rest ≡ Ok e) (sym w.1) s.reads in
-      form_of bytes s.text e s.rest s.is w.0 (sites_step (1 + 1) start e s.rest (length-replicate (tiles_of m) None) (λ p q. cc q) (stepped (1 + 1) start e atom_count s.rest refl refl reads))
+      form_of bytes s.text e s.rest s.is w.0 (sites_step (1 + 1) start e s.rest (length-replicate (tiles_of m) None) (λ p q. cc q) (stepped m plan.lists (1 + 1) start e atom_count s.rest refl refl reads))
 
   read_form : (bytes : List ℕ) (e : Entries) → entries_said (read_report m plan.lists bytes) ≡ Ok e → IsReportOf m plan bytes e
   unfolding read_report
@@ -372,7 +346,7 @@ module _ (m : MapValue) (plan : PlanValue) (map_is : IsMap m) where
       on : (r : Result Said (ℕ × LineFault)) → read_lines m plan.lists 1 (nothing_said m) (ended_lines bytes) ≡ r → entries_said r ≡ Ok e → IsReportOf m plan bytes e
       on (Ok d) is g =
           let same : entries d.sites d.journal d.gone ≡ e = cc in
-          subst (IsReportOf m plan bytes) same (form_said bytes d (stepped 1 (nothing_said m) d header (ended_lines bytes) refl refl is))
+          subst (IsReportOf m plan bytes) same (form_said bytes d (stepped m plan.lists 1 (nothing_said m) d header (ended_lines bytes) refl refl is))
       on (Err fault) is g = cc
 
   -- bytes are read as entries exactly if they are their report

@@ -1,5 +1,5 @@
 -- What the reader of a report takes, step by step.
-use Rattle.std.proofs.Common.{ℕ, ◌≡◌, ◌<◌, ◌≤◌, Bool, true, false, not, List, [], ◌∷◌, ◌++◌, codes, get_or, length, refl, ap, sym, subst, ◌∙◌, arith, Option, Some, None, Result, Ok, Err, inl, inr, leb-true, ltb-true}
+use Rattle.std.proofs.Common.{ℕ, ◌≡◌, ◌+◌, ◌<◌, ◌≤◌, Bool, true, false, not, List, [], ◌∷◌, ◌++◌, codes, get_or, length, refl, ap, sym, subst, ◌∙◌, arith, Option, Some, None, Result, Ok, Err, inl, inr, leb-true, ltb-true}
 use Rattle.std.specs.Prelude.{nat_lt, if◌then◌else◌}
 use Rattle.std.proofs.Math.ListN.{set}
 use Rattle.std.proofs.lemmas.Bool.Decides.{eqb_tells, nat_tests}
@@ -11,9 +11,10 @@ use Rattle.event_journal.specs.Logs.{is_before}
 use Rattle.event_journal.specs.declared.abandoned.Abandoned.{Abandoned}
 use Rattle.report_text.proofs.Ahead.{IsAhead}
 use Rattle.report_text.specs.Forms.{abandoned_form, count_form, is_atom, is_header, record_form}
-use Rattle.report_text.specs.Reading.{Said, Wants, abandoned, abandoned_count, atom_count, atoms, count_line, earlier, fields_step, header, is_behind, not_later, put_abandoned, put_record, put_sites, record_count, record_fault, record_step, records, unless, want_abandoned, want_atoms, want_records}
+use Rattle.report_text.specs.Reading.{Said, Wants, abandoned, abandoned_count, atom_count, atoms, count_line, earlier, fields_step, go_on, header, is_behind, is_over, line_step, not_later, nothing, put_abandoned, put_record, put_sites, read_lines, record_count, record_fault, record_step, records, unless, want_abandoned, want_atoms, want_records}
 use Rattle.report_text.specs.declared.journal_fault.LineFault.{LineFault}
 use Rattle.report_text.specs.declared.journal_fault.LineFault.TheVariants.{BadForm}
+use Rattle.text_lines.specs.Fields.{fields}
 use Rattle.tile_map.specs.Plane.{MapValue}
 
 -- Steps that were made
@@ -92,6 +93,32 @@ ahead_of n before lasts r rs behind later inside is = record {
     first p e = subst (λ (o : Option Record). is_behind o r ≡ true) e behind
 
 module _ (m : MapValue) (lists : List (List Attempt)) where
+  -- a line where this is wanted
+  pub record Stepped (n : ℕ) (d e : Said) (w : Wants) (ts : List (Option (List ℕ))) : Type 0 where
+    pub text : List ℕ
+    pub rest : List (Option (List ℕ))
+    pub next : Said
+    pub is : ts ≡ Some text ∷ rest
+    pub step : fields_step m lists n d w (fields text) ≡ Ok next
+    pub reads : read_lines m lists (n + 1) next rest ≡ Ok e
+
+  pub stepped : (n : ℕ) (d e : Said) (w : Wants) (ts : List (Option (List ℕ))) → d.wants ≡ w → is_over w ≡ false → read_lines m lists n d ts ≡ Ok e → Stepped n d e w ts
+  unfolding read_lines line_step
+  stepped n d e w [] is more h = let over : is_over d.wants ≡ false = ap is_over is ∙ more in let g = rw over at h in cc
+  stepped n d e w (None ∷ ts) is more h = cc
+  stepped n d e w (Some t ∷ ts) is more h = on (fields_step m lists n d d.wants (fields t)) refl h
+    where
+      on : (r : Result Said LineFault) → fields_step m lists n d d.wants (fields t) ≡ r → go_on n r (λ x. read_lines m lists (n + 1) x ts) ≡ Ok e → Stepped n d e w (Some t ∷ ts)
+      on (Err fault) at g = cc
+      on (Ok x) at g = record { text = t; rest = ts; next = x; is = refl; step = ap (λ v. fields_step m lists n d v (fields t)) (sym is) ∙ at; reads = g }
+
+  -- no line where nothing more is wanted
+  pub over_said : (n : ℕ) (d e : Said) (ts : List (Option (List ℕ))) → d.wants ≡ nothing → read_lines m lists n d ts ≡ Ok e → (ts ≡ []) × (d ≡ e)
+  unfolding read_lines line_step fields_step
+  over_said n d e [] is h = let over : is_over d.wants ≡ true = ap is_over is in let g = rw over at h in (refl, cc)
+  over_said n d e (None ∷ ts) is h = cc
+  over_said n d e (Some t ∷ ts) is h = let g = rw is at h in cc
+
   pub header_said : (n : ℕ) (d x : Said) (fs : List (List ℕ)) → fields_step m lists n d header fs ≡ Ok x → (is_header fs ≡ true) × (record d { wants = atom_count } ≡ x)
   unfolding fields_step
   header_said n d x fs h = if_ok (is_header fs) (record d { wants = atom_count }) x h

@@ -43,7 +43,7 @@ split x y a b left right e =
     let first : x ≡ y = cc in
     (first, behind_lf (x ++ 10 ∷ a) x a left refl ∙ sym (behind_lf (x ++ 10 ∷ a) y b right e))
 
-no_end : (xs ys : List ℕ) → [] ≡ xs ++ 10 ∷ ys → ⊥
+pub no_end : (xs ys : List ℕ) → [] ≡ xs ++ 10 ∷ ys → ⊥
 no_end [] ys e = absurd (cc e)
 no_end (x ∷ xs) ys e = absurd (cc e)
 
@@ -109,7 +109,7 @@ module _ (m : MapValue) (plan : PlanValue) (p : IsDrawablePlan m plan) where
       ended x rest lacks is =
           let w = widened m plan.lists (fields x) in
           let behind = widened_text m plan.lists rest in
-          let said = widened_said m plan p x lacks in
+          let said = widened_said m plan.lists x lacks in
           let next = widened_next m plan.lists bytes x rest (ended_at x rest bytes lacks is) in
           let parts = split (line_text w) (line_text l) behind more said.lacks (line_lacks l line) (sym (append_assoc (line_text w) (10 ∷ []) behind) ∙ sym next ∙ e) in
           record { x = x; rest = rest; is = is; stands = said.again l many (ap fields parts.0 ∙ fields_again l line); behind = parts.1 }

@@ -116,9 +116,14 @@ module _ (m : MapValue) (lists : List (List Attempt)) where
       ap (widened m lists) p.line ∙ as_same line a b c d e f ∙ sym p.line
 
   -- printed lines, one by one
-  pub lines_wide : (ls : List (List (List ℕ))) → All IsLine ls → flat_map (widened_line m lists) (ended ls) ≡ text_of (map (widened m lists) ls)
+  lines_wide : (ls : List (List (List ℕ))) → All IsLine ls → flat_map (widened_line m lists) (ended ls) ≡ text_of (map (widened m lists) ls)
   lines_wide [] all = refl
   lines_wide (l ∷ ls) all = λ i. ended_line (widened m lists (fields_again l (All-head IsLine l ls all) i)) ++ lines_wide ls (All-tail IsLine l ls all) i
+
+  -- the text of lines
+  pub text_wide : (ls : List (List (List ℕ))) → All IsLine ls → widened_text m lists (text_of ls) ≡ text_of (map (widened m lists) ls)
+  unfolding widened_text
+  text_wide ls all = ap (flat_map (widened_line m lists)) (ended_again ls all) ∙ lines_wide ls all
 
 pub first_is : (xs : List Attempt) (i : ℕ) → first_of (drop i xs) ≡ slice_get xs i
 first_is [] zero = refl
@@ -177,7 +182,7 @@ each_wide w f g [] all = refl
 each_wide w f g (x ∷ xs) all = λ i. All-head (λ x. w (f x) ≡ g x) x xs all i ∷ each_wide w f g xs (All-tail (λ x. w (f x) ≡ g x) x xs all) i
 
 pub stands_for_whole : (names : List (List ℕ)) (m : MapValue) (plan : PlanValue) → AreFormed names → IsDrawablePlan m plan → StandsForWhole names m plan
-unfolding widened_text form_left
+unfolding form_left
 stands_for_whole names m plan formed p = λ v left.
     let w = widened m plan.lists in
     let form = form_left names m plan formed p v left in
@@ -198,7 +203,7 @@ stands_for_whole names m plan formed p = λ v left.
     (λ i. header_wide m plan.lists i ∷ (map-append w (a ∷ atoms) ((r ∷ events) ++ (g ∷ gone)) ∙ ap (λ z. map w (a ∷ atoms) ++ z) (map-append w (r ∷ events) (g ∷ gone))) i)
     ∙ (λ i. (codes "feast" ∷ codes "1" ∷ []) ∷ ((count_same m plan.lists (codes "atoms") (length shown) refl refl i ∷ one i)
     ++ ((count_same m plan.lists (codes "journal") (length v.records) refl refl i ∷ two i) ++ (count_same m plan.lists (codes "abandoned") (length v.abandoned) refl refl i ∷ three i)))) in
-    ap (flat_map (widened_line m plan.lists)) (ended_again ls all) ∙ lines_wide m plan.lists ls all ∙ ap text_of same
+    text_wide m plan.lists ls all ∙ ap text_of same
   where
     site_lines : (w : List (List ℕ) → List (List ℕ)) (ls : List (List (List ℕ))) → All (λ l. w l ≡ l) ls → map w ls ≡ ls
     site_lines w [] all = refl

@@ -1,16 +1,20 @@
 -- A report that is cut after some lines lacks the next one.
-use Rattle.std.proofs.Common.{ℕ, zero, suc, ◌≡◌, ◌+◌, ◌<◌, arith, false, List, [], ◌∷◌, All, refl, ap, sym, ◌∙◌, Option, Some, None, Result, Ok, Err, length, map, take, if◌then◌else◌}
-use Rattle.std.proofs.lemmas.List.Elements.{All-head, All-tail, All-cons, All-nil}
-use Rattle.std.proofs.lemmas.List.{length-map}
-use Rattle.text_lines.specs.Lines.{line_text}
+use Rattle.std.proofs.Common.{ℕ, zero, suc, ◌≡◌, ◌+◌, ◌<◌, arith, false, List, [], ◌∷◌, refl, ap, sym, ◌∙◌, Option, Some, None, Result, Ok, Err, length, map, take, if◌then◌else◌}
+use Rattle.std.proofs.lemmas.List.Elements.{All-take}
+use Rattle.std.proofs.lemmas.List.{length-map, take-map}
+use Rattle.text_lines.specs.Lines.{line_text, text_of}
 use Rattle.text_lines.specs.Printed.{IsLine}
-use Rattle.text_lines.proofs.Joined.{ended_again}
 use Rattle.draw_stream.specs.declared.attempt.Attempt.{Attempt}
 use Rattle.tile_map.specs.Plane.{MapValue}
+use Rattle.report_text.proofs.Exact.{ended}
+use Rattle.report_text.proofs.InARow.{line_lacks}
+use Rattle.report_text.proofs.ShortWhole.{text_wide}
+use Rattle.report_text.proofs.Unbroken.{AreUnbroken, IsUnbroken, ended_unbroken, wide_unbroken}
 use Rattle.report_text.specs.declared.journal_fault.LineFault.{LineFault}
 use Rattle.report_text.specs.declared.journal_fault.LineFault.TheVariants.{BadForm}
 use Rattle.report_text.specs.Reading.{Said, Wants, fields_step, line_step, read_report, read_lines, nothing_said, is_over, go_on, header, atom_count, atoms, record_count, records, abandoned_count, abandoned, nothing}
-use Rattle.report_text.specs.Cuts.{AreCutShort}
+use Rattle.report_text.specs.Cuts.{AreCutShort, AreShortCutShort}
+use Rattle.report_text.specs.Widened.{widened}
 
 -- where a line is taken, more was wanted
 wanted : (m : MapValue) (lists : List (List Attempt)) (n : ℕ) (d e : Said) (w : Wants) (t : Option (List ℕ)) → d.wants ≡ w → line_step m lists n d t ≡ Ok e → is_over w ≡ false
@@ -41,21 +45,22 @@ lines_cut m lists (t ∷ ts) n (suc k) d e h lt = on (line_step m lists n d t) h
     on (Err fault) g next = cc
     on (Ok f) g next = let at : n + 1 + k ≡ n + suc k = omega arith in next f g ∙ ap (λ j. Err (j, BadForm)) at
 
-take_map : {A B : Type 0} (f : A → B) (k : ℕ) (xs : List A) → take k (map f xs) ≡ map f (take k xs)
-take_map f zero xs = refl
-take_map f (suc k) [] = refl
-take_map f (suc k) (x ∷ xs) = ap (λ z. f x ∷ z) (take_map f k xs)
-
-take_all : {A : Type 0} (P : A → Type 0) (k : ℕ) (xs : List A) → All P xs → All P (take k xs)
-take_all P zero xs p = All-nil P
-take_all P (suc k) [] p = All-nil P
-take_all P (suc k) (x ∷ xs) p = All-cons P x (take k xs) (All-head P x xs p) (take_all P k xs (All-tail P x xs p))
+-- whatever the lines are that a text shows, if it shows each of them as one
+cut_at : (m : MapValue) (lists : List (List Attempt)) (ls : List (List (List ℕ))) (d : Said) (k : ℕ) → AreUnbroken ls → read_report m lists (text_of ls) ≡ Ok d → k < length ls → read_report m lists (text_of (take k ls)) ≡ Err (k + 1, BadForm)
+unfolding read_report
+cut_at m lists ls d k lines reads lt =
+    let whole = sym (ap (read_lines m lists 1 (nothing_said m)) (ended_unbroken ls lines)) ∙ reads in
+    let size = length-map ls (λ l. Some (line_text l)) in
+    let cut = lines_cut m lists (ended ls) 1 k (nothing_said m) d whole (omega (arith, size, lt)) in
+    let at : 1 + k ≡ k + 1 = omega arith in
+    ap (read_lines m lists 1 (nothing_said m)) (ended_unbroken (take k ls) (All-take IsUnbroken k ls lines) ∙ sym (take-map (λ (l : List (List ℕ)). Some (line_text l)) k ls)) ∙ cut ∙ ap (λ j. Err (j, BadForm)) at
 
 pub cut_short : (m : MapValue) (lists : List (List Attempt)) → AreCutShort m lists
-unfolding read_report
-cut_short m lists = λ ls d k lines reads lt.
-    let whole = sym (ap (read_lines m lists 1 (nothing_said m)) (ended_again ls lines)) ∙ reads in
-    let size = length-map ls (λ l. Some (line_text l)) in
-    let cut = lines_cut m lists (map (λ l. Some (line_text l)) ls) 1 k (nothing_said m) d whole (omega (arith, size, lt)) in
-    let at : 1 + k ≡ k + 1 = omega arith in
-    ap (read_lines m lists 1 (nothing_said m)) (ended_again (take k ls) (take_all IsLine k ls lines) ∙ sym (take_map (λ l. Some (line_text l)) k ls)) ∙ cut ∙ ap (λ j. Err (j, BadForm)) at
+cut_short m lists = λ ls d k lines reads lt. cut_at m lists ls d k (λ i e less. line_lacks _ (lines i e less)) reads lt
+
+pub short_cut_short : (m : MapValue) (lists : List (List Attempt)) → AreShortCutShort m lists
+short_cut_short m lists = λ ls d k lines reads lt.
+    let wide = widened m lists in
+    let size = length-map ls wide in
+    let cut = cut_at m lists (map wide ls) d k (wide_unbroken m lists ls lines) (sym (ap (read_report m lists) (text_wide m lists ls lines)) ∙ reads) (omega (arith, size, lt)) in
+    ap (read_report m lists) (text_wide m lists (take k ls) (All-take IsLine k ls lines) ∙ ap text_of (sym (take-map wide k ls))) ∙ cut

@@ -1,7 +1,7 @@
 //! Laws on reports as texts, on what is read as a report, on reports that are read again, and on
 //! reports that are cut short.
 ghost use Rattle.report_text.specs.Again.{AreFormed, AreReadAgain, IsDrawablePlan};
-ghost use Rattle.report_text.specs.Cuts.{AreCutShort};
+ghost use Rattle.report_text.specs.Cuts.{AreCutShort, AreShortCutShort};
 ghost use Rattle.report_text.specs.OneReport.{AreTypeNames, IsOneReport, IsReported};
 ghost use Rattle.report_text.specs.Report.{AreNamed, of_logs};
 ghost use Rattle.report_text.specs.ReportForm.{AreReports};
@@ -54,12 +54,13 @@ pub fn one_report(grid: &Grid, journal: &Journal, names: &[Name])
     is_reported(grid, journal, names);
 }
 
-/// If a text of lines is a report of a map and a plan, then its first lines, unless they are all of
-/// them, are no report, and `read` answers `BadLine` with the line after them. The call does
-/// nothing: its contract is the law.
-#[tactic(auto, using(crate::proofs::Shorter::cut_short))]
+/// If a text of lines is a report of a map and a plan, whole or short, then its first lines, unless
+/// they are all of them, are none, and the fault is at the line after them: `read` answers `BadLine`
+/// with it, for the lines of a whole report or for what `widened` makes of those of a short one. The
+/// call does nothing: its contract is the law.
 pub fn cuts(map: &Map, plan: &AttemptPlan)
-    ensures { AreCutShort map.now plan.now.lists }
+    ensures whole { AreCutShort map.now plan.now.lists }
+    ensures short { AreShortCutShort map.now plan.now.lists }
 {
     // Only the contract speaks of the arguments; they are read so that none is unused.
     let _tiles = map.tiles();
