@@ -11,6 +11,7 @@ mod LegReads
 pub mod Legs
 mod Numbered
 mod Onward
+pub mod Own
 mod Plans
 mod ReadAgain
 mod Readers

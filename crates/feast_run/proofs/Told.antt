@@ -6,6 +6,7 @@ use Rattle.event_journal.specs.Logs.{abandoned_in, records_in}
 use Rattle.report_text.specs.Entries.{Entries}
 use Rattle.feast_run.proofs.Again.{replays_to}
 use Rattle.feast_run.proofs.CodeStages.{codes_are}
+use Rattle.feast_run.proofs.LegsAgain.{only_if, yes_if}
 use Rattle.feast_base.proofs.Stages.{went}
 use Rattle.feast_run.proofs.Runs.{ReadyChainTold, ReadyTold, SettingTold, ready_told, set_is}
 use Rattle.feast_run.proofs.Sound.{AreSound, codes_sound, set_sound}
@@ -166,7 +167,14 @@ audit_by files world report words text (a_chain c) s h =
     let rest = subst (λ (v : ReadyChainValue). audit_legs_of (Some files) report v (Ok text)) s.is h in
     let b = went _ _ text rest in
     let l = went _ _ text b.rest in
-    inr (record { known = legs_known files (report_words world report words) c s b.value l.value b.passed l.passed; audits = l.rest })
+    let known = legs_known files (report_words world report words) c s b.value l.value b.passed l.passed in
+    let sound = set_sound files words s.given known.is_set in
+    inr (record {
+      known = known;
+      audits = l.rest;
+      yes_if = yes_if files world b.value s.chain (source_elements s.given) l.value text sound s.told l.passed l.rest;
+      only_if = only_if files world b.value s.chain (source_elements s.given) l.value text sound s.told l.passed l.rest;
+    })
 
 audit_told : (files : List File) (world report : List ℕ) (words : List (List ℕ)) (text : List ℕ) → form_answer (Some files) (audit world report words) (Ok text) → AuditShown files (report_words world report words) text
 audit_told files world report words text h =

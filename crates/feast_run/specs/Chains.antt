@@ -84,9 +84,13 @@ audit_legs_of files word c = and_then (load files JOURNAL_LIMIT word) (audit_leg
 abbrev pub rewound : ReadyChainValue → List LegSaid → ℕ → GridValue
 rewound c said k = grid_at (making c.chain c.meaning) c.chain.first (first_grid c.chain) said k
 
+-- a text is that of the atoms that the first k events of such reports leave, which have that many
+abbrev pub AreAtomsAmid : ReadyChainValue → List LegSaid → ℕ → List ℕ → Type 0
+AreAtomsAmid c said k text = (k ≤ events_in said) × (text ≡ grid_text c.names (rewound c said k))
+
 -- the text of its atoms, if the reports have that many events
 abbrev pub rewinds_legs : List ℕ → ℕ → ReadyChainValue → List LegSaid → Stage (List ℕ) HaltValue
-rewinds_legs word k c said (Ok text) = (k ≤ events_in said) × (text ≡ grid_text c.names (rewound c said k))
+rewinds_legs word k c said (Ok text) = AreAtomsAmid c said k text
 rewinds_legs word k c said (Err (refuses x)) = (events_in said < k) × (x ≡ records_refused word (events_in said))
 rewinds_legs word k c said (Err (misses w)) = ⊥
 
