@@ -3,7 +3,7 @@ use Rattle.std.proofs.Common.{ℕ, List}
 use Rattle.window_sites.specs.Window.{WindowValue}
 use Rattle.chain_text.specs.Chain.{ChainValue}
 use Rattle.report_text.proofs.ShortOne.{is_the_short_one}
-use Rattle.chain_run.proofs.ReadAgain.{yes_if_found}
+use Rattle.chain_run.proofs.ReadAgain.{yes_of}
 use Rattle.chain_run.proofs.Wholes.{leg_drawable}
 use Rattle.chain_run.proofs.Yes.{found_if_yes}
 use Rattle.chain_run.specs.Audits.{IsAuditable, IsReportIfYes, IsYesIfReport}
@@ -13,4 +13,4 @@ pub report_if_yes : (names : List (List ℕ)) (c : ChainValue) (meaning : Window
 report_if_yes names c meaning can = found_if_yes names c meaning can (λ k. is_the_short_one names c.plane (leg_plan c k) can.formed (leg_drawable names c k can.chain))
 
 pub yes_if_report : (names : List (List ℕ)) (c : ChainValue) (meaning : WindowValue → ℕ → WindowValue) → IsAuditable names c meaning → IsYesIfReport names c meaning
-yes_if_report names c meaning can = yes_if_found names c meaning can
+yes_if_report names c meaning can = yes_of names c meaning can

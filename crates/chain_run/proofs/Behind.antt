@@ -4,11 +4,10 @@ use Rattle.window_sites.specs.Window.{WindowValue}
 use Rattle.cell_grid.specs.Grid.{GridValue}
 use Rattle.chain_text.specs.Chain.{ChainValue}
 use Rattle.event_journal.specs.Serial.{IsSerial}
-use Rattle.world_runs.specs.OneTile.{events_of}
 use Rattle.chain_run.proofs.Laws.{join}
 use Rattle.chain_run.specs.Legs.{AreLegs, Leg, Making, grid_after, leg_course}
 use Rattle.chain_run.specs.Reports.{CountsValue, counts_after, counts_behind, leg_text, legs_text}
-use Rattle.chain_run.specs.Runs.{AreAlone, stepped_leg, stepped_legs_from}
+use Rattle.chain_run.specs.Runs.{stepped_leg, stepped_legs_from}
 
 next : (k : ℕ) (l : Leg) (ls : List Leg) → k + 1 + length ls ≡ k + length (l ∷ ls)
 next k l ls = let more : length (l ∷ ls) ≡ suc (length ls) = refl in omega (arith, more)
@@ -49,9 +48,3 @@ stepped_behind c meaning k g (suc n) =
     let at : k + 1 + n ≡ k + suc n = omega arith in
     ap (λ ls. first ∷ ls) (stepped_behind c meaning (k + 1) first.grid n
     ∙ ap (λ j. stepped_legs_from c meaning (k + 1) first.grid n ++ stepped_leg c meaning j (grid_after first.grid (stepped_legs_from c meaning (k + 1) first.grid n)) ∷ []) at)
-
--- each attempt of one leg more is an event, too
-pub alone_behind : (c : Making) (k : ℕ) (ls : List Leg) (l : Leg) → AreAlone c k ls → (l.records ≡ events_of c.map (c.plan (k + length ls))) × (l.abandoned ≡ []) → AreAlone c k (ls ++ l ∷ [])
-unfolding AreAlone
-alone_behind c k [] l h is = ((is.0 ∙ ap (λ j. events_of c.map (c.plan j)) (sym (none k)), is.1), tt)
-alone_behind c k (x ∷ xs) l h is = (h.0, alone_behind c (k + 1) xs l h.1 (is.0 ∙ ap (λ j. events_of c.map (c.plan j)) (sym (next k x xs)), is.1))

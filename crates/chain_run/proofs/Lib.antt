@@ -17,6 +17,7 @@ pub mod LoneLegs
 mod LoneSteps
 mod Numbered
 mod Onward
+pub mod Own
 mod Plans
 mod ReadAgain
 mod Readers

@@ -20,7 +20,7 @@ use Rattle.report_text.specs.Report.{ReportValue, report, report_of, report_valu
 use Rattle.report_text.specs.ShortLaws.{IsFirstReport, lines_in}
 use Rattle.chain_run.proofs.Wholes.{IsWhole, leg_drawable, whole_first, whole_left}
 use Rattle.chain_run.proofs.Yes.{counts_stay, read_by}
-use Rattle.chain_run.specs.Audits.{AreLegsIn, IsAuditable, IsJudgedYes}
+use Rattle.chain_run.specs.Audits.{AreSaidOf, IsAuditable, IsJudgedYes}
 use Rattle.chain_run.specs.Chains.{AreLegsOf, first_grid, making}
 use Rattle.chain_run.specs.Judging.{IsJudged, JudgesLegs, judged_chain}
 use Rattle.chain_run.specs.Legs.{AreLegs, Leg, leg_course}
@@ -113,7 +113,12 @@ module _ (names : List (List ℕ)) (c : ChainValue) (meaning : WindowValue → �
       let right = judged_yes k before g l whole follow.0 in
       absurd (fault.other (only_yes (named_course (leg_course (making c meaning) k g) names) (whole_text c.journal c.plane (leg_plan c k).lists said.bytes) said.entries fault.judgement right.0 right.1 fault.judged))
 
-  yes_of : (legs : List Leg) → AreLegsOf c meaning legs → IsJudgedYes names c meaning (chain_report c names legs)
+  own_from : (legs : List Leg) (k before : ℕ) → AreSaidOf legs (said_from k before legs)
+  unfolding AreSaidOf
+  own_from [] k before = tt
+  own_from (l ∷ ls) k before = (record { records = refl; abandoned = refl }, own_from ls (k + 1) (before + lines_in (shown_of l)))
+
+  pub yes_of : (legs : List Leg) → AreLegsOf c meaning legs → IsJudgedYes names c meaning legs
   yes_of legs are =
       let whole = whole_first names c can.chain in
       let bytes = chain_report c names legs in
@@ -123,9 +128,7 @@ module _ (names : List (List ℕ)) (c : ChainValue) (meaning : WindowValue → �
             read_by c.journal can.readable c bytes
             ∙ ap (λ n. read_legs c.journal c.plane (leg_plan c) c.first n 0 bytes) (sym are.count)
             ∙ reads_from legs c.first 0 (first_grid c) whole are.follow;
+        own = own_from legs c.first 0;
         judged = judges_from legs c.first 0 (first_grid c) whole are.follow;
         only = only_from legs c.first 0 (first_grid c) whole are.follow;
       }
-
-  pub yes_if_found : (bytes : List ℕ) → AreLegsIn names c meaning bytes → IsJudgedYes names c meaning bytes
-  yes_if_found bytes found = subst (IsJudgedYes names c meaning) (sym found.2) (yes_of found.0 found.1)

@@ -1,5 +1,5 @@
 -- What `yes` says of the report of a chain: it is the report of legs that are the chain's, and only of such.
-use Rattle.std.specs.Prelude.{ℕ, ◌≡◌, ◌≢◌, ◌++◌, ◌%◌, ◌+◌, ◌-◌, ◌≤◌, List, Ok, length}
+use Rattle.std.specs.Prelude.{ℕ, ◌≡◌, ◌≢◌, ◌++◌, ◌%◌, ◌+◌, ◌-◌, ◌≤◌, List, [], ◌∷◌, Ok, length}
 use Rattle.window_sites.specs.Window.{WindowValue}
 use Rattle.cell_grid.specs.Known.{BringsNone}
 use Rattle.chain_text.specs.Chain.{ChainValue, IsChain}
@@ -30,15 +30,28 @@ abbrev pub IsReportIfYes : List (List ℕ) → ChainValue → (WindowValue → �
 IsReportIfYes names c meaning = (bytes : List ℕ) (said : List LegSaid) → read_chain c bytes ≡ Ok said → JudgesChain c meaning names said Yes →
     AreLegsIn names c meaning bytes
 
--- the report of legs of the chain is read, and judged with yes and nothing else
-pub record IsJudgedYes (names : List (List ℕ)) (c : ChainValue) (meaning : WindowValue → ℕ → WindowValue) (bytes : List ℕ) : Type 0 where
+-- what the report of a leg says are the leg's own events and abandoned attempts
+pub record IsSaidOf (l : Leg) (s : LegSaid) : Type 0 where
+  pub records : s.entries.records ≡ l.records
+  pub abandoned : s.entries.abandoned ≡ l.abandoned
+
+-- so it is of the reports of legs, one for each
+unfoldable pub AreSaidOf : List Leg → List LegSaid → Type 0
+AreSaidOf [] [] = Unit {0}
+AreSaidOf [] (s ∷ ss) = ⊥
+AreSaidOf (l ∷ ls) [] = ⊥
+AreSaidOf (l ∷ ls) (s ∷ ss) = IsSaidOf l s × AreSaidOf ls ss
+
+-- the report of these legs of the chain is read, says these legs, and is judged with yes and nothing else
+pub record IsJudgedYes (names : List (List ℕ)) (c : ChainValue) (meaning : WindowValue → ℕ → WindowValue) (legs : List Leg) : Type 0 where
   pub said : List LegSaid
-  pub reads : read_chain c bytes ≡ Ok said
+  pub reads : read_chain c (chain_report c names legs) ≡ Ok said
+  pub own : AreSaidOf legs said
   pub judged : JudgesChain c meaning names said Yes
   pub only : (v : ChainJudgement) → JudgesChain c meaning names said v → v ≡ Yes
 
 abbrev pub IsYesIfReport : List (List ℕ) → ChainValue → (WindowValue → ℕ → WindowValue) → Type 0
-IsYesIfReport names c meaning = (bytes : List ℕ) → AreLegsIn names c meaning bytes → IsJudgedYes names c meaning bytes
+IsYesIfReport names c meaning = (legs : List Leg) → AreLegsOf c meaning legs → IsJudgedYes names c meaning legs
 
 -- where counts are printed, they are printed between the two parts
 abbrev pub IsPrintedBetween : ChainValue → ℕ → Type 0

@@ -55,11 +55,6 @@ stepped_legs_from c meaning k g (suc n) = stepped_leg c meaning k g ∷ stepped_
 abbrev pub stepped_legs : ChainValue → (WindowValue → ℕ → WindowValue) → List Leg
 stepped_legs c meaning = stepped_legs_from c meaning c.first (first_grid c) c.legs
 
--- on a plane of one tile, each attempt of each leg is an event, in its order
-unfoldable pub AreAlone : Making → ℕ → List Leg → Type 0
-AreAlone c k [] = Unit {0}
-AreAlone c k (l ∷ ls) = ((l.records ≡ events_of c.map (c.plan k)) × (l.abandoned ≡ [])) × AreAlone c (k + 1) ls
-
 -- on a plane of one tile the legs of a chain that names give are those of its stepped run
 abbrev pub AreLoneLegsStepped : Type 0
 AreLoneLegsStepped = (names : List (List ℕ)) (c : ChainValue) (meaning : WindowValue → ℕ → WindowValue) → IsChain names c → tiles_of c.plane ≡ 1

@@ -47,8 +47,8 @@ pub fn lone_legs()
 {}
 
 /// What `Yes` says of the report of a chain whose legs have whole or short ones: bytes that are read and
-/// judged so are the report of legs that are the chain's, and the report of any such legs is read and
-/// judged so. The call does nothing: its contract is the law.
+/// judged so are the report of legs that are the chain's, and the report of any such legs is read, says
+/// these legs, and is judged so, and in no other way. The call does nothing: its contract is the law.
 pub fn sound_audits()
     ensures report { (names : List (List ℕ)) (c : ChainValue) (meaning : WindowValue → ℕ → WindowValue) → IsAuditable names c meaning → IsReportIfYes names c meaning }
     ensures yes { (names : List (List ℕ)) (c : ChainValue) (meaning : WindowValue → ℕ → WindowValue) → IsAuditable names c meaning → IsYesIfReport names c meaning }

@@ -7,7 +7,8 @@
 //! [`one_course`] says that everything that happens in a chain, its acts and its events, stands in one
 //! course, and what one uncut grid comes to by it; [`cut_and_join`] says that a chain may be cut between
 //! two legs, and its parts joined again; [`legs_are_runs`] says of which world each leg is a run, and
-//! [`lone_legs`] that on one tile there is one list of legs; [`sound_audits`] says what `yes` is.
+//! [`lone_legs`] that on one tile there is one list of legs; [`sound_audits`] says what `yes` is, and
+//! [`cut_reports`] what is said of a report that is cut.
 #![tactic(auto)]
 
 mod auditing;
@@ -27,9 +28,7 @@ mod stepping;
 
 pub use auditing::audit_legs;
 pub use judgement::{ChainJudgement, chain_judgement_line};
-pub use law::{
-    cut_and_join, cut_reports, legs_are_runs, lone_legs, one_course, sound_audits,
-};
+pub use law::{cut_and_join, cut_reports, legs_are_runs, lone_legs, one_course, sound_audits};
 pub use leg::LegOf;
 pub use putting::LegWriter;
 pub use replaying::replay_legs;

@@ -1,5 +1,5 @@
 //! The report of a leg that is put.
-ghost use Rattle.std.specs.Prelude.{◌≡◌, ◌-◌, ◌+◌, ◌^◌, ◌<◌, IsOk, List, ℕ};
+ghost use Rattle.std.specs.Prelude.{◌≡◌, ◌-◌, ◌+◌, ◌^◌, ◌<◌, ◌≤◌, IsOk, List, ℕ};
 ghost use Rattle.chain_run.specs.Between.{IsLegLeft};
 ghost use Rattle.chain_run.specs.Reports.{AreCountsOf, IsLegOf, counts_behind, counts_behind_by, is_printed, leg_text, leg_text_by, no_counts};
 ghost use Rattle.chain_run.specs.Runs.{leg_of};
@@ -22,12 +22,10 @@ use std::thread::Threads;
 fn is_printed(leg: LegOf<'_>, period: u32) -> bool
     requires chain { (names : List (List ℕ)) × IsChain names (chain_value leg.chain.now) }
     requires leg { IsLegOf (chain_value leg.chain.now) leg.number }
+    requires period { 1 ≤ period }
     ensures { result ≡ is_printed (chain_value leg.entry.chain.now) period leg.entry.number }
 {
-    // A period is at least 1, which is no part of what contracts say of chains. No leg has number 0, so
-    // none would be a multiple of 0.
-    let due = period != 0 && leg.number % period == 0;
-    due || leg.number == leg.chain.first + (leg.chain.legs - 1)
+    leg.number % period == 0 || leg.number == leg.chain.first + (leg.chain.legs - 1)
 }
 
 /// Writes the reports of a chain's legs, one after another, and keeps how many events and abandoned
@@ -99,6 +97,7 @@ impl<'a> LegWriter<'a> {
         requires leg { IsChain self.old.names (chain_value leg.chain.now) × IsLegOf (chain_value leg.chain.now) leg.number }
         requires left { IsLegLeft self.old.names (chain_value leg.chain.now) outcome.now }
         requires counts { AreCountsOf (leg.number - leg.chain.now.first) self.old.counts }
+        requires period { 1 ≤ period }
         requires room { (K.state sink.old).faults < 2 ^ 64 - 1 }
         ensures puts { PutsAll (K.state sink.old) (K.state sink.new) (leg_text_by (Counts period) (chain_value leg.entry.chain.now) self.old.names leg.entry.number self.old.counts (leg_of outcome.now)) result }
         ensures counts { IsOk result → self.new ≡ record { names = self.old.names; counts = counts_behind_by (Counts period) (chain_value leg.entry.chain.now) leg.entry.number self.old.counts (leg_of outcome.now) } }

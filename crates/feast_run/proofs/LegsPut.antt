@@ -2,11 +2,11 @@
 use Rattle.std.proofs.Common.{ℕ, suc, ◌≡◌, ◌+◌, ◌-◌, ◌≤◌, ◌<◌, Bool, true, false, List, [], ◌∷◌, ◌++◌, append_assoc, length, length-append, Result, Ok, Err, refl, sym, ap, subst, ◌∙◌, arith}
 use Rattle.std.specs.Result.{IsErrAnd}
 use Rattle.cell_grid.specs.Grid.{GridValue}
-use Rattle.chain_run.proofs.Behind.{alone_behind, counts_behind_leg, grid_behind_leg, legs_behind, stepped_behind, text_behind}
+use Rattle.chain_run.proofs.Behind.{counts_behind_leg, grid_behind_leg, legs_behind, stepped_behind, text_behind}
 use Rattle.chain_run.specs.Chains.{AreLegsOf, first_grid, making}
 use Rattle.chain_run.specs.Legs.{AreLegs, Leg, grid_after, leg_course}
 use Rattle.chain_run.specs.Reports.{CountsValue, counts_after, counts_behind, leg_text, legs_text, no_counts}
-use Rattle.chain_run.specs.Runs.{AreAlone, leg_of, stepped_leg, stepped_legs_from}
+use Rattle.chain_run.specs.Runs.{leg_of, stepped_leg, stepped_legs_from}
 use Rattle.event_journal.specs.Logs.{abandoned_in, records_in}
 use Rattle.event_journal.specs.Serial.{IsSerial}
 use Rattle.feast_base.specs.Loading.{IsCut, IsPut}
@@ -38,9 +38,9 @@ pub record ArePut (stepped : Bool) (c : ReadyChainValue) (count : ℕ) (grid : G
   pub put : IsPut sink.old sink.new (first_text c legs)
 
 none_made : (stepped : Bool) (c : ReadyChainValue) → AreMade stepped c []
-unfolding stepped_legs_from AreAlone
+unfolding stepped_legs_from
 none_made true c = refl
-none_made false c = λ one. tt
+none_made false c = tt
 
 none_follow : (c : ReadyChainValue) → AreLegs (making c.chain c.meaning) c.chain.first (first_grid c.chain) []
 unfolding AreLegs
@@ -81,7 +81,7 @@ made_more true c legs o h made =
     ∙ ap (λ ls. ls ++ stepped_leg c.chain c.meaning (k + n) (grid_after g ls) ∷ []) h
     ∙ sym (stepped_behind c.chain c.meaning k g n)
     ∙ ap (stepped_legs_from c.chain c.meaning k g) long
-made_more false c legs o h made = λ one. alone_behind (making c.chain c.meaning) c.chain.first legs (leg_of o) (h one) (made.alone one)
+made_more false c legs o h made = tt
 
 -- a leg of this number, made from this grid, is the next one
 next_made : (stepped : Bool) (c : ReadyChainValue) (count : ℕ) (grid : GridValue) (counts : CountsValue) (sink : Change SinkState) (o : Outcome) (p : ArePut stepped c count grid counts sink) → IsLegMade stepped c (c.chain.first + count) grid o →
@@ -133,7 +133,7 @@ all_leave : (stepped : Bool) (c : ReadyChainValue) (grid : GridValue) (counts : 
 all_leave true c grid counts legs many u =
     let all : legs ≡ stepped_legs_from c.chain c.meaning c.chain.first (first_grid c.chain) c.chain.legs = u.made ∙ ap (stepped_legs_from c.chain c.meaning c.chain.first (first_grid c.chain)) many in
     (subst (AreLegsOf c.chain c.meaning) all (record { count = many; follow = u.follow }), ap (first_text c) all)
-all_leave false c grid counts legs many u = record { legs = legs; are = record { count = many; follow = u.follow }; alone = u.made; shown = refl }
+all_leave false c grid counts legs many u = record { legs = legs; are = record { count = many; follow = u.follow }; shown = refl }
 
 pub all_put : (stepped : Bool) (c : ReadyChainValue) (grid : GridValue) (counts : CountsValue) (old new : SinkState) → ArePut stepped c c.chain.legs grid counts (record { old = old; new = new }) →
     (text : List ℕ) × LegsLeave stepped c text × IsPut old new text

@@ -9,6 +9,7 @@ pub mod Jobs
 pub mod Judged
 pub mod Laws
 pub mod LegsAgain
+pub mod LegsLater
 pub mod LegsMade
 pub mod LegsPut
 pub mod LegsSaid

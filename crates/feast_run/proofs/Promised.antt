@@ -8,7 +8,8 @@ use Rattle.feast_run.proofs.Again.{own_report}
 use Rattle.feast_run.proofs.AuditedLater.{audited_later}
 use Rattle.feast_run.proofs.Laws.{one_refusal}
 use Rattle.feast_run.proofs.Rewound.{rewound_later}
-use Rattle.feast_run.proofs.LegsAgain.{chain_again}
+use Rattle.feast_run.proofs.LegsAgain.{own_legs}
+use Rattle.feast_run.proofs.LegsLater.{legs_audited_later, legs_rewound_later}
 use Rattle.feast_run.proofs.Stops.{not_stopped, stopped_by, stopped_kept}
 use Rattle.feast_run.proofs.Sound.{AreSound, codes_sound, set_sound}
 use Rattle.feast_run.proofs.Sure.{form_accepts, form_sure}
@@ -52,7 +53,10 @@ run_again files world words text (inl told) =
     let own = ran_again source_elements (IsSet files words) files world text (set_sound files words) told in
     let audited = audited_later files world words text told.world told.given told.is_told told.told_world own.audited in
     (own, audited, rewound_later files world words text told.world told.given (entries_of told.reports) told.is_told told.told_world own.rewound)
-run_again files world words text (inr told) = chain_again files world words text told.chain told.given told.is_told told.told_chain (told.reports.legs, told.reports.are, told.reports.shown)
+run_again files world words text (inr told) = λ readable within.
+    let own = own_legs files world text told.chain (source_elements told.given) told.reports.legs (set_sound files words told.given told.is_told) told.told_chain told.reports.are told.reports.shown readable within in
+    let audited = legs_audited_later files world words text told.chain told.given told.is_told told.told_chain own.audited in
+    (own, audited, legs_rewound_later files world words text told.chain told.given told.is_told told.told_chain own.said own.rewound)
 
 step_again : (files : List File) (world : List ℕ) (words : List (List ℕ)) (text : List ℕ) (told : StepShown source_elements (IsSet files words) files world text) → IsStepAgain files world words text told
 step_again files world words text (inl told) =
@@ -60,15 +64,19 @@ step_again files world words text (inl told) =
     let journal = stepped_journal (ready_of_set told.world told.given) in
     let audited = audited_later files world words text told.world told.given told.is_told told.told_world own.audited in
     (own, audited, rewound_later files world words text told.world told.given journal told.is_told told.told_world own.rewound)
-step_again files world words text (inr told) = chain_again files world words text told.chain told.given told.is_told told.told_chain (are_stepped (chain_with told.chain (source_elements told.given)), told.run, told.shown)
+step_again files world words text (inr told) = λ readable within.
+    let legs = are_stepped (chain_with told.chain (source_elements told.given)) in
+    let own = own_legs files world text told.chain (source_elements told.given) legs (set_sound files words told.given told.is_told) told.told_chain told.run told.shown readable within in
+    let audited = legs_audited_later files world words text told.chain told.given told.is_told told.told_chain own.audited in
+    (own, audited, legs_rewound_later files world words text told.chain told.given told.is_told told.told_chain own.said own.rewound)
 
 runpack_again : (files : List File) (world file text : List ℕ) (told : RunShown code_elements (IsCodeFile files file) files world text) → IsRunPackAgain files world file text told
 runpack_again files world file text (inl told) = ran_again code_elements (IsCodeFile files file) files world text (codes_sound files file) told
-runpack_again files world file text (inr told) = tt
+runpack_again files world file text (inr told) = own_legs files world text told.chain (code_elements told.given) told.reports.legs (codes_sound files file told.given told.is_told) told.told_chain told.reports.are told.reports.shown
 
 steppack_again : (files : List File) (world file text : List ℕ) (told : StepShown code_elements (IsCodeFile files file) files world text) → IsStepPackAgain files world file text told
 steppack_again files world file text (inl told) = stepped_again code_elements (IsCodeFile files file) files world text (codes_sound files file) told
-steppack_again files world file text (inr told) = tt
+steppack_again files world file text (inr told) = own_legs files world text told.chain (code_elements told.given) (are_stepped (chain_with told.chain (code_elements told.given))) (codes_sound files file told.given told.is_told) told.told_chain told.run told.shown
 
 again_of : (files : List File) (form : FormValue) (text : List ℕ) (told : Shows files form text) → IsReadAgain files form text told
 again_of files (check words) text told = tt

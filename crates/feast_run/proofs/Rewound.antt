@@ -32,7 +32,7 @@ rewinds_to r text j says within = record {
 }
 
 -- a told rewind is one of the setting that passed
-rewind_asked : (files : List File) (world report : List ℕ) (words : List (List ℕ)) (v : SettingValue) (k : ℕ) (atoms : List ℕ) → ready (Some files) world words (Ok v) → RewindShown files (report_words world report words) k atoms → rewinds_setting (Some files) report k v (Ok atoms)
+pub rewind_asked : (files : List File) (world report : List ℕ) (words : List (List ℕ)) (v : SettingValue) (k : ℕ) (atoms : List ℕ) → ready (Some files) world words (Ok v) → RewindShown files (report_words world report words) k atoms → rewinds_setting (Some files) report k v (Ok atoms)
 rewind_asked files world report words v k atoms passed (inl h) =
     let n = h.known in
     asked files world words (rewinds_setting (Some files) report k) v atoms passed (record {

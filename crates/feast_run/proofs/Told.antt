@@ -6,6 +6,7 @@ use Rattle.event_journal.specs.Logs.{abandoned_in, records_in}
 use Rattle.report_text.specs.Entries.{Entries}
 use Rattle.feast_run.proofs.Again.{replays_to}
 use Rattle.feast_run.proofs.CodeStages.{codes_are}
+use Rattle.feast_run.proofs.LegsAgain.{lone_text, only_if, yes_if}
 use Rattle.feast_base.proofs.Stages.{went}
 use Rattle.feast_run.proofs.Runs.{ReadyChainTold, ReadyTold, SettingTold, ready_told, set_is}
 use Rattle.feast_run.proofs.Sound.{AreSound, codes_sound, set_sound}
@@ -58,13 +59,16 @@ ran_told elements S IsTold files world text (a_world r) are s h =
       reports = reports;
       replays = replays_to files world s.world (elements s.given) reports.grid reports.records reports.abandoned text (are.sound s.given is_told) s.told reports.run reports.shown;
     })
-ran_told elements S IsTold files world text (a_chain c) are s h = inr (record {
-  chain = s.chain;
-  given = s.given;
-  is_told = are.told s.given s.passed;
-  told_chain = s.told;
-  reports = subst (λ (v : ReadyChainValue). ReportsLegs v text) s.is h;
-})
+ran_told elements S IsTold files world text (a_chain c) are s h =
+    let reports = subst (λ (v : ReadyChainValue). ReportsLegs v text) s.is h in
+    inr (record {
+      chain = s.chain;
+      given = s.given;
+      is_told = are.told s.given s.passed;
+      told_chain = s.told;
+      reports = reports;
+      lone = lone_text files world text s.chain (elements s.given) reports.legs s.told reports.are reports.shown;
+    })
 
 run_told : {X : Type 0} (elements : X → ElementsValue) (S : Stage X HaltValue) (IsTold : X → Type 0) (files : List File) (world text : List ℕ) → AreTold elements S IsTold → and_then (ready_by elements S (Some files) world) runs_setting (Ok text) → RunShown elements IsTold files world text
 run_told elements S IsTold files world text are h =
@@ -166,7 +170,14 @@ audit_by files world report words text (a_chain c) s h =
     let rest = subst (λ (v : ReadyChainValue). audit_legs_of (Some files) report v (Ok text)) s.is h in
     let b = went _ _ text rest in
     let l = went _ _ text b.rest in
-    inr (record { known = legs_known files (report_words world report words) c s b.value l.value b.passed l.passed; audits = l.rest })
+    let known = legs_known files (report_words world report words) c s b.value l.value b.passed l.passed in
+    let sound = set_sound files words s.given known.is_set in
+    inr (record {
+      known = known;
+      audits = l.rest;
+      yes_if = yes_if files world b.value s.chain (source_elements s.given) l.value text sound s.told l.passed l.rest;
+      only_if = only_if files world b.value s.chain (source_elements s.given) l.value text sound s.told l.passed l.rest;
+    })
 
 audit_told : (files : List File) (world report : List ℕ) (words : List (List ℕ)) (text : List ℕ) → form_answer (Some files) (audit world report words) (Ok text) → AuditShown files (report_words world report words) text
 audit_told files world report words text h =

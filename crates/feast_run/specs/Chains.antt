@@ -7,7 +7,7 @@ use Rattle.chain_run.specs.Legs.{AreLegs, Leg}
 use Rattle.chain_run.specs.Reading.{LegSaid, read_chain}
 use Rattle.chain_run.specs.Replays.{events_in, grid_at, grid_behind}
 use Rattle.chain_run.specs.Reports.{chain_report, legs_text, no_counts}
-use Rattle.chain_run.specs.Runs.{AreAlone, stepped_legs}
+use Rattle.chain_run.specs.Runs.{stepped_legs}
 use Rattle.chain_run.specs.declared.judgement.ChainJudgement.{ChainJudgement}
 use Rattle.feast_base.specs.Outside.{File}
 use Rattle.feast_base.specs.Stages.{Stage, and_then, gives, gives_any, gives_known}
@@ -15,15 +15,12 @@ use Rattle.feast_run.specs.Halting.{HaltValue, decides, misses, refuses}
 use Rattle.feast_run.specs.Stages.{ReadyChainValue, journal_refused, load, records_refused}
 use Rattle.feast_run.specs.declared.loading.TheConstants.{JOURNAL_LIMIT}
 use Rattle.report_text.specs.Report.{grid_text}
-use Rattle.tile_map.specs.Plane.{tiles_of}
 
 -- a text is what some legs of a chain leave: their reports, one after another
 pub record ReportsLegs (c : ReadyChainValue) (text : List ℕ) : Type 0 where
   pub legs : List Leg
   -- the events of each leg stand in one serial order, from the grid that the leg before it left and its own acts changed
   pub are : AreLegsOf c.chain c.meaning legs
-  -- for one tile each attempt is an event, in its order
-  pub alone : tiles_of c.chain.plane ≡ 1 → AreAlone (making c.chain c.meaning) c.chain.first legs
   pub shown : text ≡ chain_report c.chain c.names legs
 
 -- the first legs of a chain, maybe all
@@ -84,9 +81,13 @@ audit_legs_of files word c = and_then (load files JOURNAL_LIMIT word) (audit_leg
 abbrev pub rewound : ReadyChainValue → List LegSaid → ℕ → GridValue
 rewound c said k = grid_at (making c.chain c.meaning) c.chain.first (first_grid c.chain) said k
 
+-- a text is that of the atoms that the first k events of such reports leave, which have that many
+abbrev pub AreAtomsAmid : ReadyChainValue → List LegSaid → ℕ → List ℕ → Type 0
+AreAtomsAmid c said k text = (k ≤ events_in said) × (text ≡ grid_text c.names (rewound c said k))
+
 -- the text of its atoms, if the reports have that many events
 abbrev pub rewinds_legs : List ℕ → ℕ → ReadyChainValue → List LegSaid → Stage (List ℕ) HaltValue
-rewinds_legs word k c said (Ok text) = (k ≤ events_in said) × (text ≡ grid_text c.names (rewound c said k))
+rewinds_legs word k c said (Ok text) = AreAtomsAmid c said k text
 rewinds_legs word k c said (Err (refuses x)) = (events_in said < k) × (x ≡ records_refused word (events_in said))
 rewinds_legs word k c said (Err (misses w)) = ⊥
 

@@ -3,7 +3,7 @@ use Rattle.std.specs.Prelude.{ℕ, ◌≡◌, Bool, true, false, List, Result, O
 use Rattle.cell_grid.specs.Grid.{GridValue}
 use Rattle.chain_run.specs.Chains.{first_grid, making}
 use Rattle.chain_run.specs.Legs.{Leg}
-use Rattle.chain_run.specs.Runs.{AreAlone, IsRunLeg, IsStepLeg, stepped_legs_from}
+use Rattle.chain_run.specs.Runs.{IsRunLeg, IsStepLeg, stepped_legs_from}
 use Rattle.feast_base.specs.Loading.{IsPut}
 use Rattle.feast_base.specs.Outside.{SinkState}
 use Rattle.feast_run.specs.Changes.{Change}
@@ -13,17 +13,16 @@ use Rattle.feast_run.specs.Stages.{ReadyChainValue}
 use Rattle.report_text.specs.declared.write_fault.WriteFault.{WriteFault}
 use Rattle.report_text.specs.declared.write_fault.WriteFault.TheVariants.{Sink, NoMemory}
 use Rattle.serial_order.specs.declared.outcome.Outcome.{Outcome}
-use Rattle.tile_map.specs.Plane.{tiles_of}
 
 -- a leg was run or stepped from a grid
 abbrev pub IsLegMade : Bool → ReadyChainValue → ℕ → GridValue → Outcome → Type 0
 IsLegMade true c k g o = IsStepLeg c.chain c.meaning k g o
 IsLegMade false c k g o = IsRunLeg (making c.chain c.meaning) k g o
 
--- legs are the first stepped ones, or ones of a run
+-- if legs are stepped, they are the first stepped ones
 abbrev pub AreMade : Bool → ReadyChainValue → List Leg → Type 0
 AreMade true c legs = legs ≡ stepped_legs_from c.chain c.meaning c.chain.first (first_grid c.chain) (length legs)
-AreMade false c legs = tiles_of c.chain.plane ≡ 1 → AreAlone (making c.chain c.meaning) c.chain.first legs
+AreMade false c legs = Unit {0}
 
 -- what putting the legs of a chain comes to
 abbrev pub PutsLegs : {T : Type 0} → Bool → ReadyChainValue → Change SinkState → Result T WriteFault → Type 0

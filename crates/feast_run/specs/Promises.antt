@@ -7,15 +7,14 @@ use Rattle.chain_run.specs.Replays.{events_in}
 use Rattle.chain_text.specs.Chain.{ChainValue}
 use Rattle.chain_text.specs.Named.{chain_with_names}
 use Rattle.chain_text.specs.Drafts.{ChainDraft}
-use Rattle.chain_text.specs.declared.chain.Journal.TheVariants.{Counts}
 use Rattle.element_set.specs.Sets.{SetValue}
 use Rattle.feast_base.specs.Held.{ShelfHeld, SinkHeld, mem_shelf_state, mem_sink_state, room_left}
 use Rattle.feast_base.specs.Outside.{File, Grows, ShelfState, SinkState, file_of}
 use Rattle.feast_base.specs.Refusals.{refusal_line, unreadable_line, usage_line}
 use Rattle.report_text.specs.Entries.{Entries}
-use Rattle.feast_run.specs.Again.{IsOwnReport}
+use Rattle.feast_run.specs.Again.{IfReadable, IsOwnLegs, IsOwnReport}
 use Rattle.feast_run.specs.Answer.{AreFirstAtoms, RunsChain, form_answer}
-use Rattle.feast_run.specs.Chains.{AreFirstLegs, first_text, legs_of}
+use Rattle.feast_run.specs.Chains.{AreAtomsAmid, AreFirstLegs, are_stepped, first_text, legs_of}
 use Rattle.feast_run.specs.Changes.{Change, change}
 use Rattle.feast_run.specs.Ending.{ComesTo, Ends, status_of}
 use Rattle.call_form.specs.Forms.{FormValue, check, code, pack, run, step, replay, gen, audit, rewind, steppack, runpack}
@@ -30,8 +29,7 @@ use Rattle.report_judge.specs.Judging.{judgement_text}
 use Rattle.report_judge.specs.declared.judgement.Judgement.TheVariants.{Yes}
 use Rattle.world_text.specs.Drafts.{DraftValue}
 use Rattle.world_text.specs.Named.{WorldValue, world_with_names}
-use Rattle.feast_run.specs.declared.loading.TheConstants.{JOURNAL_LIMIT}
-use Rattle.feast_run.specs.Told.{AuditShown, IsCodeFile, IsSet, ReportWords, RewindShown, RunShown, Shows, StepShown, report_words}
+use Rattle.feast_run.specs.Told.{AuditShown, IsCodeFile, IsSet, ReportWords, RewindShown, RunShown, Shows, StepShown, chain_of_set, report_words}
 
 -- these words have the files that they had
 abbrev pub HaveSame : List File → List File → List (List ℕ) → Type 0
@@ -59,35 +57,36 @@ pub record IsRewoundLater (files : List File) (world : List ℕ) (words : List (
   pub comes : (later : IsLater files world words text) (k : ℕ) (atoms : List ℕ) → IsRight k atoms → form_answer (Some later.others) (rewind world later.report k words) (Ok atoms)
   pub only : (later : IsLater files world words text) (k : ℕ) (atoms : List ℕ) → RewindShown later.others (report_words world later.report words) k atoms → IsRight k atoms
 
--- the report of a chain whose legs have whole or short ones, if it is no longer than a file of it may be, is audited with `yes`
-abbrev pub IsChainAgain : List File → List ℕ → List (List ℕ) → List ℕ → ChainValue → Type 0
-IsChainAgain files world words text c = ((period : ℕ) → c.journal ≢ Counts period) → length text ≤ JOURNAL_LIMIT → IsAuditedLater files world words text
-
 -- what is known of the text of a run of a world or of a chain, by element files
 abbrev pub IsRunAgain : (files : List File) (world : List ℕ) (words : List (List ℕ)) (text : List ℕ) → RunShown source_elements (IsSet files words) files world text → Type 0
 IsRunAgain files world words text (inl told) =
     IsOwnReport (ready_of_set told.world told.given) text (entries_of told.reports) × IsAuditedLater files world words text ×
     IsRewoundLater files world words text (AreFirstAtoms (ready_of_set told.world told.given) (entries_of told.reports))
-IsRunAgain files world words text (inr told) = IsChainAgain files world words text told.chain
+IsRunAgain files world words text (inr told) = IfReadable told.chain text
+    ((own : IsOwnLegs (chain_of_set told.chain told.given) text told.reports.legs) × IsAuditedLater files world words text ×
+    IsRewoundLater files world words text (AreAtomsAmid (chain_of_set told.chain told.given) own.said))
 
 abbrev pub IsStepAgain : (files : List File) (world : List ℕ) (words : List (List ℕ)) (text : List ℕ) → StepShown source_elements (IsSet files words) files world text → Type 0
 IsStepAgain files world words text (inl told) =
     IsOwnReport (ready_of_set told.world told.given) text (stepped_journal (ready_of_set told.world told.given)) × IsAuditedLater files world words text ×
     IsRewoundLater files world words text (AreFirstAtoms (ready_of_set told.world told.given) (stepped_journal (ready_of_set told.world told.given)))
-IsStepAgain files world words text (inr told) = IsChainAgain files world words text told.chain
+IsStepAgain files world words text (inr told) = IfReadable told.chain text
+    ((own : IsOwnLegs (chain_of_set told.chain told.given) text (are_stepped (chain_of_set told.chain told.given))) × IsAuditedLater files world words text ×
+    IsRewoundLater files world words text (AreAtomsAmid (chain_of_set told.chain told.given) own.said))
 
 -- and by a code file, which no audit takes
 abbrev pub IsRunPackAgain : (files : List File) (world file text : List ℕ) → RunShown code_elements (IsCodeFile files file) files world text → Type 0
 IsRunPackAgain files world file text (inl told) = IsOwnReport (ready_of_codes told.world told.given) text (entries_of told.reports)
-IsRunPackAgain files world file text (inr told) = Unit {0}
+IsRunPackAgain files world file text (inr told) = IfReadable told.chain text (IsOwnLegs (chain_with told.chain (code_elements told.given)) text told.reports.legs)
 
 abbrev pub IsStepPackAgain : (files : List File) (world file text : List ℕ) → StepShown code_elements (IsCodeFile files file) files world text → Type 0
 IsStepPackAgain files world file text (inl told) = IsOwnReport (ready_of_codes told.world told.given) text (stepped_journal (ready_of_codes told.world told.given))
-IsStepPackAgain files world file text (inr told) = Unit {0}
+IsStepPackAgain files world file text (inr told) = IfReadable told.chain text (IsOwnLegs (chain_with told.chain (code_elements told.given)) text (are_stepped (chain_with told.chain (code_elements told.given))))
 
 -- the bytes of a run or a stepped run determine its journal: what they say when they are read as a
 -- report of its world are its own events and abandoned attempts. An audit of them comes to `yes`, and
--- a rewind of them to the atoms after the journal's first events
+-- a rewind of them to the atoms after the journal's first events. The same of a chain, leg by leg, if
+-- its report can be read
 abbrev pub IsReadAgain : (files : List File) (form : FormValue) (appended : List ℕ) → Shows files form appended → Type 0
 IsReadAgain files (check words) appended told = Unit {0}
 IsReadAgain files (code words) appended told = Unit {0}

@@ -1,8 +1,11 @@
 -- What is known of the bytes that a form appended, if its files are known.
 use Rattle.std.specs.Prelude.{ℕ, ◌≡◌, ◌≤◌, length, take, List, [], ◌∷◌, codes, false, true, Some, Ok, ◌⊎◌}
+use Rattle.chain_run.specs.Audits.{AreLegsIn}
 use Rattle.chain_run.specs.Chains.{AreLegsOf}
+use Rattle.chain_run.specs.Judging.{chain_judgement_text}
 use Rattle.chain_run.specs.Reading.{LegSaid, read_chain}
 use Rattle.chain_run.specs.Replays.{events_in}
+use Rattle.chain_run.specs.declared.judgement.ChainJudgement.TheVariants.{Yes}
 use Rattle.chain_text.specs.Chain.{ChainValue}
 use Rattle.chain_text.specs.Named.{ReadsChain}
 use Rattle.chain_text.specs.Reading.{is_chain}
@@ -25,6 +28,7 @@ use Rattle.feast_run.specs.Elements.{ElementsValue, code_elements, source_elemen
 use Rattle.feast_run.specs.Stages.{ReadyChainValue, chain_with, ready_of_set, ready_with}
 use Rattle.feast_run.specs.GeneratedElements.{source_files}
 use Rattle.report_text.specs.Report.{grid_text}
+use Rattle.tile_map.specs.Plane.{tiles_of}
 use Rattle.world_text.specs.Named.{ReadsWorld, WorldValue}
 use Rattle.feast_run.specs.declared.loading.TheConstants.{CODE_LIMIT, ELEMENT_LIMIT, JOURNAL_LIMIT, WORLD_LIMIT}
 
@@ -93,6 +97,8 @@ pub record ChainRanTold {X : Type 0} (elements : X → ElementsValue) (IsTold : 
   pub is_told : IsTold given
   pub told_chain : ChainTold files word (elements given).names chain
   pub reports : ReportsLegs (chain_with chain (elements given)) appended
+  -- on a plane of one tile they are those of the stepped legs
+  pub lone : tiles_of chain.plane ≡ 1 → appended ≡ stepped_text (chain_with chain (elements given))
 
 -- a stepped run of a chain: the bytes appended are the reports of its stepped legs, and these are legs of the chain
 pub record ChainSteppedTold {X : Type 0} (elements : X → ElementsValue) (IsTold : X → Type 0) (files : List File) (word appended : List ℕ) : Type 0 where
@@ -171,10 +177,17 @@ pub record ReplayLegsTold (files : List File) (words : ReportWords) (appended : 
   pub known : KnownLegs files words
   pub shown : appended ≡ grid_text (element_names known.set) (replayed (chain_of_set known.chain known.set) known.said)
 
--- an audit of a chain's report: the bytes appended are the line of the judgement on it
+-- these bytes are the report of legs that are the chain's, by what the elements' source means
+abbrev pub AreReportedLegs : ChainValue → SetValue → List ℕ → Type 0
+AreReportedLegs chain set bytes = AreLegsIn (element_names set) chain (source_elements set).meaning bytes
+
+-- an audit of a chain's report: the bytes appended are the line of the judgement on it. It is `yes` where they are the report of legs
+-- that are the chain's, and nowhere else
 pub record AuditLegsTold (files : List File) (words : ReportWords) (appended : List ℕ) : Type 0 where
   pub known : KnownLegs files words
   pub audits : AuditsLegs (chain_of_set known.chain known.set) known.said appended
+  pub yes_if : AreReportedLegs known.chain known.set known.bytes → appended ≡ chain_judgement_text Yes
+  pub only_if : appended ≡ chain_judgement_text Yes → AreReportedLegs known.chain known.set known.bytes
 
 -- a rewind of a chain's report, which has this many events: the bytes appended are the atoms behind the first k
 pub record RewindLegsTold (files : List File) (words : ReportWords) (k : ℕ) (appended : List ℕ) : Type 0 where
