@@ -1,5 +1,8 @@
 //! What texts say.
 ghost use Rattle.std.specs.Prelude.{◌≡◌, ◌<◌, ◌≤◌, ◌^◌, IfOk, length};
+ghost use Rattle.chain_text.specs.Chain.{IsChain};
+ghost use Rattle.chain_text.specs.Printed.{IsNamed};
+ghost use Rattle.chain_text.specs.Values.{chain_value};
 
 use chain_text::{Chain, name, read};
 use feast_base::{Name, NoMemory};
@@ -20,6 +23,8 @@ pub fn names(alloc: Global) -> Result<Vec<Name>, NoMemory>
 pub fn chain(alloc: Global, text: &[u8], names: &[Name]) -> Result<Chain, WorldFault>
     requires names { length names.now ≤ 65535 }
     requires text { length text.now < 2 ^ 63 }
+    ensures named { IfOk result (λ c. IsNamed names.now (chain_value c)) }
+    ensures valid { IfOk result (λ c. IsChain names.now (chain_value c)) }
 {
     let raw = read(alloc, text)?;
     name(alloc, raw, names)
