@@ -7,7 +7,7 @@ import sys
 
 HERE = pathlib.Path(__file__).resolve().parent
 sys.path.insert(0, str(HERE.parent / "tools"))
-from lab.base.limits import STATE_BITS  # noqa: E402
+from feast_lab.lab.base.limits import STATE_BITS  # noqa: E402
 
 EXAMPLES = HERE.parent / "examples"
 SIDE = 64

@@ -17,14 +17,14 @@ sys.dont_write_bytecode = True
 sys.path.insert(0, str(TOP / "tools"))
 
 from checks import Check, flat  # noqa: E402
-from proved.found import BUILT, DIST, KEPT  # noqa: E402
-from proved.record import GATE, LAUNCHER, Record, digest_of  # noqa: E402
-from proved.sources import LINE, SourcesError, digest  # noqa: E402
+from feast_lab.proved.found import BUILT, DIST, KEPT  # noqa: E402
+from feast_lab.proved.record import GATE, LAUNCHER, Record, digest_of  # noqa: E402
+from feast_lab.proved.sources import LINE, SourcesError, digest  # noqa: E402
 from tree import files  # noqa: E402
 
 FAKES = TOP / "tests" / "fakes" / "bin"
-COPIED = ("feast", "lab", "test", "tools/dist", "tools/help.txt", "tools/proved", "tools/lab",
-          "tools/recheck", "tools/first_call", "tests/gate.py")
+COPIED = ("feast", "lab", "test", "tools/dist", "tools/help.txt", "tools/proved", "tools/feast_lab", "tools/first_call",
+          "tools/releasing", "tests/gate.py")
 FILES = {"crates.txt": "feast: low\n", "HANDLES": "x\n", "crates/low/src/lib.rt": "// low\n",
          "crates/low/src/more.rt": "// more\n", "crates/feast/src/main.rt": "// main\n"}
 KIT = "pretended-kit logic 1"
@@ -192,7 +192,7 @@ class Taken(Repository):
 
     def taken(self) -> str:
         """The place of the program that ./feast runs and the lab calls, by what it writes; empty if there is none."""
-        finder = "import sys; sys.path.insert(0, 'top/tools'); from lab.base.program import Program; print(Program.find().path)"
+        finder = "import sys; sys.path.insert(0, 'top/tools'); from feast_lab.lab.base.program import Program; print(Program.find().path)"
         for by_lab_first in (False, True):
             calls = [self.by_lab(finder), self.by_launcher()] if by_lab_first else [self.by_launcher(), self.by_lab(finder)]
             self.assertEqual(calls[0], calls[1])

@@ -50,12 +50,12 @@ from typing import Iterator, Optional, Sequence
 HERE = Path(__file__).resolve().parent
 TOP = HERE.parent
 sys.dont_write_bytecode = True
-# (a file and a package of tools are called `lab` and `first_call` here too: tools goes first, and parts have other names)
+# (a package of tools is called `first_call` as a file is here: tools goes first, and parts have other names)
 sys.path[0:0] = [str(TOP / "tools"), str(HERE)]
 
 from checks import Check, Choice, Outcome, reasons, tried  # noqa: E402
-from lab.base.errors import LabError  # noqa: E402
-from lab.base.program import Program  # noqa: E402
+from feast_lab.lab.base.errors import LabError  # noqa: E402
+from feast_lab.lab.base.program import Program  # noqa: E402
 
 
 @dataclass(frozen=True)

@@ -1,7 +1,7 @@
 #!/usr/bin/env python3
 """Tries `./feast` where the program has to be proved first, with a toolchain that only pretends: first_call.py [NAME..].
 
-The repository is made in a temporary folder, with a copy of `feast`, tools/first_call and tools/proved, and five crates.
+The repository is made in a temporary folder, with a copy of `feast` and of what it calls in tools, and five crates.
 The toolchain is tests/fakes: it takes tenths of a second for a crate, and notes its calls.
 """
 from __future__ import annotations
@@ -22,9 +22,9 @@ TOP = pathlib.Path(__file__).resolve().parent.parent
 sys.dont_write_bytecode = True
 
 from checks import flat  # noqa: E402
+from feast_lab.proved.record import GATE, LAUNCHER, Record, digest_of  # noqa: E402
+from feast_lab.proved.sources import digest  # noqa: E402
 from first_call_parts import Crates, Ends  # noqa: E402
-from proved.record import GATE, LAUNCHER, Record, digest_of  # noqa: E402
-from proved.sources import digest  # noqa: E402
 
 # (calls here are to build their own program)
 os.environ.pop("FEAST_PROGRAM", None)
@@ -69,8 +69,9 @@ class FirstCall(unittest.TestCase):
         self.top = self.folder / "repository"
         self.top.mkdir()
         shutil.copy(TOP / "feast", self.top)
-        for name in ("first_call", "proved"):
-            shutil.copytree(TOP / "tools" / name, self.top / "tools" / name)
+        for name in ("first_call", "feast_lab"):
+            shutil.copytree(TOP / "tools" / name, self.top / "tools" / name, ignore=shutil.ignore_patterns("__pycache__"))
+        shutil.copy(TOP / "tools" / "proved", self.top / "tools")
         # The pretended toolchain is quicker than the true one, so it is looked at more often; and memory is enough.
         self.change("call.py", "TICK = 0.5", "TICK = 0.1")
         self.change("machine.py", "int(free[1]) // EACH if free else 0", "8")

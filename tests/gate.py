@@ -13,10 +13,10 @@ TOP = Path(__file__).resolve().parent.parent
 sys.dont_write_bytecode = True
 sys.path.insert(0, str(TOP / "tools"))
 
-from proved.dist import main as dist  # noqa: E402
-from proved.found import BUILT  # noqa: E402
-from proved.record import GATE, Record, digest_of, kit  # noqa: E402
-from proved.sources import SourcesError, digest  # noqa: E402
+from feast_lab.proved.found import BUILT  # noqa: E402
+from feast_lab.proved.record import GATE, Record, digest_of, kit  # noqa: E402
+from feast_lab.proved.sources import SourcesError, digest  # noqa: E402
+from releasing.dist import main as dist  # noqa: E402
 
 
 def main(top: Path = TOP) -> int:

@@ -1,11 +1,12 @@
 #!/usr/bin/env python3
-"""Lists where the modules of the lab disagree with its layers: layers.py
+"""Lists where the modules of the package feast_lab disagree with its layers: layers.py
 
-tools/lab/layers.txt has a line for each package of tools/lab, lowest first, with the packages that its modules use, all of
-which stand above it in the file. So no two packages use each other; the modules within a package don't either. Within the lab
-each import is relative. Only the package `command` reads words (argparse), only `ulam` imports the second reader (recheck), and no two
-classes of the lab have one name.
-pyproject.toml has all packages.
+tools/feast_lab/layers.txt has a line for each package in it, lowest first, with the packages that its modules use, all of
+which stand above it in the file. So no two packages use each other; the modules within a package don't either. (What is
+imported for types alone isn't used.) Each import of something in the package is relative, and no module changes where
+modules are looked for. But for the modules that are for Python, the last line, all stand on the standard library alone.
+
+Of the packages of the lab, only `command` reads words (argparse), and no two classes of theirs have one name.
 """
 from __future__ import annotations
 
@@ -13,7 +14,6 @@ import argparse
 import ast
 import re
 import sys
-import tomllib
 from collections import defaultdict
 from dataclasses import dataclass
 from pathlib import Path
@@ -21,54 +21,84 @@ from typing import Iterator
 
 sys.dont_write_bytecode = True
 TOP = Path(__file__).resolve().parent.parent
-LAB = TOP / "tools" / "lab"
-LAYERS = "tools/lab/layers.txt"
-WORDS = "command"  # the one package that reads words
-READERS = "ulam"  # the one package that imports the second reader
+OUTER = TOP / "tools" / "feast_lab"
+LAYERS = "tools/feast_lab/layers.txt"
+LAB = "lab"  # the folder of the packages of the lab
+OWN = "feast_lab"  # what the line of the modules is called that lie in no package of the package
+COMMAND = (OWN, "command")  # the one of them that has to start without NumPy
+WORDS = "command"  # the one package of the lab that reads words
+GAMES = {"sys.path", "sys.modules"}
+Key = tuple[str, str]  # a package and a module
 
 
 @dataclass(frozen=True)
 class Module:
-    """A module of the lab: its package, its name, what it imports, and the classes that it has.
+    """A module: its file, its package, what it uses of the others, as packages and modules, what else it imports, the
+    classes that it has, and what it names of `GAMES`. An import of a whole package has no module."""
 
-    `uses` are the packages and modules of the lab, as (package, module), where an import of a package has no module.
-    """
-
+    path: Path
     package: str
-    name: str
-    uses: frozenset[tuple[str, str]]
+    uses: frozenset[Key]
     others: frozenset[str]
     classes: tuple[str, ...]
+    games: frozenset[str]
 
     def __str__(self) -> str:
-        return f"tools/lab/{self.package}/{self.name}.py"
+        return str(self.path.relative_to(TOP))
+
+    @property
+    def key(self) -> Key:
+        """Its package and its name."""
+        return self.package, self.path.stem
+
+    @property
+    def is_of_lab(self) -> bool:
+        """Whether it is one of the lab."""
+        return self.path.parent.parent.name == LAB
 
 
-def module_of(path: Path, packages: set[str]) -> Module:
+def module_of(path: Path) -> Module:
     """A module, read from its file."""
-    package, nodes = path.parent.name, list(ast.walk(ast.parse(path.read_text())))
-    uses, others = set[tuple[str, str]](), set[str]()
+    inside = path.relative_to(OUTER).with_suffix("").parts
+    uses, others = set[Key](), set[str]()
+    nodes = list(imports_and_more(ast.parse(path.read_text())))
     for node in nodes:
         if isinstance(node, ast.Import):
             others |= {alias.name.partition(".")[0] for alias in node.names}
         elif isinstance(node, ast.ImportFrom) and node.level == 0:
             others.add((node.module or "").partition(".")[0])
         elif isinstance(node, ast.ImportFrom):
-            uses |= set(used(node, package, packages))
+            front = [*inside[:-node.level], *filter(None, (node.module or "").split("."))]
+            uses |= {key_of([*front, alias.name]) for alias in node.names}
     classes = tuple(node.name for node in nodes if isinstance(node, ast.ClassDef))
-    return Module(package, path.stem, frozenset(uses), frozenset(others), classes)
+    games = frozenset(name for node in nodes if isinstance(node, ast.Attribute) and (name := ast.unparse(node)) in GAMES)
+    return Module(path, key_of([*inside, ""])[0], frozenset(uses), frozenset(others), classes, games)
 
 
-def used(node: ast.ImportFrom, package: str, packages: set[str]) -> Iterator[tuple[str, str]]:
-    """What a relative import of a module in a package names."""
-    front, *rest = [package, *(node.module or "").split(".")] if node.level == 1 else (node.module or "").split(".")
-    name = next(filter(None, rest), "")
-    if name:
-        yield front, name
-    elif front:
-        yield from ((front, alias.name) for alias in node.names)
-    else:
-        yield from ((alias.name, "") for alias in node.names if alias.name in packages)
+def imports_and_more(node: ast.AST) -> Iterator[ast.AST]:
+    """The nodes of a tree, without what is there for types alone."""
+    yield node
+    for child in ast.iter_child_nodes(node):
+        if isinstance(child, ast.If) and ast.unparse(child.test) == "TYPE_CHECKING":
+            continue
+        yield from imports_and_more(child)
+
+
+def key_of(names: list[str]) -> Key:
+    """The package and the module of a name that is written out from the package on, or of something in a module."""
+    folder = OUTER
+    for part in names:
+        if (folder / f"{part}.py").is_file():
+            return folder_name(folder), part
+        if not part or not (folder / part / "__init__.py").is_file():
+            break
+        folder = folder / part
+    return folder_name(folder), ""
+
+
+def folder_name(folder: Path) -> str:
+    """The name of a package in the table."""
+    return OWN if folder == OUTER else folder.name
 
 
 def layers() -> dict[str, list[str]]:
@@ -89,29 +119,37 @@ def table_faults(table: dict[str, list[str]], modules: list[Module]) -> Iterator
                     if it not in order[:order.index(package)])
 
 
-def module_faults(modules: list[Module], packages: set[str]) -> Iterator[str]:
-    """Modules that import the lab by its name, read words, or import the second reader, and classes with one name."""
+def module_faults(modules: list[Module]) -> Iterator[str]:
+    """Modules that name the package, change where modules are looked for, or read words, and classes with one name."""
     homes = defaultdict(list)
     for it in modules:
-        if "lab" in it.others:
-            yield f"{it}: it imports the lab by its name; within the lab imports are relative"
-        if "argparse" in it.others and it.package != WORDS:
+        if OWN in it.others:
+            yield f"{it}: it imports the package by its name; within it imports are relative"
+        yield from (f"{it}: it names {name}" for name in sorted(it.games))
+        if it.is_of_lab and "argparse" in it.others and it.package != WORDS:
             yield f"{it}: it imports argparse, which is for {WORDS} alone"
-        if "recheck" in it.others and it.package != READERS:
-            yield f"{it}: it imports recheck, which is for {READERS} alone"
-        for name in it.classes:
+        for name in it.classes if it.is_of_lab else ():
             homes[name].append(str(it))
     yield from (f"the class {name} is in {' and in '.join(found)}" for name, found in homes.items() if len(found) > 1)
-    yield from (f"tools/lab/{path.name}: it belongs in a package" for path in sorted(LAB.glob("*.py")) if path.stem != "__init__")
-    wanted = {f"feast_lab.parts_of_the_lab.lab.{package}" for package in packages}
-    listed = tomllib.loads((TOP / "pyproject.toml").read_text())["tool"]["setuptools"]["packages"]
-    mine = {it for it in listed if it.startswith("feast_lab.parts_of_the_lab.lab.")}
-    yield from (f"pyproject.toml: {it} is {'not among the packages' if it in wanted else 'no package'}" for it in sorted(wanted ^ mine))
+    yield from (f"{path.relative_to(TOP)}: it belongs in a package" for path in sorted((OUTER / LAB).glob("*.py")) if path.stem != "__init__")
+
+
+def library_faults(modules: list[Module]) -> Iterator[str]:
+    """Modules of the command line that import something that is not of the standard library."""
+    found = {it.key: it for it in modules}
+    ahead = {it.key for it in modules if it.package != OWN} | {COMMAND}
+    done = set[Key]()
+    while ahead:
+        done |= ahead
+        ahead = {use for key in ahead for use in found[key].uses if use in found} - done
+    for key in sorted(done):
+        yield from (f"{found[key]}: it imports {it}, and the command line needs nothing beside the standard library"
+                    for it in sorted(found[key].others - sys.stdlib_module_names))
 
 
 def rings(modules: list[Module]) -> Iterator[str]:
     """Modules that use each other, by whatever way."""
-    left = {(it.package, it.name): it.uses for it in modules}
+    left = {it.key: it.uses for it in modules}
     while free := [key for key, uses in left.items() if uses.isdisjoint(left) or all(key not in it for it in left.values())]:
         for key in free:
             left.pop(key, None)
@@ -121,12 +159,11 @@ def rings(modules: list[Module]) -> Iterator[str]:
 
 def main() -> int:
     """The command."""
-    argparse.ArgumentParser(description="Holds the lab's modules against its layers.").parse_args()
-    paths = sorted(path for path in LAB.glob("*/*.py") if path.stem != "__init__")
-    packages = {path.parent.name for path in paths}
-    modules = [module_of(path, packages) for path in paths]
-    found = [*table_faults(layers(), modules), *module_faults(modules, packages), *rings(modules)]
-    print("\n".join(found + [f"{len(packages)} packages, {len(modules)} modules, {len(found)} faults in the layers of the lab"]))
+    argparse.ArgumentParser(description="Holds the modules of feast_lab against its layers.").parse_args()
+    modules = [module_of(path) for path in sorted(OUTER.rglob("*.py")) if not path.stem.startswith("__")]
+    table = layers()
+    found = [*table_faults(table, modules), *module_faults(modules), *library_faults(modules), *rings(modules)]
+    print("\n".join(found + [f"{len(table)} packages, {len(modules)} modules, {len(found)} faults in the layers of feast_lab"]))
     return 1 if found or not modules else 0
 
 

@@ -8,8 +8,8 @@ its name or a file limits.rt shows to be a limit has a row. A refusal in a row i
 In crates/*/src and crates/*/specs, comments and texts apart, the numbers of NUMBERS stand at the constants of the limits
 that they are, and elsewhere as often as EXCEPTIONS says, no more and no less. `--list` shows where.
 
-tools/lab/base/limits.py has limits by the names and with the numbers of the table, each once, and none that no other file
-uses. tools/recheck/limits.py, which is written apart, has some of the names with the same numbers. No other Python file gives
+tools/feast_lab/lab/base/limits.py has limits by the names and with the numbers of the table, each once, and none that no other file
+uses. tools/feast_lab/recheck/limits.py, which is written apart, has some of the names with the same numbers. No other Python file gives
 one of these names a value, but for those of APART.
 """
 from __future__ import annotations
@@ -68,13 +68,14 @@ NO_LIMITS = {
     "LONGEST_SITE": "the length of a part of a line, which follows from its numbers",
 }
 LITERAL = re.compile(r"(?<![\w'])(0x[0-9a-fA-F_]+|0o[0-7_]+|0b[01_]+|[0-9][0-9_]*)(?:[iu](?:8|16|32|64|128|size))?(?![\w'])")
-IMPORT = re.compile(r"^from (?:lab\.base|\.\.base|)\.limits import (\([^)]*\)|[^\n]*)", re.MULTILINE)
-MODULE = TOP / "tools/lab/base/limits.py"
-SECOND = TOP / "tools/recheck/limits.py"
+IMPORT = re.compile(r"^from (?:feast_lab\.lab\.base|\.\.base|\.lab\.base|)\.limits import (\([^)]*\)|[^\n]*)", re.MULTILINE)
+MODULE = TOP / "tools/feast_lab/lab/base/limits.py"
+SECOND = TOP / "tools/feast_lab/recheck/limits.py"
 # The folders that have Python, beside the scripts at the top.
 PYTHON = ("tools", "tests", "bench", "editors")
 # The Python that is written apart from the rest, and so has limits of its own.
-APART = {"tools/recheck/limits.py", "tests/models/plane.py", "tests/models/chain_text.py", "tests/hostile/reading.py", "tests/hostile/base_model.py"}
+APART = {"tools/feast_lab/recheck/limits.py", "tests/models/plane.py", "tests/models/chain_text.py", "tests/hostile/reading.py",
+         "tests/hostile/base_model.py"}
 
 
 @dataclass(frozen=True)
@@ -251,18 +252,18 @@ def python_faults(limits: list[Limit]) -> Iterator[str]:
     used = {word for text in texts.values() for names in IMPORT.findall(text) for word in re.findall(r"\w+", names)}
     for name, value in mine:
         if numbers.get(name) != value:
-            yield f"tools/lab/base/limits.py: `{name}` is {value}, and in docs/formats.md {numbers.get(name)}"
+            yield f"tools/feast_lab/lab/base/limits.py: `{name}` is {value}, and in docs/formats.md {numbers.get(name)}"
         if [it for it, _ in mine].count(name) > 1:
-            yield f"tools/lab/base/limits.py: `{name}` stands there several times"
+            yield f"tools/feast_lab/lab/base/limits.py: `{name}` stands there several times"
         if name not in used:
-            yield f"tools/lab/base/limits.py: `{name}` is used nowhere"
+            yield f"tools/feast_lab/lab/base/limits.py: `{name}` is used nowhere"
     for name, value in module(SECOND):
         if numbers.get(name) != value:
-            yield f"tools/recheck/limits.py: `{name}` is {value}, and in docs/formats.md {numbers.get(name)}"
+            yield f"tools/feast_lab/recheck/limits.py: `{name}` is {value}, and in docs/formats.md {numbers.get(name)}"
     own = {path: sorted(given(text) & set(numbers)) for path, text in texts.items()}
     for path, names in own.items():
         if names and path not in APART:
-            yield f"{path}: {', '.join(names)}: tools/lab/base/limits.py has the limits"
+            yield f"{path}: {', '.join(names)}: tools/feast_lab/lab/base/limits.py has the limits"
     yield from (f"{path}: it has no limit of its own" for path in sorted(APART) if not own.get(path))
 
 

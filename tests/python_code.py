@@ -39,7 +39,8 @@ TYPED: dict[str, list[str]] = {
 # What mypy keeps from one folder for the next: what it knows of the standard library.
 KEPT = tempfile.TemporaryDirectory(prefix="mypy-")
 # Files with Python that have no suffix.
-SCRIPTS = ["lab", "tools/dist", "tools/release", "bench/gate", "bench/proofs", "bench/run", "bench/even", "bench/chain"]
+SCRIPTS = ["lab", "tools/dist", "tools/proved", "tools/recheck", "tools/release", "bench/gate", "bench/proofs", "bench/run", "bench/even",
+           "bench/chain"]
 
 
 def program(name: str) -> str:

@@ -20,9 +20,9 @@ sys.dont_write_bytecode = True
 sys.path.insert(0, str(TOP / "tools"))
 
 from checks import flat  # noqa: E402
-from proved.found import BUILT  # noqa: E402
-from proved.record import LAUNCHER, Record, digest_of  # noqa: E402
-from proved.sources import digest  # noqa: E402
+from feast_lab.proved.found import BUILT  # noqa: E402
+from feast_lab.proved.record import LAUNCHER, Record, digest_of  # noqa: E402
+from feast_lab.proved.sources import digest  # noqa: E402
 from releasing.folder import PATHS  # noqa: E402
 
 # What a commit has at least for a release, beside the tool and the launcher.
@@ -30,7 +30,7 @@ FILES = {
     "README.md": "# feast\n", "CHANGELOG.md": "# Changes\n\n## 0.4.0 (2026-11-30)\n\n- More.\n",
     "CITATION.cff": "cff-version: 1.2.0\nversion: 0.4.0\n", "CONTRIBUTING.md": "x\n", "LICENSE-APACHE": "x\n",
     "LICENSE-MIT": "x\n", "SECURITY.md": "x\n", "VERSION": "0.4.0\n", "docs/page.md": "x\n", "editors/README.md": "x\n",
-    "examples/walker.ulam": "element W { }\n", "lab": "#!/bin/sh\n", "tools/first_call/x.py": "", "tools/lab/x.py": "",
+    "examples/walker.ulam": "element W { }\n", "lab": "#!/bin/sh\n", "tools/first_call/x.py": "", "tools/recheck": "",
     "pyproject.toml": "", "setup.py": "",
     "crates.txt": "feast:\n", "crates/feast/src/main.rt": "x\n", "HANDLES": "x\n",
     ".gitignore": "out/\n__pycache__/\n",
@@ -94,7 +94,7 @@ class Pretended(Repository):
         super().setUp()
         for name, text in FILES.items():
             self.file(self.top / name, text)
-        self.copy("feast", "tools/release", "tools/releasing", "tools/proved", "tests/passed.py")
+        self.copy("feast", "tools/release", "tools/releasing", "tools/feast_lab", "tools/proved", "tests/passed.py")
         self.program = self.file(self.top / "dist/feast", PROGRAM)
         self.program.chmod(0o755)
         self.git("init", "-q")
@@ -129,8 +129,7 @@ class Pretended(Repository):
         sum_of = hashlib.sha256(PROGRAM.encode()).hexdigest()
         self.assertEqual(told, f"commit {self.head}\nproved with the-kit logic 1\nSHA-256 of bin/feast {sum_of}\n")
         self.assertFalse((self.made / "crates.txt").exists() or (self.made / "crates").exists())
-        self.assertEqual(sorted(path.name for path in (self.made / "tools").iterdir()), ["lab", "proved"])
-        self.assertFalse((self.made / "tools/proved/dist.py").exists())
+        self.assertEqual(sorted(path.name for path in (self.made / "tools").iterdir()), ["feast_lab", "recheck"])
         self.assertEqual((self.made / "licences/itoa/LICENSE-MIT").read_text(), "of itoa\n")
 
     def test_archive(self) -> None:
@@ -338,7 +337,7 @@ class Real(Repository):
         self.assertEqual(told[1:], self.used("./feast", "--version").splitlines()[1:])
         self.assertEqual(told[2], "kit kit")
         tools = sorted(path.name for path in (self.made / "tools").iterdir())
-        self.assertEqual(tools, ["feast_lab", "help.txt", "lab", "proved", "recheck", "work"])
+        self.assertEqual(tools, ["feast_lab", "help.txt", "recheck", "work"])
         self.used("./lab", "film", walk[0], "report", "-o", "walk.html", walk[1])
         self.assertIn("<html", (self.room / "work" / "walk.html").read_text())
 

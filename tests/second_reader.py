@@ -28,10 +28,10 @@ sys.dont_write_bytecode = True
 sys.path[0:0] = [str(HERE.parent / "tools"), str(HERE / "tables")]
 
 from checks import Check  # noqa: E402
+from feast_lab.recheck.elements import elements_of, read_elements  # noqa: E402
+from feast_lab.recheck.length import length_of  # noqa: E402
+from feast_lab.recheck.main import answer  # noqa: E402
 from program import File, bytes_of, call, written  # noqa: E402
-from recheck.elements import elements_of, read_elements  # noqa: E402
-from recheck.length import length_of  # noqa: E402
-from recheck.main import answer  # noqa: E402
 from rows import Row, shown  # noqa: E402
 from run import CASES, copy_examples, make_spaces, words_of  # noqa: E402
 

@@ -17,8 +17,8 @@ sys.path[0:0] = [str(TOP / "tools"), str(TOP / "tests" / "lab")]
 
 from again import Tally, example_runs  # noqa: E402
 
-from lab.base.program import Program  # noqa: E402
-from lab.machine.windows import Disagreement  # noqa: E402
+from feast_lab.lab.base.program import Program  # noqa: E402
+from feast_lab.lab.machine.windows import Disagreement  # noqa: E402
 
 
 def main() -> int:

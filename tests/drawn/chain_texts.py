@@ -4,8 +4,8 @@ from __future__ import annotations
 from typing import Sequence
 
 from chance import Chance
+from feast_lab.recheck.limits import LAST_LEG, STATE_BITS
 from planes import World, put_atoms, sizes
-from recheck.limits import LAST_LEG, STATE_BITS
 
 # So many attempts has a leg at most.
 MOST_MADE = 60

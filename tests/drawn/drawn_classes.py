@@ -6,8 +6,8 @@ from typing import Optional
 
 from bodies import Bodies
 from chance import Chance
+from feast_lab.recheck.limits import STATE_BITS
 from formulas import Scope
-from recheck.limits import STATE_BITS
 from shapes import QUARK_BITS, Constant, Function, Member, Number, Shape
 
 BUILT_IN = "Int Unsigned Bits Bool Unary".split()

@@ -4,7 +4,7 @@ from __future__ import annotations
 from typing import Callable
 
 from chance import Chance
-from recheck.limits import (
+from feast_lab.recheck.limits import (
     LONGEST_NAME, MOST_CALLS, MOST_CLASSES, MOST_DEPTH, MOST_LOCALS, MOST_MEMBERS, MOST_PARAMS, MOST_TURNS, STATE_BITS,
 )
 from shapes import QUARK_BITS

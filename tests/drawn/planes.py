@@ -5,7 +5,7 @@ from dataclasses import dataclass, field
 from typing import Sequence
 
 from chance import Chance
-from recheck.limits import STATE_BITS
+from feast_lab.recheck.limits import STATE_BITS
 
 # So many attempts has a world at most.
 MOST_MADE = 240

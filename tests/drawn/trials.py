@@ -14,10 +14,10 @@ from chain_texts import chain_text
 from chance import Chance
 from drawn_classes import element_files
 from edges import edge_text
+from feast_lab.recheck.limits import MOST_ATTEMPTS
+from feast_lab.recheck.main import answer
 from planes import world_of
 from program import call
-from recheck.limits import MOST_ATTEMPTS
-from recheck.main import answer
 
 # So many attempts of each tile are made of a world at most.
 MOST_MADE = 2000

@@ -4,7 +4,7 @@ from __future__ import annotations
 from dataclasses import dataclass
 from typing import Iterator, Optional
 
-from lab.base.limits import ELEMENT_LIMIT
+from feast_lab.lab.base.limits import ELEMENT_LIMIT
 
 # A line and a column, both from 1.
 Place = tuple[int, int]

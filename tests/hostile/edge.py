@@ -19,8 +19,8 @@ from bench import (
 )
 from edge_faults import growing, may_trace, read_faults, write_faults
 from edge_texts import LONG_REPORT, LONG_WORLD, too_long, unreadable
+from feast_lab.lab.base.limits import MOST_FILES
 from jobs import ONE_TILE, WALKER, File, Job, clear, jobs_of, lay
-from lab.base.limits import MOST_FILES
 
 
 def feed(path: pathlib.Path, pieces: Sequence[bytes], pause: float, done: threading.Event) -> None:

@@ -11,8 +11,8 @@ from typing import Union
 
 from bench import DONE, MEMORY, SINK, UNREADABLE, Answer, Bench, tool
 from edge_texts import LONG_REPORT, LONG_WORLD, unreadable
+from feast_lab.lab.base.limits import ELEMENT_LIMIT
 from jobs import WALKER, File, Job, lay
-from lab.base.limits import ELEMENT_LIMIT
 
 
 @dataclass(frozen=True)

@@ -3,7 +3,7 @@ from __future__ import annotations
 
 from bench import Bench
 from element_texts import element, survives
-from lab.base.limits import MOST_CALLS, MOST_TURNS
+from feast_lab.lab.base.limits import MOST_CALLS, MOST_TURNS
 
 
 def without_end(bench: Bench) -> None:

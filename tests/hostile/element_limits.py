@@ -5,7 +5,7 @@ from typing import Callable
 
 from bench import BAD_ELEMENT, DONE, Bench, Limits
 from element_texts import NESTS, accepted, atoms, deepest, depth_fault, element, nested, refused, too_deep, world
-from lab.base.limits import (
+from feast_lab.lab.base.limits import (
     ELEMENT_LIMIT, LONGEST_NAME, MOST_CLASSES, MOST_INSTRS, MOST_LOCALS, MOST_MEMBERS, MOST_OPERANDS, MOST_PARAMS, MOST_TOKENS,
     STATE_BITS,
 )

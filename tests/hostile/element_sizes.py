@@ -6,7 +6,7 @@ from typing import Callable
 
 from bench import BAD_ELEMENT, DONE, Bench
 from element_texts import accepted, element, refused, survives
-from lab.base.limits import ELEMENT_LIMIT, MOST_FILES
+from feast_lab.lab.base.limits import ELEMENT_LIMIT, MOST_FILES
 
 
 def widest(bench: Bench) -> None:

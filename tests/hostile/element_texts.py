@@ -5,8 +5,8 @@ import re
 from typing import Optional
 
 from bench import BAD_ELEMENT, DONE, Answer, Bench, Limits
+from feast_lab.lab.base.limits import MOST_DEPTH
 from jobs import STATE, ZEROS
-from lab.base.limits import MOST_DEPTH
 
 TOKEN = re.compile(rb"[A-Za-z0-9_]+|<<=|>>=|==|!=|<=|>=|&&|\|\||<<|>>|\+\+|--|[-+*/%&|^]=|\S")
 PLAIN = {b";", b",", b".", b"(", b")", b"[", b"]", b"{", b"}"}

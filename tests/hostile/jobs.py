@@ -6,7 +6,7 @@ from dataclasses import dataclass
 from typing import Iterator, Optional
 
 from bench import DONE, Bench
-from lab.base.limits import CODE_LIMIT, ELEMENT_LIMIT, JOURNAL_LIMIT, WORLD_LIMIT
+from feast_lab.lab.base.limits import CODE_LIMIT, ELEMENT_LIMIT, JOURNAL_LIMIT, WORLD_LIMIT
 
 # How many bytes an input may have that is no element file: worlds, reports and code files have one limit.
 MOST = WORLD_LIMIT

@@ -13,9 +13,9 @@ import sys
 from typing import Iterator, Optional, Sequence
 
 from bench import DONE, MEMORY, NO_FORM, Answer, Bench, Limits, main_of, tool
+from feast_lab.lab.base.limits import ELEMENT_LIMIT
 from fronts import ELEMENT
 from jobs import STATE, WALKER, ZEROS, Job, element, jobs_of, lay, world
-from lab.base.limits import ELEMENT_LIMIT
 from rooms import KIB, LONG_REPORT, MOST_PRINTING, rooms
 
 HERE = pathlib.Path(__file__).resolve().parent

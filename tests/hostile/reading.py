@@ -6,14 +6,11 @@ go line by line, as the program does, and share nothing else with it.
 """
 from __future__ import annotations
 
-import re
 from dataclasses import dataclass, field
 from typing import Collection, Iterator, NamedTuple, NoReturn, Optional
 
-NUMBER = re.compile(rb"(0|[1-9][0-9]{0,19})\Z")
-TYPE_NAME = re.compile(rb"[A-Z][A-Za-z0-9_]{0,254}\Z")
-SEED = re.compile(rb"[0-9a-f]{16}\Z")
-STATE = re.compile(rb"[0-9a-f]{18}\Z")
+from report_lines import NUMBER, SEED, STATE, TYPE_NAME
+
 MASK = (1 << 64) - 1
 # This reader is apart from the lab too, so it has the limits once more.
 MOST_ATTEMPTS = 1_000_000

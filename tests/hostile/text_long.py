@@ -7,8 +7,8 @@ from dataclasses import dataclass
 from typing import Iterable, Iterator, NamedTuple, Union
 
 from bench import BAD_CODE, BAD_JOURNAL, BAD_WORLD, DONE, UNREADABLE, Answer, Bench
+from feast_lab.lab.base.limits import MOST_ATTEMPTS, MOST_CLASSES, MOST_INSTRS, MOST_TILES
 from jobs import MOST, PACKED, STATE
-from lab.base.limits import MOST_ATTEMPTS, MOST_CLASSES, MOST_INSTRS, MOST_TILES
 from text_lines import HEAD, RECORD, TRY
 from text_pieces import FULL_NAMES, fill, full_report, full_world, lined, packed, records, stacking
 

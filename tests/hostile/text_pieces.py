@@ -3,8 +3,8 @@ from __future__ import annotations
 
 from typing import Iterator, NamedTuple
 
+from feast_lab.lab.base.limits import MOST_ACROSS, MOST_CLASSES, MOST_COLUMNS, MOST_SIDE
 from jobs import STATE, ZEROS
-from lab.base.limits import MOST_ACROSS, MOST_CLASSES, MOST_COLUMNS, MOST_SIDE
 
 
 def fill(head: bytes, piece: bytes, total: int, last: bytes = b"") -> Iterator[bytes]:

@@ -8,10 +8,10 @@ from pathlib import Path
 
 from calls import EXAMPLES
 
-from lab.base.program import Program
-from lab.base.progress import Progress
-from lab.film.recording import Recording
-from lab.trace.retraced import Retraced
+from feast_lab.lab.base.program import Program
+from feast_lab.lab.base.progress import Progress
+from feast_lab.lab.film.recording import Recording
+from feast_lab.lab.trace.retraced import Retraced
 
 # The element files of the worlds for which they aren't one file of the same name.
 FILES = {"swapline": ["swapline", "stone"], "horde": ["horde", "regulator"], "garden": ["sower", "stone"],

@@ -6,9 +6,8 @@ from pathlib import Path
 
 HERE = Path(__file__).resolve().parent
 sys.dont_write_bytecode = True
-# (a file of tests is called `lab` too: tools goes before it)
 sys.path[0:0] = [str(HERE.parent.parent / "tools"), str(HERE), str(HERE.parent)]
 
-from lab.base.program import Program  # noqa: E402
+from feast_lab.lab.base.program import Program  # noqa: E402
 
 os.environ["FEAST_PROGRAM"] = str(Program.find().path)

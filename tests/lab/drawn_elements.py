@@ -2,7 +2,7 @@
 import random
 from collections.abc import Callable
 
-from lab.base.limits import STATE_BITS
+from feast_lab.lab.base.limits import STATE_BITS
 
 WIDTHS = {"Int": (2, 64), "Unsigned": (1, 64), "Bits": (1, 64), "Unary": (1, 40), "Bool": (1, 1)}
 CLASSES = {"Int": "Int", "Unsigned": "Unsigned", "Unary": "Unsigned", "Bits": "Bits", "Bool": "Bool"}

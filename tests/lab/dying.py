@@ -8,9 +8,9 @@ from pathlib import Path
 sys.dont_write_bytecode = True
 sys.path.insert(0, str(Path(__file__).resolve().parent.parent.parent / "tools"))
 
-from lab.base import files  # noqa: E402
-from lab.chain import folder, keeper  # noqa: E402
-from lab.command.main import main  # noqa: E402
+from feast_lab.lab.base import files  # noqa: E402
+from feast_lab.lab.chain import folder, keeper  # noqa: E402
+from feast_lab.lab.command.main import main  # noqa: E402
 
 last = int(sys.argv[1])
 turn = itertools.count(1)

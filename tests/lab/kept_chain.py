@@ -4,8 +4,8 @@ from pathlib import Path
 
 from calls import here
 
-from lab.chain.folder import Folder
-from lab.chain.packed_legs import INDEX, PACKS, PackedLegs, packed
+from feast_lab.lab.chain.folder import Folder
+from feast_lab.lab.chain.packed_legs import INDEX, PACKS, PackedLegs, packed
 
 
 def contents(folder: Path) -> dict[str, bytes]:

@@ -4,11 +4,11 @@ from calls import EXAMPLES, LabCase, here
 from kept_chain import atoms, begins, contents, packs_of
 from test_chain import ChainCase, lines_of
 
-from lab.base.limits import MOST_ATTEMPTS
-from lab.base.program import Program
-from lab.chain.acts import Act, Acts, noise
-from lab.formats.layout import Layout
-from lab.formats.world import World
+from feast_lab.lab.base.limits import MOST_ATTEMPTS
+from feast_lab.lab.base.program import Program
+from feast_lab.lab.chain.acts import Act, Acts, noise
+from feast_lab.lab.formats.layout import Layout
+from feast_lab.lab.formats.world import World
 
 ELEMENTS = """element Cell { Int(5) level; Unary(4) ones; Bool on; EventWindow ew; Void behave() { } }
 element Wall { EventWindow ew; Void behave() { } }

@@ -7,10 +7,10 @@ from collections.abc import Iterator
 from pathlib import Path
 
 from calls import EXAMPLES, TOP, LabCase, Word, around, feast
-from lab.base.errors import LabError
-from lab.base.program import Program
-from lab.formats.layout import Layout
-from lab.worlds.stamps import stamped
+from feast_lab.lab.base.errors import LabError
+from feast_lab.lab.base.program import Program
+from feast_lab.lab.formats.layout import Layout
+from feast_lab.lab.worlds.stamps import stamped
 
 WORLD = "feast 1\ntiles 2 1\nsize 8 8\nseed 3\nattempts 60\natom 1 1 Regulator\natom 9 5 Regulator\n"
 ELEMENTS = EXAMPLES / "regulator.ulam"
@@ -18,7 +18,7 @@ ELEMENTS = EXAMPLES / "regulator.ulam"
 MEASURED = """
 import resource, sys
 sys.path.insert(0, sys.argv[1])
-from lab.command.main import main
+from feast_lab.lab.command.main import main
 status = main(sys.argv[2:])
 print(resource.getrusage(resource.RUSAGE_SELF).ru_maxrss, file=sys.stderr)
 sys.exit(status)

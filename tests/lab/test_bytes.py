@@ -3,7 +3,7 @@ import io
 from contextlib import redirect_stderr
 
 from calls import LabCase, Word, feast, here
-from lab.pictures.marks import marks
+from feast_lab.lab.pictures.marks import marks
 
 WORLD = "feast 1\ntiles 1 1\nsize 8 8\nseed 3\nattempts 60\natom 1 1 Mouse\natom 4 5 Fence\n"
 # The colour and the letters of Fence are text, and those of Mouse aren't; each other comment has some of the bytes from 1 to 255.

@@ -6,8 +6,8 @@ from pathlib import Path
 
 from calls import EXAMPLES, TOP, LabCase, feast, here, program
 
-from lab.base.limits import ELEMENT_LIMIT
-from lab.check.pages import error_codes, element_rules, ulam_rules
+from feast_lab.lab.base.limits import ELEMENT_LIMIT
+from feast_lab.lab.check.pages import error_codes, element_rules, ulam_rules
 
 EMPTY = "Void behave() { }"
 

@@ -1,7 +1,7 @@
 """What Ulam has and the language here doesn't: each row of docs/ulam.md is told by `./lab check`."""
 from calls import LabCase, here
 
-from lab.check.pages import ULAM, page, rows
+from feast_lab.lab.check.pages import ULAM, page, rows
 
 EMPTY = "Void behave() { }"
 WINDOW = "EventWindow ew; "

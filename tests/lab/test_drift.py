@@ -12,9 +12,9 @@ import films
 from calls import EXAMPLES, LabCase, feast, here
 from kept_chain import repack, told
 
-from lab.command.main import main
-from lab.formats.world import World
-from lab.measure.drift import drifts, greatest, of_legs, plans
+from feast_lab.lab.command.main import main
+from feast_lab.lab.formats.world import World
+from feast_lab.lab.measure.drift import drifts, greatest, of_legs, plans
 
 # the plans of the tiles, the tile of each event, and how far each tile was ahead of the slowest
 CASES: list[tuple[list[int], str, list[str]]] = [

@@ -11,10 +11,10 @@ from calls import LabCase, Word, feast, here, lab, program
 from kept_chain import told
 from drawn_elements import Drawer, world
 
-from lab.base.program import Program
-from lab.chain.audit import AuditedChain
-from lab.chain.folder import Folder
-from lab.machine.code import element_codes
+from feast_lab.lab.base.program import Program
+from feast_lab.lab.chain.audit import AuditedChain
+from feast_lab.lab.chain.folder import Folder
+from feast_lab.lab.machine.code import element_codes
 
 DRAWN_FILES = 100  # of two elements each
 # A body of `behave` for each cause, what stands before it, and the function in which it fails, with its line.

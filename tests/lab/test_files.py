@@ -12,9 +12,9 @@ from pathlib import Path
 from unittest import mock
 
 from calls import EXAMPLES, TOP, LabCase, Word, around, feast, here
-from lab.base.errors import LabError
-from lab.base.files import write_whole
-from lab.base.locks import held
+from feast_lab.lab.base.errors import LabError
+from feast_lab.lab.base.files import write_whole
+from feast_lab.lab.base.locks import held
 from kept_chain import contents
 from sweeps import FolderCase
 
@@ -250,7 +250,7 @@ class Locks(FolderCase):
 
     def test_blame(self) -> None:
         """Of a fault without a name standard output is blamed only if it is at fault."""
-        with mock.patch("lab.command.chain.made", side_effect=OSError(errno.ENOSPC, os.strerror(errno.ENOSPC))):
+        with mock.patch("feast_lab.lab.command.chain.made", side_effect=OSError(errno.ENOSPC, os.strerror(errno.ENOSPC))):
             done = here("chain", self.room / "chain", "--legs", "1", self.world, self.elements)
         self.assertEqual((done.status, done.said), (2, "lab: no space left on device\n"))
         report = self.file("report", feast("step", self.world, self.elements))

@@ -6,7 +6,7 @@ from unittest.mock import patch
 from calls import EXAMPLES, LabCase, here
 from kept_chain import packs_of, repack
 
-from lab.film import batches
+from feast_lab.lab.film import batches
 
 FRAIL = "element Frail { EventWindow ew; Random random; Void behave() { ew.isEmpty(random.create(4) + 38); } }\n"
 

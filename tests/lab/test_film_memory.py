@@ -5,8 +5,8 @@ from pathlib import Path
 
 import films
 from calls import feast
-from lab.film.data import Packer
-from lab.film.frames import Frame
+from feast_lab.lab.film.data import Packer
+from feast_lab.lab.film.frames import Frame
 from test_film_page import FilmPage, setUpModule  # noqa: F401
 
 SIDE, FRAMES = 64, 250

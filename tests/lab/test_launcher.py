@@ -10,9 +10,9 @@ from pathlib import Path
 
 from calls import EXAMPLES, TOP, LabCase, program
 
-from lab.base.program import QUIET
-from proved.record import LAUNCHER, Record, digest_of
-from proved.sources import digest
+from feast_lab.lab.base.program import QUIET
+from feast_lab.proved.record import LAUNCHER, Record, digest_of
+from feast_lab.proved.sources import digest
 
 WALK, WALKER = EXAMPLES / "walk.world", EXAMPLES / "walker.ulam"
 
@@ -37,9 +37,9 @@ class Launcher(LabCase):
         self.top = self.room / "clone"
         (self.top / "crates" / "feast" / "out").mkdir(parents=True)
         (self.top / "tools").mkdir()
-        for name in ("feast", "tools/help.txt", "crates.txt", "HANDLES"):
+        for name in ("feast", "tools/help.txt", "tools/proved", "crates.txt", "HANDLES"):
             shutil.copy(TOP / name, self.top / name)
-        shutil.copytree(TOP / "tools" / "proved", self.top / "tools" / "proved")
+        shutil.copytree(TOP / "tools" / "feast_lab", self.top / "tools" / "feast_lab")
         self.program = self.top / "crates" / "feast" / "out" / "feast"
         shutil.copy(program(), self.program)
         self.prove()

@@ -3,9 +3,9 @@ import random
 
 from calls import LabCase, feast, program
 
-from lab.base.errors import LabError
-from lab.base.program import Program
-from lab.formats.layout import Layout
+from feast_lab.lab.base.errors import LabError
+from feast_lab.lab.base.program import Program
+from feast_lab.lab.formats.layout import Layout
 
 # an element with a member of each kind, whose event gives each of them a value
 ELEMENT = """quark Part {{ Int(5) a; Bool b; Unary(3) u; Bits(2) c; }}

@@ -3,7 +3,7 @@ import re
 
 from calls import EXAMPLES, TOP, LabCase, feast, here
 
-from lab.check.pages import warning_rules
+from feast_lab.lab.check.pages import warning_rules
 
 WINDOW = "EventWindow ew; "
 FOUND = re.compile(r"^[^:\n]*/?a\.ulam:1:(\d+): warning: .* \[([a-z-]+)\]$", re.MULTILINE)

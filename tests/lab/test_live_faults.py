@@ -8,16 +8,16 @@ from pathlib import Path
 from typing import Any, cast
 
 from calls import EXAMPLES, Word, program
-from lab.base import files
-from lab.base.errors import LabError
-from lab.base.program import Program
-from lab.chain import keeper
-from lab.chain.folder import Folder
-from lab.chain.legs import LegMaker
-from lab.chain.start import going_on
-from lab.live.chain import Live
-from lab.live.server import Server
-from lab.live.session import ENDED, Session
+from feast_lab.lab.base import files
+from feast_lab.lab.base.errors import LabError
+from feast_lab.lab.base.program import Program
+from feast_lab.lab.chain import keeper
+from feast_lab.lab.chain.folder import Folder
+from feast_lab.lab.chain.legs import LegMaker
+from feast_lab.lab.chain.start import going_on
+from feast_lab.lab.live.chain import Live
+from feast_lab.lab.live.server import Server
+from feast_lab.lab.live.session import ENDED, Session
 from living import Living
 from test_live import LiveCase
 

@@ -5,7 +5,7 @@ from collections.abc import Callable
 from dataclasses import dataclass
 from itertools import product
 
-from lab.live.pace import EVERY, FIRST, Tempo
+from feast_lab.lab.live.pace import EVERY, FIRST, Tempo
 
 SECONDS = 240.0  # for so long a chain is played; the second half counts
 MOST = 1_000_000

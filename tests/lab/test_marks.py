@@ -1,6 +1,6 @@
 """Colours and symbols of elements."""
 from calls import EXAMPLES, LabCase
-from lab.pictures.marks import PALETTE, Mark, brightness, ink, marks
+from feast_lab.lab.pictures.marks import PALETTE, Mark, brightness, ink, marks
 
 GIVEN = """
 /** Not this one. \\color #111111 \\symbol No */

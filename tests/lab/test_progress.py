@@ -3,7 +3,7 @@ import io
 import unittest
 from unittest import mock
 
-from lab.base.progress import ProgressLine
+from feast_lab.lab.base.progress import ProgressLine
 
 
 class Terminal(io.StringIO):
@@ -15,7 +15,7 @@ class Terminal(io.StringIO):
 
 def shown(to: io.StringIO, total: float, done: float, moments: list[tuple[float, float]]) -> str:
     """What is written when so much is done at these moments."""
-    with mock.patch("lab.base.progress.time.monotonic", return_value=100.0) as clock:
+    with mock.patch("feast_lab.lab.base.progress.time.monotonic", return_value=100.0) as clock:
         progress = ProgressLine(to)
         progress.begin(total, done)
         for moment, part in moments:

@@ -80,8 +80,10 @@ class Package(PackageCase):
             f"<Moment of w.world after 40 events: {there} atoms>", f"<Film of w.world, a page of {len(film):,} letters>"])
 
     def test_plain(self) -> None:
-        """Without NumPy the package says what it needs."""
-        done = subprocess.run(without_extras(), input="import feast_lab", capture_output=True, text=True, check=False)
+        """Without NumPy the package says what it needs, once something is asked for that needs it."""
+        script = "import feast_lab; print(feast_lab.__version__); from feast_lab import run"
+        done = subprocess.run(without_extras(), input=script, capture_output=True, text=True, check=False)
+        self.assertEqual(done.stdout, f"{(TOP / 'VERSION').read_text()}")
         self.assertIn("ImportError: feast_lab needs the package numpy, which is not installed", done.stderr)
 
     def test_run(self) -> None:
@@ -128,11 +130,25 @@ class Package(PackageCase):
         self.assertEqual(self.says("import feast_lab; print(feast_lab.__version__)"), [(TOP / "VERSION").read_text().strip()])
 
     def test_names(self) -> None:
-        """Another package of the name of the lab's own modules is not taken for it."""
-        self.file("lab.py", "")
-        script = f"import sys; sys.path[:0] = [{str(self.room)!r}]; import lab; import feast_lab"
+        """The package takes its own name and no other, changes nothing of where modules are looked for, and minds no package
+        that is called as one of its own."""
+        for name in ("lab", "proved", "recheck", "arrays", "runs"):
+            self.file(f"{name}.py", "")
+        script = ("before = list(sys.path), set(sys.modules)\n"
+                  "import lab, proved, recheck, arrays, runs, pathlib, feast_lab\n"
+                  "print(len(feast_lab.run(world, elements, step=True).events), sorted(set(dir(feast_lab)) ^ set(feast_lab.__all__)))\n"
+                  "tools = pathlib.Path(feast_lab.__file__).parent.parent\n"
+                  "mine = {name.partition('.')[0] for name, it in sys.modules.items() if str(tools) in (getattr(it, '__file__', '') or '')}\n"
+                  "print(sys.path == before[0], mine, all(hasattr(feast_lab, name) for name in feast_lab.__all__), hasattr(feast_lab, 'no'))\n"
+                  "print(callable(feast_lab.clusters), feast_lab.plots.__name__, feast_lab.run is __import__('feast_lab.runs').run)\n")
+        self.assertEqual(self.says(script), ["43 []", "True {'feast_lab'} True False", "True feast_lab.plots True"])
+
+    def test_command_line(self) -> None:
+        """Without NumPy all verbs of the command line can be had."""
+        script = ("import sys\nfrom feast_lab.lab.command.main import VERBS, verbs\n"
+                  "print(len(verbs([])) == len(VERBS) > 9, 'numpy' in sys.modules)\n")
         done = subprocess.run(without_extras(), input=script, capture_output=True, text=True, check=False)
-        self.assertIn("ImportError: feast_lab: another package lab is imported already", done.stderr)
+        self.assertEqual((done.stdout, done.stderr), ("True False\n", ""))
 
 
 class Calls(PackageCase):
@@ -197,8 +213,6 @@ class Calls(PackageCase):
         """Where no program is found, as after an installation, the error is one line that says what to do."""
         site = self.room / "site"
         shutil.copytree(TOP / "tools" / "feast_lab", site / "feast_lab")
-        for part in ("lab", "proved"):
-            shutil.copytree(TOP / "tools" / part, site / "feast_lab" / "parts_of_the_lab" / part)
         script = ("import feast_lab\n"
                   "for program in (None, 'nowhere', '.'):\n"
                   "    for call in (feast_lab.run, lambda world, elements, program: feast_lab.read(world, 'report', elements, program=program)):\n"

@@ -3,10 +3,10 @@ import gzip
 
 from calls import EXAMPLES, LabCase, Word, feast
 
-from lab.base.errors import LabError
-from lab.formats.outcome import Outcome, counts
-from lab.formats.report import Abandoned, JournalRecord, Report
-from lab.formats.world import Placed
+from feast_lab.lab.base.errors import LabError
+from feast_lab.lab.formats.outcome import Outcome, counts
+from feast_lab.lab.formats.report import Abandoned, JournalRecord, Report
+from feast_lab.lab.formats.world import Placed
 
 SMALL = """feast 1
 atoms 2

@@ -12,8 +12,8 @@ from pathlib import Path
 import films
 from calls import EXAMPLES, PROGRESS, TOP, LabCase, around, feast, here
 from kept_chain import told as told_of
-from lab.base.errors import LabError
-from lab.base.files import write_whole
+from feast_lab.lab.base.errors import LabError
+from feast_lab.lab.base.files import write_whole
 
 WORLD = "feast 1\ntiles 2 1\nsize 8 8\nseed 3\nattempts 60\natom 1 1 Regulator\natom 9 5 Regulator\n"
 ELEMENTS = EXAMPLES / "regulator.ulam"

@@ -13,7 +13,7 @@ from calls import feast, here, lab, program
 from kept_chain import packs_of, repack, told
 from sweeps import BIRTH, SOURCE, WORLD, FolderCase, contents
 
-from lab.command.main import main
+from feast_lab.lab.command.main import main
 
 
 class Folders(FolderCase):
@@ -153,7 +153,7 @@ class Folders(FolderCase):
     def test_progress(self) -> None:
         """Reading the combinations of a plan, and the runs of its table, says how far it is."""
         errors = io.StringIO()
-        with redirect_stderr(errors), redirect_stdout(io.StringIO()), mock.patch("lab.base.progress.LINE_EVERY", 0.0):
+        with redirect_stderr(errors), redirect_stdout(io.StringIO()), mock.patch("feast_lab.lab.base.progress.LINE_EVERY", 0.0):
             self.assertEqual(main([str(it) for it in self.words(BIRTH, "--repeat", "2", "--plan", self.out)]), 0)
             self.assertEqual(errors.getvalue(), "reading combination 1 of 2: 0 % done\nreading combination 2 of 2: 50 % done, 0 s left\n")
             for number in ("1", "3"):

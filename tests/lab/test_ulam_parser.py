@@ -9,12 +9,12 @@ from typing import Any
 
 from calls import EXAMPLES, TOP
 
-from lab.ulam.expected import expected
-from lab.ulam.reader import Elements
-from lab.ulam.tokens import Source, tokens
-from lab.ulam.trees import Block, Do, Group, Word
-from recheck.parser import parse
-from recheck.tokens import tokens_of
+from feast_lab.lab.ulam.expected import expected
+from feast_lab.lab.ulam.reader import Elements
+from feast_lab.lab.ulam.tokens import Source, tokens
+from feast_lab.lab.ulam.trees import Block, Do, Group, Word
+from feast_lab.recheck.parser import parse
+from feast_lab.recheck.tokens import tokens_of
 
 SUBJECTS = ("grammar", "readings", "names", "classes", "stages", "typing_rules", "codes", "number_ends", "arithmetic",
             "events")

@@ -6,10 +6,10 @@ from pathlib import Path
 
 from calls import EXAMPLES, TOP, LabCase, Word, around, lab, program
 
-from lab.base.limits import MOST_COLUMNS
-from lab.command.main import VERBS
-from proved.record import LAUNCHER, Record, digest_of
-from proved.sources import digest
+from feast_lab.lab.base.limits import MOST_COLUMNS
+from feast_lab.lab.command.main import VERBS
+from feast_lab.proved.record import LAUNCHER, Record, digest_of
+from feast_lab.proved.sources import digest
 
 
 class Words(LabCase):

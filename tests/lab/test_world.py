@@ -1,8 +1,8 @@
 """Worlds are read as the program reads them, and written so that it reads them again."""
 from calls import EXAMPLES, LabCase, feast
 
-from lab.base.errors import LabError
-from lab.formats.world import Attempt, Placed, World
+from feast_lab.lab.base.errors import LabError
+from feast_lab.lab.formats.world import Attempt, Placed, World
 
 FULL = """feast 2
 # a comment

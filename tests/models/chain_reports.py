@@ -1,15 +1,12 @@
 """Reports of chains: those of legs in the three kinds, and how a whole report is read, by the rules in docs/chains.md."""
-import re
 from dataclasses import dataclass, field
-from typing import NamedTuple, NoReturn
+from typing import NamedTuple
 
 from chain import Chain
-from chain_text import NUMBER, STATE, TYPE_NAME, refuse
-from draws import MASK, drawn_attempts
+from chain_text import refuse
+from draws import drawn_attempts
 from plane import EMPTY, Atom, Attempt, Plane
-
-SEED = re.compile(rb"[0-9a-f]{16}\Z")
-GREATEST = (1 << 32) - 1
+from report_lines import ReportLines
 
 
 class Event(NamedTuple):
@@ -105,86 +102,22 @@ class Plan:
         return attempts[number] if number < len(attempts) else None
 
 
-class Reader:
-    """The lines of a report, taken one after another."""
-
-    def __init__(self, text: bytes) -> None:
-        self.lines = text.split(b"\n")
-        self.rest = self.lines.pop()
-        self.at = 0
-
-    def next(self) -> list[bytes]:
-        """The fields of the next line, which has to end with LF."""
-        if self.at == len(self.lines):
-            refuse(80, self.at + 1)
-        self.at += 1
-        return self.lines[self.at - 1].split(b" ")
-
-    def bad(self) -> NoReturn:
-        """Refuses the line that was taken last."""
-        refuse(80, self.at)
-
-    def numbers(self, count: int, wide: tuple[int, ...] = (), also: int = 0) -> list[int]:
-        """The numbers of the next line, with as many fields, below 2^32, or below 2^64 at some places; at the end of the
-        line there may be further fields."""
-        fields = self.next()
-        if len(fields) != count + also or not all(NUMBER.match(it) for it in fields[:count]):
-            self.bad()
-        found = [int(it) for it in fields[:count]]
-        if any(number > (MASK if place in wide else GREATEST) for place, number in enumerate(found)):
-            self.bad()
-        return found
-
-    def count(self, title: bytes) -> int:
-        """How many lines of a part follow."""
-        fields = self.next()
-        if len(fields) != 2 or fields[0] != title or not NUMBER.match(fields[1]) or int(fields[1]) > GREATEST:
-            self.bad()
-        return int(fields[1])
-
-    def atom(self) -> bytes:
-        """The next line, of an atom."""
-        self.numbers(2, also=2)
-        line = self.lines[self.at - 1]
-        _, _, name, state = line.split(b" ")
-        if not TYPE_NAME.match(name) or not STATE.match(state):
-            self.bad()
-        return line
-
-    def entry(self, is_short: bool) -> tuple[list[int], Attempt | None]:
-        """The next line, of an event: its stamp, its tile and its number, and the attempt that it shows, if it does."""
-        if is_short:
-            return self.numbers(3, (2,)), None
-        *found, x, y = self.numbers(5, (2,), also=1)
-        seed = self.lines[self.at - 1].split(b" ")[5]
-        if not SEED.match(seed):
-            self.bad()
-        return found, Attempt(x, y, int(seed, 16))
-
-    def loss(self, is_short: bool) -> tuple[list[int], Attempt | None]:
-        """The next line, of an abandoned attempt, likewise; no seed is shown."""
-        if is_short:
-            return self.numbers(5, (1, 4)), None
-        tile, number, x, y, *rest = self.numbers(7, (1, 6))
-        return [tile, number, *rest], Attempt(x, y, 0)
-
-
 class LegReader:
     """Reads the report of one leg."""
 
-    def __init__(self, reader: Reader, chain: Chain, leg: int) -> None:
-        self.reader, self.chain = reader, chain
+    def __init__(self, lines: ReportLines, chain: Chain, leg: int) -> None:
+        self.lines, self.chain = lines, chain
         self.is_short = chain.journal == "short"
         self.plan = Plan(chain, leg)
-        self.report = LegReport(reader.at)
+        self.report = LegReport(lines.at)
         self.last = (0, -1)
         self.last_line = 0
         self.last_of: dict[int, tuple[int, int]] = {}
 
     def event(self) -> None:
         """Takes the line of an event."""
-        (stamp, tile, number), shown = self.reader.entry(self.is_short)
-        line = self.reader.at
+        stamp, tile, number, *rest = self.lines.event(self.is_short)
+        line, shown = self.lines.at, Attempt(*rest) if rest else None
         if stamp == 0 or (stamp, tile) <= self.last:
             refuse(81, line, self.last_line)
         if tile in self.last_of and number <= self.last_of[tile][0]:
@@ -200,19 +133,18 @@ class LegReader:
 
     def loss(self) -> None:
         """Takes the line of an abandoned attempt, which is looked at for its form alone."""
-        (tile, number, edge, holder, holder_number), shown = self.reader.loss(self.is_short)
-        attempt = self.plan.find(tile, number) if self.is_short else shown
+        tile, number, *site, edge, holder, holder_number = self.lines.loss(self.is_short)
+        attempt = Attempt(site[0], site[1], 0) if site else self.plan.find(tile, number)  # no seed is shown
         self.report.losses.append(Loss(tile, number, attempt, edge, holder, holder_number))
 
     def read(self) -> LegReport:
         """Takes all lines of the leg's report."""
-        if self.reader.next() != [b"feast", b"2" if self.is_short else b"1"]:
-            self.reader.bad()
-        for _ in range(self.reader.count(b"atoms")):
-            self.report.atoms.append(self.reader.atom())
-        for _ in range(self.reader.count(b"journal")):
+        self.lines.head(b"2" if self.is_short else b"1")
+        for _ in range(self.lines.count(b"atoms")):
+            self.report.atoms.append(self.lines.atom())
+        for _ in range(self.lines.count(b"journal")):
             self.event()
-        for _ in range(self.reader.count(b"abandoned")):
+        for _ in range(self.lines.count(b"abandoned")):
             self.loss()
         return self.report
 
@@ -221,10 +153,9 @@ def read_legs(text: bytes, chain: Chain) -> list[LegReport]:
     """The reports of all legs of a chain; Refused where a line can't be read."""
     if chain.journal == "none":
         refuse(80, 1)
-    reader = Reader(text)
-    found = [LegReader(reader, chain, leg).read() for leg in chain.numbers]
-    if reader.at < len(reader.lines) or reader.rest:
-        refuse(80, reader.at + 1)
+    lines = ReportLines(text, refuse)
+    found = [LegReader(lines, chain, leg).read() for leg in chain.numbers]
+    lines.end()
     return found
 
 

@@ -7,10 +7,8 @@ from typing import NamedTuple, NoReturn
 from chain import BILLION, Act, Area, Attempts, Chain, Clear, Erase, Flip, Put
 from draws import MASK
 from plane import STATE_BITS, Atom
+from report_lines import NUMBER, STATE, TYPE_NAME
 
-NUMBER = re.compile(rb"(0|[1-9][0-9]{0,19})\Z")
-TYPE_NAME = re.compile(rb"[A-Z][A-Za-z0-9_]{0,254}\Z")
-STATE = re.compile(rb"[0-9a-f]{18}\Z")
 CHANCE = re.compile(rb"(0|1|0\.[0-9]{1,9})\Z")
 # The models are written apart from the rest, so they have these limits once more.
 MOST_ATTEMPTS = MOST_LEGS = 1_000_000

@@ -3,7 +3,7 @@ from __future__ import annotations
 
 from typing import Iterator
 
-from lab.base.limits import ELEMENT_LIMIT, WORLD_LIMIT
+from feast_lab.lab.base.limits import ELEMENT_LIMIT, WORLD_LIMIT
 from packing import Function, code_file, element
 from program import File
 from rows import Row, refused, written

@@ -4,7 +4,7 @@ from __future__ import annotations
 import dataclasses
 from typing import Iterator
 
-from lab.base.limits import MOST_CLASSES, MOST_LOCALS, MOST_MEMBERS, MOST_PARAMS
+from feast_lab.lab.base.limits import MOST_CLASSES, MOST_LOCALS, MOST_MEMBERS, MOST_PARAMS
 from rows import Row, refused, written
 
 # Files, with `$` between the first and the second one, and the place and the code of their first fault.

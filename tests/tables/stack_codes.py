@@ -7,7 +7,7 @@ from __future__ import annotations
 from typing import Iterator
 
 from events import MAIN, WEST, fails, leaves, leaves_number, leaves_state, not_valid
-from lab.base.limits import MOST_OPERANDS
+from feast_lab.lab.base.limits import MOST_OPERANDS
 from packing import ATOM, NOTHING, NUMBER, Function
 from rows import Row
 

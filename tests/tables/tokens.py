@@ -3,7 +3,7 @@ from __future__ import annotations
 
 from typing import Iterator
 
-from lab.base.limits import LONGEST_NAME, MOST_TOKENS
+from feast_lab.lab.base.limits import LONGEST_NAME, MOST_TOKENS
 from rows import Row, refused, written
 
 # Texts with the place and the code of their first fault.

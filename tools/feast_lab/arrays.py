@@ -3,7 +3,7 @@ import importlib
 from collections.abc import Collection, Mapping, Sequence
 from typing import Any
 
-from lab.base.errors import LabError
+from .lab.base.errors import LabError
 
 try:
     import numpy

@@ -4,9 +4,9 @@ from dataclasses import dataclass
 
 import numpy
 
-from lab.formats.layout import Leaf
+from .lab.formats.layout import Leaf
 
-from feast_lab.arrays import Array, kind_of
+from .arrays import Array, kind_of
 
 LOW_BITS = 64  # the bits of a state that `low` has; `high` has those before them
 BYTES = 9  # of a state, whose first bit is 0

@@ -6,25 +6,25 @@ from typing import Any
 
 import numpy
 
-from lab.base.errors import LabError
-from lab.base.files import read_comments, write_new
-from lab.base.progress import ProgressLine
-from lab.chain.audit import first_fault, processors
-from lab.chain.course import Course
-from lab.chain.folder import Folder
-from lab.chain.kept_legs import KeptLegs
-from lab.film.recording import Recording, recording_of_chain
-from lab.formats.layout import Layout
-from lab.formats.outcome import atom_lines
-from lab.measure.measures import Measure, measures_of
+from .lab.base.errors import LabError
+from .lab.base.files import read_comments, write_new
+from .lab.base.progress import ProgressLine
+from .lab.chain.audit import first_fault, processors
+from .lab.chain.course import Course
+from .lab.chain.folder import Folder
+from .lab.chain.kept_legs import KeptLegs
+from .lab.film.recording import Recording, recording_of_chain
+from .lab.formats.layout import Layout
+from .lab.formats.outcome import atom_lines
+from .lab.measure.measures import Measure, measures_of
 
-from feast_lab import arrays, datasets, recordings
-from feast_lab.arrays import Array
-from feast_lab.films import Film
-from feast_lab.measured import Measure as Measured, said, with_columns
-from feast_lab.moments import Moment
-from feast_lab.programs import found
-from feast_lab.runs import Run
+from . import arrays, datasets, recordings
+from .arrays import Array
+from .films import Film
+from .measured import Measure as Measured, said, with_columns
+from .moments import Moment
+from .programs import found
+from .runs import Run
 
 
 class Chain:

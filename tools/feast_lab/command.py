@@ -1,14 +1,9 @@
 """The command `feast-lab`: what `./lab` does in a clone, where the package is installed."""
 import sys
 
-from feast_lab import parts
-
-parts.load("recheck")  # the second reader, by which element files are read
-
-from lab.base.errors import LabError  # noqa: E402
-from lab.command.main import main as called  # noqa: E402
-
-from feast_lab.programs import refuse_machine  # noqa: E402
+from .lab.base.errors import LabError
+from .lab.command.main import main as called
+from .programs import refuse_machine
 
 
 def main() -> int:

@@ -6,10 +6,10 @@ from typing import TYPE_CHECKING, Any
 
 import numpy
 
-from feast_lab.arrays import Array, extra, masked
+from .arrays import Array, extra, masked
 
 if TYPE_CHECKING:
-    from feast_lab.moments import Moment
+    from .moments import Moment
 
 EXACT = 1 << 53  # up to here a float has each whole number
 DIMENSIONS = ("time", "y", "x")

@@ -3,7 +3,7 @@ from dataclasses import dataclass
 from html import escape
 from pathlib import Path
 
-from lab.base.files import write_whole
+from .lab.base.files import write_whole
 
 
 @dataclass(frozen=True, repr=False)

@@ -3,19 +3,19 @@ from collections.abc import Callable, Iterator, Sequence
 from pathlib import Path
 from tempfile import TemporaryDirectory
 
-from lab.base.progress import Progress, Stop
-from lab.chain.branch import Origin
-from lab.chain.acts import noise as noise_act
-from lab.chain.making import WantedChain, made
-from lab.chain.start import Options
-from lab.worlds.starting import drawn_world
+from .lab.base.progress import Progress, Stop
+from .lab.chain.branch import Origin
+from .lab.chain.acts import noise as noise_act
+from .lab.chain.making import WantedChain, made
+from .lab.chain.start import Options
+from .lab.worlds.starting import drawn_world
 
-from feast_lab.chains import Chain
-from feast_lab.moments import Moment
-from feast_lab.programs import Paths, plain_names
-from feast_lab.runs import elements_of, world_file
-from feast_lab.waiting import Hearer, reporter
-from feast_lab.worlds import World
+from .chains import Chain
+from .moments import Moment
+from .programs import Paths, plain_names
+from .runs import elements_of, world_file
+from .waiting import Hearer, reporter
+from .worlds import World
 
 Until = str | Callable[[Moment], bool]  # a rule as `./lab chain --until` has it, or a function of the plane at the end of a leg
 

@@ -4,10 +4,10 @@ from typing import Any
 
 import numpy
 
-from lab.base.errors import LabError
+from .lab.base.errors import LabError
 
-from feast_lab.arrays import Array, masked
-from feast_lab.moments import Moment
+from .arrays import Array, masked
+from .moments import Moment
 
 Measure = Callable[[Moment], Any]  # a number or a truth value of a plane
 

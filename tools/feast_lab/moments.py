@@ -7,17 +7,17 @@ from typing import Any
 
 import numpy
 
-from lab.base.errors import LabError
-from lab.formats.layout import Layout, Leaf
-from lab.formats.report import placed
-from lab.formats.world import Placed, World
-from lab.pictures.figure import plane_figure
-from lab.pictures.marks import marks_in
-from lab.pictures.tints import by_sources, tints
+from .lab.base.errors import LabError
+from .lab.formats.layout import Layout, Leaf
+from .lab.formats.report import placed
+from .lab.formats.world import Placed, World
+from .lab.pictures.figure import plane_figure
+from .lab.pictures.marks import marks_in
+from .lab.pictures.tints import by_sources, tints
 
-from feast_lab import arrays, datasets, pixels
-from feast_lab.arrays import Array, masked
-from feast_lab.cells import Cells
+from . import arrays, datasets, pixels
+from .arrays import Array, masked
+from .cells import Cells
 
 MOST_DRAWN = 10_000  # atoms of a picture in a notebook that is drawn as a figure; of more it is made of pixels
 

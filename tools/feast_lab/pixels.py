@@ -5,7 +5,7 @@ from collections.abc import Sequence
 
 import numpy
 
-from feast_lab.arrays import Array
+from .arrays import Array
 
 SIGNATURE = b"\x89PNG\r\n\x1a\n"
 RGB = 2  # the kind of a picture that has three bytes for each pixel

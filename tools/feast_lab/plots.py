@@ -4,14 +4,14 @@ from typing import Any
 
 import numpy
 
-from lab.base.errors import LabError
-from lab.pictures.marks import marks_in
+from .lab.base.errors import LabError
+from .lab.pictures.marks import marks_in
 
-from feast_lab import statistics
-from feast_lab.arrays import Array, extra
-from feast_lab.moments import Moment
-from feast_lab.pixels import colors_of
-from feast_lab.runs import Run
+from . import statistics
+from .arrays import Array, extra
+from .moments import Moment
+from .pixels import colors_of
+from .runs import Run
 
 
 def axes_of(axes: Any) -> Any:

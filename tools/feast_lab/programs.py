@@ -6,8 +6,8 @@ from collections.abc import Iterator, Sequence
 from contextlib import contextmanager
 from pathlib import Path
 
-from lab.base.errors import LabError
-from lab.base.program import INSTEAD, Program
+from .lab.base.errors import LabError
+from .lab.base.program import INSTEAD, Program
 
 MACHINE = ("Linux", "x86_64")
 GLIBC = re.compile(r"glibc (\d+)\.(\d+)")

@@ -4,20 +4,20 @@ from collections.abc import Iterator, Sequence
 from pathlib import Path
 from tempfile import TemporaryDirectory
 
-from lab.base.errors import LabError
-from lab.base.program import Program
-from lab.base.progress import Progress
-from lab.film.batches import side_by_side
-from lab.film.frames import Frame
-from lab.film.making import Filming, WantedFilm, refuse_frames
-from lab.film.recording import Recording
-from lab.film.replays import Plane
+from .lab.base.errors import LabError
+from .lab.base.program import Program
+from .lab.base.progress import Progress
+from .lab.film.batches import side_by_side
+from .lab.film.frames import Frame
+from .lab.film.making import Filming, WantedFilm, refuse_frames
+from .lab.film.recording import Recording
+from .lab.film.replays import Plane
 
-from feast_lab import arrays
-from feast_lab.arrays import Array
-from feast_lab.cells import Cells
-from feast_lab.films import Film
-from feast_lab.moments import Moment
+from . import arrays
+from .arrays import Array
+from .cells import Cells
+from .films import Film
+from .moments import Moment
 
 
 def played(program: Program, recording: Recording, moments: set[int]) -> Iterator[Frame]:

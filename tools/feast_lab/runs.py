@@ -6,30 +6,30 @@ from pathlib import Path
 from tempfile import TemporaryDirectory
 from typing import Any
 
-from lab.base.errors import LabError
-from lab.base.files import read_byte_text, read_comments, write_new, write_whole
-from lab.base.limits import MOST_ATTEMPTS
-from lab.base.program import Program
-from lab.base.seeds import MODULUS
-from lab.chain.acts import Acts
-from lab.chain.rule import ChainRule
-from lab.film.frames import Reported
-from lab.film.recording import Recording
-from lab.formats.constants import constants, with_values
-from lab.formats.layout import Layout
-from lab.formats.outcome import ABANDONED, JOURNAL, Outcome, atom_lines
-from lab.formats.report import ReportReader, read_report
-from lab.formats.world import World
-from lab.measure.drift import greatest, plans, tiles_of
-from lab.worlds.starting import drawn_world
+from .lab.base.errors import LabError
+from .lab.base.files import read_byte_text, read_comments, write_new, write_whole
+from .lab.base.limits import MOST_ATTEMPTS
+from .lab.base.program import Program
+from .lab.base.seeds import MODULUS
+from .lab.chain.acts import Acts
+from .lab.chain.rule import ChainRule
+from .lab.film.frames import Reported
+from .lab.film.recording import Recording
+from .lab.formats.constants import constants, with_values
+from .lab.formats.layout import Layout
+from .lab.formats.outcome import ABANDONED, JOURNAL, Outcome, atom_lines
+from .lab.formats.report import ReportReader, read_report
+from .lab.formats.world import World
+from .lab.measure.drift import greatest, plans, tiles_of
+from .lab.worlds.starting import drawn_world
 
-from feast_lab import arrays, datasets, recordings
-from feast_lab.arrays import Array
-from feast_lab.films import Film
-from feast_lab.moments import Moment
-from feast_lab.programs import Paths, files_of, found
-from feast_lab.waiting import Hearer, called
-from feast_lab.worlds import World as OwnWorld
+from . import arrays, datasets, recordings
+from .arrays import Array
+from .films import Film
+from .moments import Moment
+from .programs import Paths, files_of, found
+from .waiting import Hearer, called
+from .worlds import World as OwnWorld
 
 
 class Run:

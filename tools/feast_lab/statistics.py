@@ -7,9 +7,9 @@ from collections.abc import Iterator, Sequence
 
 import numpy
 
-from lab.base.errors import LabError
+from .lab.base.errors import LabError
 
-from feast_lab.arrays import Array, masked
+from .arrays import Array, masked
 
 STEPS = 200  # of a bisection, which are more than a float has bits
 

@@ -6,24 +6,24 @@ from pathlib import Path
 from tempfile import TemporaryDirectory
 from typing import Any
 
-from lab.base.errors import LabError
-from lab.base.limits import MOST_COLUMNS
-from lab.formats.layout import Layout
-from lab.measure.measures import measures_of
-from lab.sweep.check import check_runs
-from lab.sweep.making import WantedSweep, made
-from lab.sweep.plan import Sweep as Made, write_plan
-from lab.sweep.run import rows_of
-from lab.sweep.values import Setting
+from .lab.base.errors import LabError
+from .lab.base.limits import MOST_COLUMNS
+from .lab.formats.layout import Layout
+from .lab.measure.measures import measures_of
+from .lab.sweep.check import check_runs
+from .lab.sweep.making import WantedSweep, made
+from .lab.sweep.plan import Sweep as Made, write_plan
+from .lab.sweep.run import rows_of
+from .lab.sweep.values import Setting
 
-from feast_lab import arrays
-from feast_lab.arrays import Array
-from feast_lab.chains import Chain, kind_of, number_of
-from feast_lab.measured import Measure, said, with_columns
-from feast_lab.programs import Paths, found, plain_names
-from feast_lab.runs import elements_of, world_file
-from feast_lab.waiting import Hearer, reporter
-from feast_lab.worlds import World
+from . import arrays
+from .arrays import Array
+from .chains import Chain, kind_of, number_of
+from .measured import Measure, said, with_columns
+from .programs import Paths, found, plain_names
+from .runs import elements_of, world_file
+from .waiting import Hearer, reporter
+from .worlds import World
 
 Sets = Mapping[str | tuple[str, ...], Sequence[object]]
 TRUTH = {"true": True, "false": False}

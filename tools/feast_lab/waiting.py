@@ -6,9 +6,9 @@ from collections.abc import Callable, Sequence
 from contextlib import suppress
 from pathlib import Path
 
-from lab.base.errors import LabError
-from lab.base.program import Program, Refusal, reason
-from lab.base.progress import Progress, ProgressLine, duration
+from .lab.base.errors import LabError
+from .lab.base.program import Program, Refusal, reason
+from .lab.base.progress import Progress, ProgressLine, duration
 
 Hearer = bool | Callable[[float, str], object]  # whether a line on standard error tells how far it is, or a function that does
 LOOKS_EVERY = 0.2  # seconds between two looks at a call

@@ -6,18 +6,18 @@ from typing import Any
 
 import numpy
 
-from lab.base.errors import LabError
-from lab.base.files import read_comments, write_whole
-from lab.formats.layout import Layout
-from lab.formats.world import Placed, World as Frame
-from lab.worlds.fill import Fill, scattered
-from lab.worlds.frame import WantedFrame
-from lab.worlds.paint import key
-from lab.worlds.stamps import marks_of
+from .lab.base.errors import LabError
+from .lab.base.files import read_comments, write_whole
+from .lab.formats.layout import Layout
+from .lab.formats.world import Placed, World as Frame
+from .lab.worlds.fill import Fill, scattered
+from .lab.worlds.frame import WantedFrame
+from .lab.worlds.paint import key
+from .lab.worlds.stamps import marks_of
 
-from feast_lab.arrays import Array
-from feast_lab.moments import Moment
-from feast_lab.programs import Paths, files_of, found, plain_names
+from .arrays import Array
+from .moments import Moment
+from .programs import Paths, files_of, found, plain_names
 
 Numbers = Any  # a whole number, or an array or a list of them
 

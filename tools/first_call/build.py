@@ -4,9 +4,9 @@ import time
 from datetime import timedelta
 from pathlib import Path
 
-from proved.found import BUILT
-from proved.record import LAUNCHER, Record, digest_of
-from proved.sources import digest
+from feast_lab.proved.found import BUILT
+from feast_lab.proved.record import LAUNCHER, Record, digest_of
+from feast_lab.proved.sources import digest
 
 from first_call.crates import Crate, chains, crates_of_program
 from first_call.machine import Child, lanes_here

@@ -7,8 +7,8 @@ import time
 from pathlib import Path
 from typing import IO
 
-from proved.found import BUILT
-from proved.sources import SourcesError, digest
+from feast_lab.proved.found import BUILT
+from feast_lab.proved.sources import SourcesError, digest
 
 from first_call.build import Build, Refused
 from first_call.machine import end

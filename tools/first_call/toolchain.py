@@ -7,7 +7,7 @@ import subprocess
 from collections.abc import Mapping
 from pathlib import Path
 
-from proved.record import kit
+from feast_lab.proved.record import kit
 
 from first_call.crates import PROGRAM, Crate, sources_of
 

@@ -5,6 +5,6 @@ from pathlib import Path
 sys.dont_write_bytecode = True
 sys.path.insert(0, str(Path(__file__).resolve().parent.parent))
 
-from lab.pictures import svg  # noqa: E402
+from feast_lab.lab.pictures import svg  # noqa: E402
 
 __all__ = ["svg"]

@@ -7,4 +7,5 @@
   folder   what the released folder has
   archive  the same as one file
   tree     the repository, as git knows it
+  dist     the folder dist/, which has the program that the gate has made
 """

@@ -7,14 +7,13 @@ from pathlib import Path
 from releasing.record import Record, digest
 from releasing.tree import ReleaseError, unpack
 
-# What users get of the commit. (The lab and the launcher use several folders of tools.)
+# What users get of the commit.
 PATHS = [
     "README.md", "CHANGELOG.md", "CITATION.cff", "CONTRIBUTING.md", "LICENSE-APACHE", "LICENSE-MIT", "SECURITY.md",
     "VERSION", "docs", "editors", "examples", "feast", "lab", "pyproject.toml", "setup.py", "tools",
 ]
 # What of these is for those who make the program and its releases.
-MAKERS = ["tools/dist", "tools/first_call", "tools/pictures", "tools/proved/__main__.py", "tools/proved/dist.py", "tools/release",
-          "tools/releasing"]
+MAKERS = ["tools/dist", "tools/first_call", "tools/pictures", "tools/proved", "tools/release", "tools/releasing"]
 PROGRAM = "bin/feast"
 # The kit's crates of which parts are in the program, and which have licences.
 PARTS = ("arrayvec", "indexmap", "itoa", "rand_core", "rand_xoshiro", "thiserror")

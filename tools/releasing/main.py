@@ -15,7 +15,7 @@ import sys
 import tempfile
 from pathlib import Path
 
-from proved.found import DIST
+from feast_lab.proved.found import DIST
 
 from releasing import left_out
 from releasing.archive import NAME, pack

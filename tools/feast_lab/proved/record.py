@@ -8,7 +8,7 @@ import subprocess
 from dataclasses import asdict, dataclass
 from pathlib import Path
 
-from proved.sources import LINE
+from .sources import LINE
 
 NAME = "PROVED"
 # How a program was proved: by the toolchain's gate, or by this repository's launcher.
@@ -16,7 +16,7 @@ GATE, LAUNCHER = "rt ci", "./feast --prove"
 FIELD = re.compile(r"^(\w+): (.*)$", re.MULTILINE)
 HOW = f"""
 The program's value is what `sha256sum feast` prints in this folder. That of the sources is what this line prints at the top
-of the repository, where `sources.py` in tools/proved says what counts as a source:
+of the repository, where `sources.py` in tools/feast_lab/proved says what counts as a source:
 {LINE}
 """
 

@@ -10,11 +10,9 @@ import argparse
 import shutil
 import subprocess
 import sys
-from pathlib import Path
 
+from ..base.children import words_of
 from ..base.errors import LabError
-
-FOLDER = Path(__file__).resolve().parents[2] / "recheck"
 
 
 def add_arguments(parser: argparse.ArgumentParser) -> None:
@@ -31,4 +29,5 @@ def run(arguments: argparse.Namespace) -> int:
         raise LabError("recheck: it needs a world, a report and element files; with --step a world and element files")
     words = ["--call", "step" if arguments.step else "audit", *arguments.files]
     sys.stdout.flush()
-    return subprocess.run([shutil.which("pypy3") or sys.executable, "-B", str(FOLDER), *words], check=False).returncode
+    call = words_of("recheck.main", "main", shutil.which("pypy3") or sys.executable)
+    return subprocess.run([*call, *words], check=False).returncode

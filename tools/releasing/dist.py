@@ -11,9 +11,9 @@ import shutil
 import sys
 from pathlib import Path
 
-from proved.found import BUILT, DIST
-from proved.record import GATE, Record
-from proved.sources import SourcesError, digest
+from feast_lab.proved.found import BUILT, DIST
+from feast_lab.proved.record import GATE, Record
+from feast_lab.proved.sources import SourcesError, digest
 
 TOP = Path(__file__).resolve().parent.parent.parent
 

@@ -4,7 +4,7 @@ import re
 from pathlib import Path
 from typing import Any
 
-from proved.record import NAME, Record, digest_of
+from ...proved.record import NAME, Record, digest_of
 
 from ..base.errors import LabError
 from ..base.program import TOP, Program

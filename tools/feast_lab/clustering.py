@@ -4,7 +4,7 @@ from typing import Any
 
 import numpy
 
-from feast_lab.arrays import Array, masked
+from .arrays import Array, masked
 
 AROUND = ((0, 1), (1, 0), (0, -1), (-1, 0))
 DIAGONALS = ((1, 1), (1, -1), (-1, 1), (-1, -1))

@@ -3,7 +3,6 @@
   sources   the sources of the program, and their digest
   record    what was proved: the kit, the program and the sources
   found     where such a program may lie, which one is taken, and what is kept of that for the next call
-  dist      the folder dist/, which has the program that the gate has made
 
-`./feast` reads what is kept, by the line of `listing.sh`, and calls this package when that doesn't hold any more.
+`./feast` reads what is kept, by the line of `listing.sh`, and calls tools/proved when that doesn't hold any more.
 """

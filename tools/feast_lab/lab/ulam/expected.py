@@ -1,11 +1,11 @@
 """What could stand in place of a token that the grammar refuses."""
 from typing import NoReturn
 
-from recheck.faults import Refused
-from recheck.heirs import Heads, without_heads
-from recheck.parser import FileReader
-from recheck.tokens import Token, tokens_of
-from recheck.trees import Call, Constant, Expr, Index, Path, Statement, TypeRef, Width
+from ...recheck.faults import Refused
+from ...recheck.heirs import Heads, without_heads
+from ...recheck.parser import FileReader
+from ...recheck.tokens import Token, tokens_of
+from ...recheck.trees import Call, Constant, Expr, Index, Path, Statement, TypeRef, Width
 
 from .tokens import Source
 

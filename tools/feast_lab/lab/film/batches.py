@@ -15,6 +15,7 @@ from dataclasses import dataclass
 from functools import partial
 from pathlib import Path
 
+from ..base.children import words_of
 from ..base.errors import LabError
 from ..base.program import Program
 from ..formats.world import World
@@ -27,9 +28,6 @@ from .replays import Plane
 
 LEAST = 200_000  # events of a batch: with fewer it would hardly be worth a process
 MOST_JOBS = 4  # side by side; each has the text of a report in memory
-OWN = __name__  # of this module, from the top package on
-TOOLS = Path(__file__).resolve().parents[OWN.count(".")]
-CALL = f"import sys; sys.path.insert(0, sys.argv[1]); from {OWN} import serve; serve()"
 
 
 @dataclass(frozen=True)
@@ -106,7 +104,7 @@ def batches(plane: Plane, legs: Sequence[KeptLeg], moments: Collection[int]) -> 
 
 def played_apart(running: list["subprocess.Popen[bytes]"], batch: Batch) -> PlayedBatch:
     """Has a process of its own, which is put to those that run, play a batch."""
-    words = [sys.executable, "-B", "-c", CALL, str(TOOLS)]
+    words = words_of("lab.film.batches", "serve")
     with subprocess.Popen(words, stdin=subprocess.PIPE, stdout=subprocess.PIPE, stderr=subprocess.PIPE) as process:
         running.append(process)
         out, errors = process.communicate(pickle.dumps(batch))
@@ -120,7 +118,7 @@ def played_apart(running: list["subprocess.Popen[bytes]"], batch: Batch) -> Play
     return found
 
 
-def serve() -> None:
+def serve(_words: Sequence[str]) -> int:
     """Plays the batch of standard input; writes what it came to, or why it can't be played, to standard output."""
     batch = pickle.load(sys.stdin.buffer)
     try:
@@ -128,6 +126,7 @@ def serve() -> None:
     except (LabError, Disagreement) as error:
         found = error
     sys.stdout.buffer.write(pickle.dumps(found))
+    return 0
 
 
 def played(batch: Batch) -> PlayedBatch:

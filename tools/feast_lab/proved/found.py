@@ -15,8 +15,8 @@ from contextlib import suppress
 from dataclasses import dataclass
 from pathlib import Path
 
-from proved.record import NAME, Record, digest_of
-from proved.sources import SourcesError, digest, names
+from .record import NAME, Record, digest_of
+from .sources import SourcesError, digest, names
 
 KEPT = "crates/feast/out/found"
 LISTING = Path(__file__).resolve().with_name("listing.sh")

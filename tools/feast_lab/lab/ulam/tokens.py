@@ -4,8 +4,8 @@ from bisect import bisect_right
 from dataclasses import dataclass
 from functools import cached_property
 
-from recheck.faults import Refused
-from recheck.tokens import KEYWORDS, scanned
+from ...recheck.faults import Refused
+from ...recheck.tokens import KEYWORDS, scanned
 
 KINDS = ("name", "type", "number", "end")
 

@@ -1,8 +1,8 @@
 """The trees of element files, which are those of the second reader (tools/recheck), and ways through them."""
 from collections.abc import Iterator, Sequence
 
-from recheck.faults import Spot
-from recheck.trees import (
+from ...recheck.faults import Spot
+from ...recheck.trees import (
     ATOM, BOOL, RANDOM, VOID, WINDOW, As, Assign, Block, Call, Cast, Class, Constant, Declare, Do, Expr, Field, Function, Group,
     If, Index, Instance, Is, Jump, Local, Loop, Member, Number, NumberType, Pair, Path, PlainType, Prefix, Return, Seen, Self,
     Statement, Step, Truth, Type, Typedef, TypeRef, Word)

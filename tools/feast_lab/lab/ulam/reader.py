@@ -2,15 +2,15 @@
 from collections.abc import Iterator, Sequence
 from functools import cached_property
 
-from recheck.faults import Refused
-from recheck.heirs import Heads, Line, flatten, without_heads
-from recheck.layout import lay_out, type_text
-from recheck.names import BUILT_IN, NUMBERS, declare_all
-from recheck.parser import parse
-from recheck.scopes import CALLS as LIBRARY, Scopes
-from recheck.tokens import tokens_of
-from recheck.types import FunctionTyper
-from recheck.typing_rules import ARGUMENTS, MOST_PLAIN_INT, family, is_assignable, is_plain
+from ...recheck.faults import Refused
+from ...recheck.heirs import Heads, Line, flatten, without_heads
+from ...recheck.layout import lay_out, type_text
+from ...recheck.names import BUILT_IN, NUMBERS, declare_all
+from ...recheck.parser import parse
+from ...recheck.scopes import CALLS as LIBRARY, Scopes
+from ...recheck.tokens import tokens_of
+from ...recheck.types import FunctionTyper
+from ...recheck.typing_rules import ARGUMENTS, MOST_PLAIN_INT, family, is_assignable, is_plain
 
 from .tokens import Source, Token, tokens
 from .trees import (

@@ -8,11 +8,13 @@ from contextlib import contextmanager
 from dataclasses import dataclass
 from pathlib import Path
 
-from proved.found import NotFound, find
+from ...proved.found import NotFound, find
 
 from .errors import LabError
 
-TOP = Path(__file__).resolve().parents[3]
+PACKAGE = Path(__file__).resolve().parents[2]
+# The clone or the released folder; where the package is installed, what the lab needs of these lies in the package.
+TOP = PACKAGE if (PACKAGE / "VERSION").exists() else PACKAGE.parents[1]
 SOURCES = TOP / "crates.txt"
 # The program of a released folder, which has no sources.
 RELEASED = TOP / "bin" / "feast"
