@@ -10,7 +10,8 @@ writes nothing to standard error but how far it has come and whether tiles kept 
 ends with `writes` has what the last one wrote, and one after `begins with` the first lines of it. The map of crates
 has a row for each crate of crates.txt. tools/work makes no folder where one is, or inside the clone. A page has at
 most 200 lines. docs/README.md, which the README names, leads to each page of docs, and each of these says below its
-title, in a line, whom it is for. The tables that examples/figures makes anew stand in their pages.
+title, in a line, whom it is for. The tables that examples/figures makes anew stand in their pages; of the one of runs on
+threads, which differ, the heads and the examples do.
 """
 from __future__ import annotations
 
@@ -190,6 +191,17 @@ def figure_fault(program: str, name: str, page: str) -> Optional[str]:
     return said(figure_faults(program, name, page))
 
 
+def thread_faults(program: str) -> list[str]:
+    """What of the table of runs on threads isn't in its page, numbers aside: its heads, and the names of its rows."""
+    done = call(program, "python3 examples/figures threads --runs 1", TOP, seconds=1800)
+    if done.returncode:
+        return [f"python3 examples/figures threads fails: {done.stderr[-300:]}"]
+    heads, _, *rows = done.stdout.splitlines()
+    page = (TOP / "examples/README.md").read_text()
+    begin = [heads, *(row[:row.index(" |", 2) + 2] for row in rows)]
+    return [f"examples/README.md lacks a line that begins with {it}" for it in begin if f"\n{it}" not in page]
+
+
 def said(found: list[str]) -> Optional[str]:
     """Faults as one text; None if there are none."""
     return "\n".join(found) or None
@@ -201,6 +213,7 @@ def checks(program: pathlib.Path) -> Iterator[Check]:
         yield Check(page, partial(page_fault, str(program), TOP / page))
     for name, page in figure_pages().items():
         yield Check(f"figures/{name}", partial(figure_fault, str(program), name, page))
+    yield Check("figures/threads", lambda: said(thread_faults(str(program))))
     yield Check("the map of crates", lambda: said(map_faults()))
     yield Check("the walk to a new operator", lambda: said(walk_faults()))
     yield Check("the list of pages", lambda: said(list_faults()))

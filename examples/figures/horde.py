@@ -1,12 +1,12 @@
 """The tables of examples/horde.md."""
 from collections import Counter
 
-from runs import Atom, Report, changed, each, elements, report, seeded, span, table, with_atoms, world
+from runs import Atom, Report, changed, each, elements, legs, report, seeded, span, table, world
 
 SEEDS = (41000, 51000, 61000, 71000, 81000)
 AFTER = (43000, 53000, 63000, 73000, 83000)
 MOMENTS = (50_000, 100_000, 200_000, 400_000)
-# A leg of the runs in which what consumers take in is counted as they go, and how many legs there are.
+# The attempts of a leg of the chains in which what consumers take in is counted leg by leg, and how many legs there are.
 LEG, LEGS = 4_000, 50
 
 
@@ -36,15 +36,14 @@ def moment(attempts: int) -> list[object]:
     return [attempts, span(it.counts()["Sorter"] for it in found), span(map(taken, found)), span(map(mistake, found), 1)]
 
 
-def legs(seed: int) -> tuple[int, int]:
-    """What consumers take in in so many short legs: all numbers, those of consumers that are gone included, and what the
-    tallies have at the end. Legs take every second seed."""
-    text, total, before = world("horde", attempts=LEG), 0, dict[int, int]()
-    for leg in range(LEGS):
-        found = report(changed(text, seed=seed + 2 * leg), elements("horde", "regulator"))
+def gains(seed: int) -> tuple[int, int]:
+    """What consumers take in in the legs of the chain with a seed: all numbers, those of consumers that are gone included,
+    and what the tallies have at the end."""
+    total, before = 0, dict[int, int]()
+    for found in legs(world("horde", attempts=LEG, seed=seed), LEGS, elements("horde", "regulator")):
         now = tally(found.atoms)
         total += sum(count - before.get(row, 0) if count >= before.get(row, 0) else count for row, count in now.items())
-        text, before = with_atoms(text, found.atoms), now
+        before = now
     return total, sum(before.values())
 
 
@@ -71,7 +70,7 @@ def stepped() -> list[object]:
 
 def tables() -> list[str]:
     """All tables of the page."""
-    counted = each(legs, SEEDS)
+    counted = each(gains, SEEDS)
     attempts = LEG * LEGS
     heads = ("Sorters", "Numbers in the tallies", "Mean error")
     return [

@@ -31,7 +31,7 @@ def stepped(seed: int) -> tuple[int, int]:
 def tables() -> list[str]:
     """How long it takes."""
     alone, tiled = each(one_tile, SEEDS), each(stepped, SEEDS)
-    return [table(("Run", "Attempts of each tile until it is over", "Events a site until then"), [
+    return [table(("Run", "Attempts of each tile until it is finished", "Events per site until then"), [
         ("one tile", span(alone), span(it / SITES for it in alone)),
         ("four tiles, stepped", span(it for it, _ in tiled), span(events / SITES for _, events in tiled)),
     ])]

@@ -71,12 +71,6 @@ def changed(text: str, **lines: object) -> str:
     return text
 
 
-def with_atoms(text: str, atoms: Iterable[Atom]) -> str:
-    """A text of a world that begins with other atoms."""
-    kept = [line for line in text.splitlines() if not line.startswith("atom ")]
-    return "\n".join([*kept, *(f"atom {it.x} {it.y} {it.name} {it.state:018x}" for it in atoms), ""])
-
-
 def seeded(name: str, seed: int, **lines: object) -> str:
     """A stepped world with another seed, and that of its order 500 behind it."""
     return world(name, seed=seed, order=f"seed {seed + 500}", **lines)
@@ -102,6 +96,19 @@ def report(text: str, files: Sequence[str], verb: str = "run") -> Report:
     if done.returncode:
         raise ValueError(f"{' '.join(files)}: {done.stdout[:200].decode()}")
     return read(done.stdout)
+
+
+def legs(text: str, number: int, files: Sequence[str]) -> list[Report]:
+    """The planes that the legs of a chain leave, as `./lab chain` makes them of a world: so many legs, of which each makes
+    the attempts of the world and begins with the atoms of the one before. The reports are without journals."""
+    chain = changed(text.replace("feast 1\n", "chain 1\n", 1), attempts=f"{plan(text)}\nlegs {number}\njournal none")
+    reports = report(chain, files).text.split(b"feast 3\n")[1:]
+    return [read(b"feast 3\n" + it) for it in reports]
+
+
+def plan(text: str) -> int:
+    """How many attempts a world plans for each tile."""
+    return int(re.findall(r"(?m)^attempts (\d+)$", text)[0])
 
 
 def read(text: bytes) -> Report:

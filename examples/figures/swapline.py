@@ -1,4 +1,5 @@
 """The tables of examples/swapline.md."""
+from functools import cache
 from pathlib import Path
 from tempfile import TemporaryDirectory
 
@@ -18,19 +19,23 @@ def row(moment: int) -> list[object]:
     return [moment, span(map(min, lines)), span(map(max, lines)), span(missing), span(it.counts()["Thorn"] for it in found)]
 
 
-def is_swept(begun: set[tuple[int, int]], found: Report) -> bool:
+@cache
+def begun() -> set[tuple[int, int]]:
+    """Where the stones begin."""
+    lines = (line.split() for line in world("swapline").splitlines() if line.startswith("atom "))
+    return {(int(words[1]), int(words[2])) for words in lines if words[3] == "Stone"}
+
+
+def is_swept(found: Report) -> bool:
     """Whether the line is in column 0 and each stone one column further east than it began."""
     stones = {(atom.x, atom.y) for atom in found.of("Stone")}
-    return stones == {(x + 1, y) for x, y in begun} and {(atom.x, atom.y) for atom in found.of("Line")} == {(0, y) for y in range(ROWS)}
+    return stones == {(x + 1, y) for x, y in begun()} and {(atom.x, atom.y) for atom in found.of("Line")} == {(0, y) for y in range(ROWS)}
 
 
 def swept(name: str, files: tuple[str, ...]) -> list[object]:
     """A row of the table of the runs that end well."""
-    text = world("swapline")
-    begun = {(int(x), int(y)) for word, x, y, kind in (line.split()[:4] for line in text.splitlines() if line.startswith("atom "))
-             if (word, kind) == ("atom", "Stone")}
     found = each(lambda seed: report(world("swapline", seed=seed), files), MORE)
-    return [name, sum(is_swept(begun, it) for it in found), span(it.counts()["Thorn"] for it in found)]
+    return [name, sum(map(is_swept, found)), span(it.counts()["Thorn"] for it in found)]
 
 
 def tables() -> list[str]:

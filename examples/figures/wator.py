@@ -4,10 +4,10 @@ from pathlib import Path
 from statistics import correlation
 from tempfile import TemporaryDirectory
 
-from runs import changed, each, elements, first, report, source, span, table, with_atoms, world
+from runs import each, elements, first, legs, report, source, span, table, world
 
 SEEDS = (61000, 71000, 81000, 91000, 101000)
-# A leg of the runs in which animals are counted, how many there are, and how many are left out at the start.
+# The attempts of a leg of the chains in which animals are counted, how many legs there are, and how many are left out at the start.
 LEG, LEGS, BEGUN = 5_000, 80, 4
 # Constants with which the waves are higher, and up to how many attempts of them is looked at.
 HIGHER = {"breeding = 3;": "breeding = 4;", "breeding = 10;": "breeding = 12;", "starving = 4;": "starving = 8;"}
@@ -15,13 +15,9 @@ STEP, MOST = 20_000, 400_000
 
 
 def course(seed: int) -> list[Counter[str]]:
-    """The numbers of both kinds after each leg. Legs take every second seed."""
-    text, counts = world("wator", attempts=LEG), []
-    for leg in range(LEGS):
-        found = report(changed(text, seed=seed + 2 * leg), elements("wator"))
-        text = with_atoms(text, found.atoms)
-        counts.append(found.counts())
-    return counts[BEGUN:]
+    """The numbers of both kinds after each leg of the chain with a seed."""
+    found = legs(world("wator", attempts=LEG, seed=seed), LEGS, elements("wator"))
+    return [it.counts() for it in found[BEGUN:]]
 
 
 def alike(first_row: list[int], second_row: list[int], behind: int) -> float:
@@ -33,7 +29,7 @@ def period(row: list[int]) -> int:
     """After how many legs a row is most like itself again: the first peak of its correlation behind the first valley."""
     found = [alike(row, row, behind) for behind in range(len(row) // 2)]
     valley = next(at for at in range(1, len(found)) if found[at + 1] > found[at])
-    return max(range(valley, min(len(found), valley + 16)), key=found.__getitem__)
+    return next(at for at in range(valley + 1, len(found)) if found[at + 1] < found[at])
 
 
 def delay(fish: list[int], sharks: list[int]) -> int:
@@ -45,7 +41,8 @@ def waves(seed: int) -> list[object]:
     """A row of the table of waves."""
     counts = course(seed)
     fish, sharks = [it["Fish"] for it in counts], [it["Shark"] for it in counts]
-    return [str(seed), span(fish), span(sharks), LEG * period(fish), LEG * delay(fish, sharks)]
+    wave = period(fish)
+    return [str(seed), span(fish), span(sharks), LEG * wave, f"{alike(fish, fish, wave):.2f}", LEG * delay(fish, sharks)]
 
 
 def at_end(seed: int) -> Counter[str]:
@@ -65,7 +62,7 @@ def tables() -> list[str]:
         files = (source("wator", HIGHER, Path(folder)),)
         lost = each(lambda seed: gone(seed, files), SEEDS)
     return [
-        table(("Seed", "Fish", "Sharks", "Attempts from wave to wave", "Sharks behind the fish"), each(waves, SEEDS)),
+        table(("Seed", "Fish", "Sharks", "Attempts from wave to wave", "Correlation", "Sharks behind the fish"), each(waves, SEEDS)),
         table(("Attempts", "Fish", "Sharks"), [(1_000_000, span(it["Fish"] for it in ends), span(it["Shark"] for it in ends))]),
         table(("Runs without sharks at the end", "Sharks gone after attempts"), [
             (f"{sum(it is not None for it in lost)} of {len(SEEDS)}", span(it for it in lost if it is not None))]),

@@ -6,17 +6,25 @@ SEEDS = (61000, 71000, 81000, 91000, 101000)
 SENT, HEARD = (9, 8), (2, 8)
 
 
+def sent(found: Report) -> int:
+    """How many pulses the clock has sent."""
+    return found.of("Clock")[0].member(*SENT)
+
+
+def heard(found: Report) -> int:
+    """How many pulses the bell has heard."""
+    return found.of("Bell")[0].member(*HEARD)
+
+
 def row(name: str, found: list[Report]) -> list[object]:
     """A row of the table."""
-    sent = [it.of("Clock")[0].member(*SENT) for it in found]
-    heard = [it.of("Bell")[0].member(*HEARD) for it in found]
     events = span(it.events / 256 for it in found)
-    return [name, events, span(sent), span(heard), span(a - b for a, b in zip(sent, heard))]
+    return [name, events, span(map(sent, found)), span(map(heard, found)), span(sent(it) - heard(it) for it in found)]
 
 
 def tables() -> list[str]:
     """The pulses of a run."""
     alone = each(lambda seed: report(world("wire", seed=seed), elements("wire")), SEEDS)
     tiled = each(lambda seed: report(seeded("wire-tiles", seed), elements("wire"), "step"), SEEDS)
-    heads = ("Run", "Events a site", "Pulses sent", "Heard", "On their way")
+    heads = ("Run", "Events per site", "Pulses sent", "Heard", "On their way")
     return [table(heads, [row("one tile", alone), row("four tiles, stepped", tiled)])]
