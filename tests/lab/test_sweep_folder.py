@@ -77,6 +77,35 @@ class Folders(FolderCase):
             self.assertEqual(found, [row["Regulator"] for row in course])
         self.assertNotEqual(rows[2]["Regulator"], rows[-1]["Regulator"])
 
+    def test_noise(self) -> None:
+        """--noise is that of a chain, over the plane of each run, whatever its size; a name in braces takes the values that are set."""
+        options = ["--legs", "2", "--at", "2:clear:0,0,2,2", "--count", "Regulator.part!=0"]
+        words = ["--set", "p=0,1", "--set", "tiles=2x1,3x2", "--noise", "{p}", *options]
+        self.elements = self.file("regulator.ulam", SOURCE.replace("Random random;", "Random random; Bits(60) part;", 1))
+        rows = self.rows(self.passes(*self.words(*words)))
+        self.assertEqual(list(rows[0])[:4], ["p", "tiles", "seed", "leg"])
+        hand = self.file("hand.ulam", self.elements.read_text())
+        for p in ("0", "1"):
+            for tiles in ("2x1", "3x2"):
+                world = self.file("hand.world", WORLD.replace("tiles 2 1", f"tiles {tiles.replace('x', ' ')}"))
+                chain = self.room / f"{p} {tiles}"
+                self.passes("chain", chain, "--step", *options, "--noise", p, world, hand)
+                course = self.rows((chain / "course.csv").read_text())
+                found = [row for row in rows if (row["p"], row["tiles"]) == (p, tiles)]
+                self.assertEqual([list(row.values())[5:] for row in found], [list(row.values())[2:] for row in course])
+        self.assertNotEqual(*([row["count(Regulator.part!=0)"] for row in rows if row["p"] == p] for p in ("0", "1")))
+        self.passes(*self.words(*words, "--keep", "reports", "--into", self.out))
+        self.assertEqual(self.passes("sweep", "--audit", self.out), "yes\n")
+        run = self.out / "runs" / "00004"
+        self.assertEqual((run / "acts.txt").read_text(), "2:clear:0,0,2,2\nevery:1:flip:1:0,0,24,16\n")
+        self.assertEqual(json.loads((self.out / "sweep.json").read_text())["noise"], "{p}")
+        for more, says in [
+            (["--noise", "{p}"], "--noise {p}: p has no values; give them by --set p=A,B,.."),
+            (["--noise", "2"], "--at every:1:flip:2:0,0,16,8: 2 is no probability"),
+            (["--noise", "0.1", "--legs", "2", "--into", self.out], "the sweep was planned with other"),
+        ]:
+            self.refused(says, *self.words(*more))
+
     def test_world(self) -> None:
         """Attempts, the size of a tile and the number of tiles are set as in the world."""
         rows = self.rows(self.passes(*self.words("--set", "attempts=100:300:200", "--set", "size=8x8,16x9", "--set", "tiles=2x1,3x2",

@@ -132,7 +132,7 @@ class Tasks(FolderCase):
         self.refused("expected 2 arguments", "sweep", "--task", self.out)
         kept = contents(self.out)
         for name, old, new, says in [
-            ("sweep.json", "feast sweep 3", "feast sweep 1", "the plan has the form 'feast sweep 1', and this lab makes those of"),
+            ("sweep.json", "feast sweep 4", "feast sweep 1", "the plan has the form 'feast sweep 1', and this lab makes those of"),
             ("sweep.json", "{", "", "sweep.json: no plan of a sweep"),
             ("sweep.json", '"form"', '"from"', "sweep.json: no plan of a sweep"),
             ("sweep.json", '"repeat"', '"repeats"', "sweep.json: not as the lab wrote it"),

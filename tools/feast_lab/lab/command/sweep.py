@@ -5,15 +5,15 @@ Each --set names what is set, and its values, such as A,B,C or a range FIRST:LAS
   attempts, size, tiles
                     the numbers of the world's lines of these names; sizes are written as 16x16
   fill.Element      a density: an empty site gets an atom of the element with this probability
-  NAME              if an act of --at has it in braces, as in --at '5:erase:{p}:0,0,8,8' --set p=0.1,0.2
+  NAME              if an act of --at, or --noise, has it in braces, as in --at '5:erase:{p}:0,0,8,8' --set p=0.1,0.2
 After a --set, --with names something else that is set, with as many values: these go together, one by one, as in
 --set tiles=1x1,2x2 --with size=32x32,16x16, which makes two runs of one plane.
 Every combination of the values is run R times, with the same seeds: S, S + L * (tiles + 2),
 S + 2 * L * (tiles + 2) .. modulo 2^64, where S is that of --seed or else of WORLD, and L is the number of legs.
 So no two tiles of two repetitions share a seed.
 
-A run is a single call, or with --legs a chain of that many, to which --at, --until, --drift and the measures belong
-as they do for the verb chain. A row has the values, the seed, with --legs the leg and its seed, the events and the
+A run is a single call, or with --legs a chain of that many, to which --at, --noise, --until, --drift and the measures
+belong as they do for the verb chain. A row has the values, the seed, with --legs the leg and its seed, the events and the
 abandoned attempts, aeps (the events per live site), with --drift how far the tiles were apart, how many atoms of each
 element there are at the end, and the measures. The rows come in the order of the values; with --legs each leg has
 one, and leg 0 is the start.
@@ -71,6 +71,7 @@ def add_arguments(parser: argparse.ArgumentParser) -> None:
     parser.add_argument("--step", action="store_true", help="stepped runs, on one thread; else each tile has a thread")
     parser.add_argument("--seed", metavar="S", type=int, help="the first seed")
     parser.add_argument("--at", metavar="LEG:ACT", action="append", default=[], help="do something to the plane before a leg, as in the verb chain")
+    parser.add_argument("--noise", metavar="P", help="before each leg, change a bit of each atom with this probability")
     parser.add_argument("--until", metavar="RULE", help=f"end a run after the first leg at whose end this holds: {RULE_FORM}")
     parser.add_argument("--keep", choices=["none", "reports"], default="none", help="keep each run as a chain with its reports")
     parser.add_argument("--jobs", metavar="N", type=int, help="how many runs are made, or audited, side by side")
@@ -116,7 +117,8 @@ def run(arguments: argparse.Namespace) -> int:
 def wanted_sweep(arguments: argparse.Namespace) -> WantedSweep:
     """What the words say of a sweep."""
     return WantedSweep(arguments.world, arguments.files, arguments.sets, arguments.repeat, arguments.legs, arguments.step,
-                       arguments.seed, arguments.at, arguments.until, arguments.keep, arguments.measures, arguments.drift)
+                       arguments.seed, arguments.at, arguments.until, arguments.keep, arguments.measures, arguments.drift,
+                       arguments.noise)
 
 
 def gathered(sweep: Sweep) -> int:

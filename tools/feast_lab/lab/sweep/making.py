@@ -20,8 +20,8 @@ from .values import Setting, settings
 
 @dataclass(frozen=True)
 class WantedSweep:
-    """What a sweep is to be; `sets`, `at` and `until` are as the options have them, `measures` are columns. With `drift` the
-    rows have how far the tiles were apart."""
+    """What a sweep is to be; `sets`, `at`, `until` and `noise` are as the options have them, `measures` are columns. With `drift`
+    the rows have how far the tiles were apart."""
 
     world: Path
     files: Sequence[Path]
@@ -35,6 +35,7 @@ class WantedSweep:
     keep: str
     measures: Sequence[str]
     drift: bool
+    noise: str | None = None
 
     def plan(self) -> Plan:
         """The plan. Refuses what no run could do."""
@@ -47,10 +48,11 @@ class WantedSweep:
         if self.until is not None:
             Until.of(self.until, layout)
         texts = [read_byte_text(file) for file in self.files]
-        found = settings(self.sets, texts, layout.elements, self.at)
+        acts = [*(Setting("--at", text) for text in self.at), *(Setting("--noise", text) for text in [self.noise] if text is not None)]
+        found = settings(self.sets, texts, layout.elements, acts)
         plan = Plan(FORM, digest(read_bytes(self.world)), [digest(text.encode("latin-1")) for text in texts],
                     found.sets, found.together, self.repeat, first_seed(world, self.seed), self.legs, self.step, self.keep,
-                    list(self.at), self.until, self.drift, measures, [*layout.elements, *measures])
+                    list(self.at), self.noise, self.until, self.drift, measures, [*layout.elements, *measures])
         if plan.runs > MOST_RUNS:
             raise LabError(f"the sweep would have {plan.runs} runs, at most {MOST_RUNS}")
         return plan

@@ -18,12 +18,13 @@ from ..base.errors import LabError
 from ..base.files import PART, cause, read_byte_text, read_bytes, read_text
 from ..base.inputs import ELEMENTS, START, Inputs
 from ..base.seeds import nth
+from ..chain.acts import noise
 from ..chain.course import DRIFT
 from ..formats.constants import with_values
 from ..formats.world import World
-from .values import OF_WORLD, FILL, set_world
+from .values import OF_WORLD, FILL, set_world, sized
 
-FORM = "feast sweep 3"
+FORM = "feast sweep 4"
 PLAN = "sweep.json"
 RUNS = "runs"
 TABLE = "sweep.csv"
@@ -31,7 +32,7 @@ MOST_RUNS = 1_000_000
 NONE: type = type(None)
 KINDS: dict[str, list[type]] = {
     "form": [str], "world": [str], "elements": [list], "sets": [dict], "together": [list], "repeat": [int], "seed": [int], "legs": [int, NONE],
-    "step": [bool], "keep": [str], "at": [list], "until": [str, NONE], "drift": [bool], "measures": [list], "columns": [list]}
+    "step": [bool], "keep": [str], "at": [list], "noise": [str, NONE], "until": [str, NONE], "drift": [bool], "measures": [list], "columns": [list]}
 
 
 @dataclass(frozen=True)
@@ -49,6 +50,7 @@ class Plan:
     step: bool
     keep: str
     at: list[str]
+    noise: str | None  # the probability with which a bit of each atom is changed before each leg
     until: str | None
     drift: bool
     measures: list[str]
@@ -153,8 +155,11 @@ class Sweep(Inputs):
         return [with_values(read_byte_text(file), run.values).encode("latin-1") for file in self.files]
 
     def acts_of(self, run: PlannedRun) -> list[str]:
-        """What is done to the plane before legs of a run: each name in braces is its value."""
-        return [in_braces(act, run.values) for act in self.plan.at]
+        """What is done to the plane before legs of a run: each name in braces is its value. Noise is an act over its whole plane."""
+        acts = [in_braces(act, run.values) for act in self.plan.at]
+        if self.plan.noise is not None:
+            acts.append(noise(in_braces(self.plan.noise, run.values), sized(self.world, run.values)))
+        return acts
 
     def missing(self) -> list[int]:
         """The numbers of the runs that aren't over."""

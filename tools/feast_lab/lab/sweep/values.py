@@ -25,7 +25,8 @@ FORM = "it has to be Element.constant=A,B,.. or =FIRST:LAST:STEP, with numbers o
 
 @dataclass(frozen=True)
 class Setting:
-    """An option --set with its text, or --with: its values go with those of the --set before it, one by one."""
+    """An option with its text: --set, or --with, whose values go with those of the --set before it, one by one; or one that has
+    names in braces, whose values are set."""
 
     option: str
     text: str
@@ -42,14 +43,14 @@ class Settings:
     together: list[list[str]]
 
 
-def settings(options: Sequence[Setting], texts: Sequence[str], elements: Sequence[str], acts: Sequence[str]) -> Settings:
+def settings(options: Sequence[Setting], texts: Sequence[str], elements: Sequence[str], acts: Sequence[Setting]) -> Settings:
     """What the options name, and the values of each, for element files with these texts.
 
     A name is that of a constant, Element.constant; of a number of the world, `attempts`, `size` or `tiles`; of
-    a density, fill.Element; or one that stands in braces in an act of `--at`.
+    a density, fill.Element; or one that stands in braces in an act, which is the text of an --at or of --noise.
     """
     own = [constant.name for text in texts for constant in constants(text)]
-    in_acts = {name for act in acts for name in IN_BRACES.findall(act)}
+    in_acts = {name for act in acts for name in IN_BRACES.findall(act.text)}
     known = {*own, *OF_WORLD, *in_acts, *(FILL + element for element in elements)}
     found = Settings({}, [])
     for option in options:
@@ -82,12 +83,12 @@ def put(found: Settings, option: Setting, name: str, values: list[str]) -> None:
     found.sets[name] = values
 
 
-def refuse_open(acts: Sequence[str], sets: Mapping[str, object]) -> None:
+def refuse_open(acts: Sequence[Setting], sets: Mapping[str, object]) -> None:
     """Refuses acts with a name in braces that has no values."""
     for act in acts:
-        for name in IN_BRACES.findall(act):
+        for name in IN_BRACES.findall(act.text):
             if name not in sets:
-                raise LabError(f"--at {act}: {name} has no values; give them by --set {name}=A,B,..")
+                raise LabError(f"{act}: {name} has no values; give them by --set {name}=A,B,..")
 
 
 def values_of(option: Setting, part: str) -> list[str]:
@@ -108,8 +109,7 @@ def values_of(option: Setting, part: str) -> list[str]:
 
 def set_world(world: World, values: Mapping[str, str], seed: int) -> World:
     """The world with those of the values that are its own: attempts, size, tiles and densities."""
-    for name in values.keys() & set(OF_WORLD):
-        world = with_number(world, name, values[name])
+    world = sized(world, values)
     told = ", ".join(f"{name}={values[name]}" for name in values if name in OF_WORLD)
     if any(atom.x >= world.columns or atom.y >= world.rows for atom in world.atoms):
         raise LabError(f"--set {told}: atoms of the world lie outside of {world.columns} by {world.rows} sites")
@@ -122,6 +122,13 @@ def set_world(world: World, values: Mapping[str, str], seed: int) -> World:
     if sum(densities.values()) > 1:
         raise LabError(f"--set {FILL}..: the densities come to {float(sum(densities.values())):g}, above 1")
     return filled(world, densities, seed) if densities else world
+
+
+def sized(world: World, values: Mapping[str, str]) -> World:
+    """The world with those of the values that are its numbers: attempts, size and tiles."""
+    for name in values.keys() & set(OF_WORLD):
+        world = with_number(world, name, values[name])
+    return world
 
 
 def with_number(world: World, name: str, value: str) -> World:
