@@ -14,13 +14,15 @@ use Rattle.report_text.proofs.FormRead.{count_again, lines_are}
 use Rattle.report_text.proofs.PrintedLines.{counted_lines, each_line}
 use Rattle.report_text.proofs.ReadAgain.{form_left}
 use Rattle.report_text.specs.Again.{AreFormed, IsDrawablePlan, entries_in}
+use Rattle.report_text.specs.Entries.{Entries}
 use Rattle.report_text.specs.First.{behind_lines, count_in, lines_counted}
 use Rattle.report_text.specs.Forms.{count_form}
 use Rattle.report_text.specs.JournalText.{abandoned_fields, count_fields, record_fields}
 use Rattle.report_text.specs.OneReport.{AreAbandonedWords, AreRecordWords}
-use Rattle.report_text.specs.Report.{ReportValue, atom_fields, report_of, shown_atoms}
-use Rattle.report_text.specs.ReportForm.{IsReportOf, IsSmallAbandoned, IsSmallRecord}
+use Rattle.report_text.specs.Report.{atom_fields, report_of, shown_atoms}
+use Rattle.report_text.specs.ReportForm.{IsSmallAbandoned, IsSmallRecord}
 use Rattle.report_text.specs.Short.{short_abandoned_fields, short_header, short_record_fields}
+use Rattle.report_text.specs.ShortForm.{short_lines_of}
 use Rattle.report_text.specs.ShortLaws.{AreInARow, IsFirstReport}
 use Rattle.text_lines.proofs.Cuts.{ended_at}
 use Rattle.text_lines.proofs.Joined.{fields_again}
@@ -115,20 +117,19 @@ short_record_line r p = record { some = omega arith; high = rw (decimal_high r.s
 short_abandoned_line : (a : Abandoned) → AreAbandonedWords a → IsLine (short_abandoned_fields a)
 short_abandoned_line a p = record { some = omega arith; high = rw (decimal_high a.tile p.0, decimal_high a.attempt p.1, decimal_high a.edge p.4, decimal_high a.holder p.5, decimal_high a.holder_attempt p.6) refl }
 
-pub short_lines : (names : List (List ℕ)) (m : MapValue) (plan : PlanValue) (v : ReportValue) (form : IsReportOf m plan (report_of names v) (entries_in v)) → All IsLine (map (atom_fields names) (shown_atoms v.grid))
-    → All IsLine (kinds short_header (length (shown_atoms v.grid)) (length v.records) (length v.abandoned) (map (atom_fields names) (shown_atoms v.grid)) (map short_record_fields v.records) (map short_abandoned_fields v.abandoned))
-short_lines names m plan v form sites =
-    let atoms = map (atom_fields names) (shown_atoms v.grid) in
-    let events = map short_record_fields v.records in
-    let gone = map short_abandoned_fields v.abandoned in
-    let front = count_fields (codes "atoms") (length (shown_atoms v.grid)) ∷ atoms in
-    let journal = count_fields (codes "journal") (length v.records) ∷ events in
-    let last = count_fields (codes "abandoned") (length v.abandoned) ∷ gone in
+pub short_lines : (sites : List (List (List ℕ))) (e : Entries) → All IsLine sites → All IsSmallRecord e.records → All IsSmallAbandoned e.abandoned → e.sites < 2 ^ 32 → length e.records < 2 ^ 32 → length e.abandoned < 2 ^ 32
+    → All IsLine (short_lines_of sites e)
+short_lines sites e lines small ends few_sites few_records few_abandoned =
+    let events = map short_record_fields e.records in
+    let gone = map short_abandoned_fields e.abandoned in
+    let front = count_fields (codes "atoms") e.sites ∷ sites in
+    let journal = count_fields (codes "journal") (length e.records) ∷ events in
+    let last = count_fields (codes "abandoned") (length e.abandoned) ∷ gone in
     All-cons IsLine short_header (front ++ (journal ++ last)) (record { some = omega arith; high = refl })
-    (All-append IsLine front (journal ++ last) (counted_lines (codes "atoms") (length (shown_atoms v.grid)) atoms refl (let few = form.few_sites in omega (arith, few)) sites)
+    (All-append IsLine front (journal ++ last) (counted_lines (codes "atoms") e.sites sites refl (omega (arith, few_sites)) lines)
     (All-append IsLine journal last
-    (counted_lines (codes "journal") (length v.records) events refl (let few = form.few_records in omega (arith, few)) (each_line IsSmallRecord short_record_fields (λ r p. short_record_line r (record_words r p)) v.records form.small))
-    (counted_lines (codes "abandoned") (length v.abandoned) gone refl (let few = form.few_abandoned in omega (arith, few)) (each_line IsSmallAbandoned short_abandoned_fields (λ a p. short_abandoned_line a (abandoned_words a p)) v.abandoned form.abandoned))))
+    (counted_lines (codes "journal") (length e.records) events refl (omega (arith, few_records)) (each_line IsSmallRecord short_record_fields (λ r p. short_record_line r (record_words r p)) e.records small))
+    (counted_lines (codes "abandoned") (length e.abandoned) gone refl (omega (arith, few_abandoned)) (each_line IsSmallAbandoned short_abandoned_fields (λ a p. short_abandoned_line a (abandoned_words a p)) e.abandoned ends))))
 
 pub in_a_row : (names : List (List ℕ)) (m : MapValue) (plan : PlanValue) → AreFormed names → IsDrawablePlan m plan → AreInARow names m plan
 unfolding form_left
@@ -141,6 +142,6 @@ in_a_row names m plan formed p = λ v rest left.
     record {
       whole = told (codes "feast" ∷ codes "1" ∷ []) (length shown) (length v.records) (length v.abandoned) atoms (map record_fields v.records) (map abandoned_fields v.abandoned) rest lines
           (length-map shown (atom_fields names)) (length-map v.records record_fields) (length-map v.abandoned abandoned_fields) form.few_sites form.few_records form.few_abandoned;
-      short = told short_header (length shown) (length v.records) (length v.abandoned) atoms (map short_record_fields v.records) (map short_abandoned_fields v.abandoned) rest (short_lines names m plan v form sites)
+      short = told short_header (length shown) (length v.records) (length v.abandoned) atoms (map short_record_fields v.records) (map short_abandoned_fields v.abandoned) rest (short_lines atoms (entries_in v) sites form.small form.abandoned form.few_sites form.few_records form.few_abandoned)
           (length-map shown (atom_fields names)) (length-map v.records short_record_fields) (length-map v.abandoned short_abandoned_fields) form.few_sites form.few_records form.few_abandoned;
     }

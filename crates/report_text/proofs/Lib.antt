@@ -22,6 +22,7 @@ pub mod Reported
 pub mod Shorter
 pub mod ShortForms
 pub mod ShortOne
+pub mod ShortRead
 pub mod ShortWhole
 pub mod Spellings
 pub mod Stamps

@@ -59,7 +59,7 @@ record_one r s p q e =
     let g = hex_one 16 r.seed s.seed p.5 q.5 seed in
     λ i. record { stamp = a i; tile = b i; attempt = c i; x = d i; y = f i; seed = g i }
 
-abandoned_one : (a b : Abandoned) → AreAbandonedWords a → AreAbandonedWords b → abandoned_fields a ≡ abandoned_fields b → a ≡ b
+pub abandoned_one : (a b : Abandoned) → AreAbandonedWords a → AreAbandonedWords b → abandoned_fields a ≡ abandoned_fields b → a ≡ b
 abandoned_one a b p q e =
     let tile : decimal a.tile ≡ decimal b.tile = cc in
     let attempt : decimal a.attempt ≡ decimal b.attempt = cc in

@@ -14,9 +14,11 @@ use Rattle.report_text.proofs.WideSaid.{widened_said}
 use Rattle.report_text.proofs.WideLines.{widened_next, widened_none, widened_open}
 use Rattle.report_text.specs.Again.{AreFormed, IsDrawablePlan, entries_in}
 use Rattle.report_text.specs.JournalText.{abandoned_fields, count_fields, record_fields}
+use Rattle.report_text.specs.Entries.{Entries}
 use Rattle.report_text.specs.Report.{atom_fields, report_of, shown_atoms}
-use Rattle.report_text.specs.ReportForm.{IsSiteLine}
-use Rattle.report_text.specs.Short.{short_abandoned_fields, short_header, short_record_fields}
+use Rattle.report_text.specs.ReportForm.{IsSiteLine, IsSmallAbandoned, IsSmallRecord, lines_of}
+use Rattle.report_text.specs.Short.{short_abandoned_fields, short_record_fields}
+use Rattle.report_text.specs.ShortForm.{short_lines_of}
 use Rattle.report_text.specs.ShortLaws.{IsTheShortOne}
 use Rattle.report_text.specs.Widened.{widened, widened_text}
 use Rattle.text_lines.proofs.Cuts.{ended_at}
@@ -114,34 +116,39 @@ module _ (m : MapValue) (plan : PlanValue) (p : IsDrawablePlan m plan) where
           let parts = split (line_text w) (line_text l) behind more said.lacks (line_lacks l line) (sym (append_assoc (line_text w) (10 ∷ []) behind) ∙ sym next ∙ e) in
           record { x = x; rest = rest; is = is; stands = said.again l many (ap fields parts.0 ∙ fields_again l line); behind = parts.1 }
 
-  text_undone : (ws ss : List (List (List ℕ))) (bytes : List ℕ) → All IsLine ws → AreUndone m plan.lists ws ss → widened_text m plan.lists bytes ≡ text_of ws → bytes ≡ text_of ss
-  text_undone [] [] bytes lines u e = nothing_undone m plan.lists bytes e
+  pub text_undone : (ws ss : List (List (List ℕ))) (bytes : List ℕ) → All IsLine ws → AreUndone m plan.lists ws ss → widened_text m plan.lists bytes ≡ text_of ws → (bytes ≡ text_of ss) × (map (widened m plan.lists) ss ≡ ws)
+  text_undone [] [] bytes lines u e = (nothing_undone m plan.lists bytes e, refl)
   text_undone [] (s ∷ ss) bytes lines u e = absurd u
   text_undone (w ∷ ws) [] bytes lines u e = absurd u
   text_undone (w ∷ ws) (s ∷ ss) bytes lines u e =
       let f = first_line bytes w (text_of ws) (All-head IsLine w ws lines) u.0.many (e ∙ append_assoc (line_text w) (10 ∷ []) (text_of ws)) in
       let rest = text_undone ws ss f.rest (All-tail IsLine w ws lines) u.1 f.behind in
-      let x : f.x ≡ line_text s = sym (fields_joined f.x) ∙ ap line_text (u.0.back (fields f.x) f.stands) in
-      f.is ∙ (λ i. x i ++ 10 ∷ rest i) ∙ sym (append_assoc (line_text s) (10 ∷ []) (text_of ss))
+      let back = u.0.back (fields f.x) f.stands in
+      let x : f.x ≡ line_text s = sym (fields_joined f.x) ∙ ap line_text back in
+      let wide : widened m plan.lists s ≡ w = ap (widened m plan.lists) (sym back) ∙ f.stands in
+      (f.is ∙ (λ i. x i ++ 10 ∷ rest.0 i) ∙ sym (append_assoc (line_text s) (10 ∷ []) (text_of ss)), λ i. wide i ∷ rest.1 i)
+
+-- only the lines of a short report stand for those of a whole one
+pub form_undone : (m : MapValue) (lists : List (List Attempt)) (sites : List (List (List ℕ))) (e : Entries) → All IsSiteLine sites → All IsSmallRecord e.records → All IsSmallAbandoned e.abandoned → AreUndone m lists (lines_of sites e) (short_lines_of sites e)
+form_undone m lists sites e each small ends =
+    let a = count_fields (codes "atoms") e.sites in
+    let r = count_fields (codes "journal") (length e.records) in
+    let g = count_fields (codes "abandoned") (length e.abandoned) in
+    let events = map record_fields e.records in
+    let short_events = map short_record_fields e.records in
+    let gone = map abandoned_fields e.abandoned in
+    let short_gone = map short_abandoned_fields e.abandoned in
+    let one : AreUndone m lists events short_events = undone_each m lists record_fields short_record_fields e.records (λ k d lt. record_undone m lists _ (small k d lt)) in
+    let two : AreUndone m lists gone short_gone = undone_each m lists abandoned_fields short_abandoned_fields e.abandoned (λ k d lt. abandoned_undone m lists _ (ends k d lt)) in
+    let journal = undone_more m lists (r ∷ events) (r ∷ short_events) (g ∷ gone) (g ∷ short_gone) (count_undone m lists (codes "journal") (length e.records) refl, one) (count_undone m lists (codes "abandoned") (length e.abandoned) refl, two) in
+    let all = undone_more m lists (a ∷ sites) (a ∷ sites) ((r ∷ events) ++ (g ∷ gone)) ((r ∷ short_events) ++ (g ∷ short_gone)) (count_undone m lists (codes "atoms") e.sites refl, undone_sites m lists sites each) journal in
+    (header_undone m lists, all)
 
 pub is_the_short_one : (names : List (List ℕ)) (m : MapValue) (plan : PlanValue) → AreFormed names → IsDrawablePlan m plan → IsTheShortOne names m plan
 unfolding form_left
 is_the_short_one names m plan formed p = λ bytes v left e.
     let form = form_left names m plan formed p v left in
-    let lines = lines_are m plan (report_of names v) (entries_in v) form in
-    let shown = shown_atoms v.grid in
-    let lists = plan.lists in
-    let atoms = map (atom_fields names) shown in
-    let a = count_fields (codes "atoms") (length shown) in
-    let r = count_fields (codes "journal") (length v.records) in
-    let g = count_fields (codes "abandoned") (length v.abandoned) in
-    let events = map record_fields v.records in
-    let short_events = map short_record_fields v.records in
-    let gone = map abandoned_fields v.abandoned in
-    let short_gone = map short_abandoned_fields v.abandoned in
-    let sites : All IsSiteLine atoms = form.each in
-    let one : AreUndone m lists events short_events = undone_each m lists record_fields short_record_fields v.records (λ k d lt. record_undone m lists _ (form.small k d lt)) in
-    let two : AreUndone m lists gone short_gone = undone_each m lists abandoned_fields short_abandoned_fields v.abandoned (λ k d lt. abandoned_undone m lists _ (form.abandoned k d lt)) in
-    let journal = undone_more m lists (r ∷ events) (r ∷ short_events) (g ∷ gone) (g ∷ short_gone) (count_undone m lists (codes "journal") (length v.records) refl, one) (count_undone m lists (codes "abandoned") (length v.abandoned) refl, two) in
-    let all = undone_more m lists (a ∷ atoms) (a ∷ atoms) ((r ∷ events) ++ (g ∷ gone)) ((r ∷ short_events) ++ (g ∷ short_gone)) (count_undone m lists (codes "atoms") (length shown) refl, undone_sites m lists atoms sites) journal in
-    text_undone m plan p ((codes "feast" ∷ codes "1" ∷ []) ∷ ((a ∷ atoms) ++ ((r ∷ events) ++ (g ∷ gone)))) (short_header ∷ ((a ∷ atoms) ++ ((r ∷ short_events) ++ (g ∷ short_gone)))) bytes lines (header_undone m lists, all) e
+    let said = entries_in v in
+    let lines = lines_are m plan (report_of names v) said form in
+    let sites = map (atom_fields names) (shown_atoms v.grid) in
+    (text_undone m plan p (lines_of sites said) (short_lines_of sites said) bytes lines (form_undone m plan.lists sites said form.each form.small form.abandoned) e).0

@@ -1,5 +1,5 @@
 -- The short report of what a run left stands for the whole one.
-use Rattle.std.proofs.Common.{ℕ, zero, suc, ◌≡◌, ◌+◌, ◌*◌, ◌^◌, ◌<◌, Bool, true, false, ◌&&◌, List, [], ◌∷◌, ◌++◌, All, bytes_eq, codes, decimal, drop, flat_map, length, map, refl, ap, sym, ◌∙◌, arith, Some, None, lt-ltb}
+use Rattle.std.proofs.Common.{ℕ, zero, suc, ◌≡◌, ◌+◌, ◌*◌, ◌^◌, ◌<◌, Bool, true, false, ◌&&◌, Option, List, [], ◌∷◌, ◌++◌, All, bytes_eq, codes, decimal, drop, flat_map, length, map, refl, ap, sym, ◌∙◌, arith, Some, None, lt-ltb}
 use Rattle.std.specs.List.{list_all}
 use Rattle.std.specs.Char.{is_ascii_uppercase}
 use Rattle.std.specs.Prelude.{nat_le, slice_get}
@@ -20,15 +20,20 @@ use Rattle.report_text.proofs.Exact.{ended, site_line}
 use Rattle.report_text.proofs.FormRead.{small_taken}
 use Rattle.report_text.proofs.InARow.{short_lines}
 use Rattle.report_text.proofs.ReadAgain.{form_left}
-use Rattle.report_text.specs.Again.{AreFormed, IsDrawablePlan}
+use Rattle.report_text.proofs.ShortForms.{short_record_exact}
+use Rattle.report_text.specs.Again.{AreFormed, IsDrawablePlan, entries_in}
+use Rattle.report_text.specs.Entries.{Entries}
 use Rattle.report_text.specs.Forms.{abandoned_form, is_header, record_form, take_below}
 use Rattle.report_text.specs.JournalText.{abandoned_fields, count_fields, record_fields}
 use Rattle.report_text.specs.Reading.{first_of}
-use Rattle.report_text.specs.Report.{atom_fields, report_lines, shown_atoms}
-use Rattle.report_text.specs.ReportForm.{IsSiteLine, IsSmallAbandoned, IsSmallRecord}
+use Rattle.report_text.specs.Report.{atom_fields, shown_atoms}
+use Rattle.report_text.specs.ReportForm.{IsSiteLine, IsSmallAbandoned, IsSmallRecord, lines_of}
 use Rattle.report_text.specs.Short.{short_abandoned_fields, short_header, short_record_fields}
+use Rattle.report_text.specs.ShortForm.{short_lines_of}
 use Rattle.report_text.specs.ShortLaws.{StandsForWhole}
-use Rattle.report_text.specs.Widened.{attempt_of, inside, is_short_header, or_abandoned, or_record, seed_of, short_abandoned_form, short_record_form, site_of, widened, widened_line, widened_other, widened_text}
+use Rattle.report_text.specs.Widened.{attempt_of, inside, is_short_header, or_abandoned, or_record, seed_of, short_abandoned_form, short_record_form, site_of, widened, widened_abandoned, widened_line, widened_other, widened_text}
+use Rattle.report_text.specs.declared.short_forms.ShortAbandoned.{ShortAbandoned}
+use Rattle.report_text.specs.declared.short_forms.ShortRecord.{ShortRecord}
 use Rattle.text_lines.proofs.Joined.{ended_again, fields_again}
 use Rattle.text_lines.proofs.Printed.{number_decimal}
 use Rattle.text_lines.specs.Fields.{field_number, is_digit}
@@ -131,6 +136,27 @@ first_is [] (suc i) = refl
 first_is (x ∷ xs) zero = refl
 first_is (x ∷ xs) (suc i) = first_is xs i
 
+-- what is told of an abandoned attempt
+abbrev pub told_of : Abandoned → ShortAbandoned
+told_of g = record { tile = g.tile; attempt = g.attempt; edge = g.edge; holder = g.holder; holder_attempt = g.holder_attempt }
+
+-- its short line stands for the whole one of the attempt at the site that the plan has for it
+pub gone_wide : (m : MapValue) (lists : List (List Attempt)) (g : Abandoned) → IsSmallAbandoned g → widened m lists (short_abandoned_fields g) ≡ abandoned_fields (widened_abandoned m lists (told_of g))
+unfolding short_abandoned_form one_field
+gone_wide m lists g small =
+    let last = decimal g.edge ∷ decimal g.holder ∷ decimal g.holder_attempt ∷ [] in
+    let tile = small_taken (2 ^ 32) g.tile (decimal g.attempt ∷ last) small.tile (omega arith) in
+    let attempt = small_taken (2 ^ 64) g.attempt last small.attempt (omega arith) in
+    let edge = small_taken (2 ^ 32) g.edge (decimal g.holder ∷ decimal g.holder_attempt ∷ []) small.edge (omega arith) in
+    let holder = small_taken (2 ^ 32) g.holder (decimal g.holder_attempt ∷ []) small.holder (omega arith) in
+    let short : short_abandoned_form (short_abandoned_fields g) ≡ Some (told_of g) =
+    rw (tile, attempt, edge, holder, number_decimal g.holder_attempt small.holder_attempt, lt-ltb g.holder_attempt (2 ^ 64) small.holder_attempt) refl in
+    ap (or_record m lists (short_abandoned_fields g)) (no_event (short_record_form (short_abandoned_fields g)) refl) ∙ ap (or_abandoned m lists (short_abandoned_fields g)) short
+  where
+    no_event : (o : Option ShortRecord) → short_record_form (short_abandoned_fields g) ≡ o → o ≡ None
+    no_event None is = refl
+    no_event (Some r) is = let five : 5 ≡ 3 = ap length (short_record_exact (short_abandoned_fields g) r is).line in absurd (omega (arith, five))
+
 module _ (m : MapValue) (plan : PlanValue) (p : IsDrawablePlan m plan) where
   found : (t i x y : ℕ) (a : Attempt) → slice_get (attempts plan t) i ≡ Some a → site x y ≡ site_in m t a.centre → attempt_of m plan.lists t i ≡ Some a
   found t i x y a is at =
@@ -154,26 +180,12 @@ module _ (m : MapValue) (plan : PlanValue) (p : IsDrawablePlan m plan) where
       ∙ (λ i. record_fields (record { stamp = r.stamp; tile = r.tile; attempt = r.attempt; x = x i; y = y i; seed = seed i }))
 
   pub abandoned_wide : (g : Abandoned) → IsSmallAbandoned g → IsGivenUpOf m plan g → widened m plan.lists (short_abandoned_fields g) ≡ abandoned_fields g
-  unfolding short_record_form short_abandoned_form one_field
   abandoned_wide g small entry =
-      let a = entry.0 in
       let at = entry.2 in
-      let few = (of_plan m plan g.tile g.attempt g.x g.y a p entry.1 at).few in
-      let is = found g.tile g.attempt g.x g.y a entry.1 at in
-      let last = decimal g.edge ∷ decimal g.holder ∷ decimal g.holder_attempt ∷ [] in
-      let tile = small_taken (2 ^ 32) g.tile (decimal g.attempt ∷ last) small.tile (omega arith) in
-      let attempt = small_taken (2 ^ 64) g.attempt last small.attempt (omega arith) in
-      let stamp = small_taken (2 ^ 32) g.attempt last (omega (arith, few)) (omega arith) in
-      let edge = small_taken (2 ^ 32) g.edge (decimal g.holder ∷ decimal g.holder_attempt ∷ []) small.edge (omega arith) in
-      let holder = small_taken (2 ^ 32) g.holder (decimal g.holder_attempt ∷ []) small.holder (omega arith) in
-      let other : short_record_form (short_abandoned_fields g) ≡ None = rw (tile, stamp) refl in
-      let short : short_abandoned_form (short_abandoned_fields g) ≡ Some (record { tile = g.tile; attempt = g.attempt; edge = g.edge; holder = g.holder; holder_attempt = g.holder_attempt }) =
-      rw (tile, attempt, edge, holder, number_decimal g.holder_attempt small.holder_attempt, lt-ltb g.holder_attempt (2 ^ 64) small.holder_attempt) refl in
+      let is = found g.tile g.attempt g.x g.y entry.0 entry.1 at in
       let x : (site_of m g.tile (attempt_of m plan.lists g.tile g.attempt)).x ≡ g.x = ap (λ o. (site_of m g.tile o).x) is ∙ ap (λ s. s.x) (sym at) in
       let y : (site_of m g.tile (attempt_of m plan.lists g.tile g.attempt)).y ≡ g.y = ap (λ o. (site_of m g.tile o).y) is ∙ ap (λ s. s.y) (sym at) in
-      ap (or_record m plan.lists (short_abandoned_fields g)) other
-      ∙ ap (or_abandoned m plan.lists (short_abandoned_fields g)) short
-      ∙ (λ i. abandoned_fields (record { tile = g.tile; attempt = g.attempt; x = x i; y = y i; edge = g.edge; holder = g.holder; holder_attempt = g.holder_attempt }))
+      gone_wide m plan.lists g small ∙ (λ i. abandoned_fields (record { tile = g.tile; attempt = g.attempt; x = x i; y = y i; edge = g.edge; holder = g.holder; holder_attempt = g.holder_attempt }))
 
 -- The whole text
 
@@ -181,30 +193,33 @@ each_wide : {A : Type 0} (w : List (List ℕ) → List (List ℕ)) (f g : A → 
 each_wide w f g [] all = refl
 each_wide w f g (x ∷ xs) all = λ i. All-head (λ x. w (f x) ≡ g x) x xs all i ∷ each_wide w f g xs (All-tail (λ x. w (f x) ≡ g x) x xs all) i
 
+each_line_wide : (w : List (List ℕ) → List (List ℕ)) (ls : List (List (List ℕ))) → All (λ l. w l ≡ l) ls → map w ls ≡ ls
+each_line_wide w [] all = refl
+each_line_wide w (l ∷ ls) all = λ i. All-head (λ l. w l ≡ l) l ls all i ∷ each_line_wide w ls (All-tail (λ l. w l ≡ l) l ls all) i
+
+-- the lines of a short report stand for those of the whole one, if the short line of each entry stands for its whole one
+pub form_wide : (m : MapValue) (lists : List (List Attempt)) (sites : List (List (List ℕ))) (e : Entries) → All IsSiteLine sites → All (λ r. widened m lists (short_record_fields r) ≡ record_fields r) e.records
+    → All (λ g. widened m lists (short_abandoned_fields g) ≡ abandoned_fields g) e.abandoned → map (widened m lists) (short_lines_of sites e) ≡ lines_of sites e
+form_wide m lists sites e each records ends =
+    let w = widened m lists in
+    let a = count_fields (codes "atoms") e.sites in
+    let r = count_fields (codes "journal") (length e.records) in
+    let g = count_fields (codes "abandoned") (length e.abandoned) in
+    let events = map short_record_fields e.records in
+    let gone = map short_abandoned_fields e.abandoned in
+    let one : map w sites ≡ sites = each_line_wide w sites (λ k d lt. site_same m lists _ (each k d lt)) in
+    let two : map w events ≡ map record_fields e.records = each_wide w short_record_fields record_fields e.records records in
+    let three : map w gone ≡ map abandoned_fields e.abandoned = each_wide w short_abandoned_fields abandoned_fields e.abandoned ends in
+    (λ i. header_wide m lists i ∷ (map-append w (a ∷ sites) ((r ∷ events) ++ (g ∷ gone)) ∙ ap (λ z. map w (a ∷ sites) ++ z) (map-append w (r ∷ events) (g ∷ gone))) i)
+    ∙ (λ i. (codes "feast" ∷ codes "1" ∷ []) ∷ ((count_same m lists (codes "atoms") e.sites refl refl i ∷ one i)
+    ++ ((count_same m lists (codes "journal") (length e.records) refl refl i ∷ two i) ++ (count_same m lists (codes "abandoned") (length e.abandoned) refl refl i ∷ three i))))
+
 pub stands_for_whole : (names : List (List ℕ)) (m : MapValue) (plan : PlanValue) → AreFormed names → IsDrawablePlan m plan → StandsForWhole names m plan
 unfolding form_left
 stands_for_whole names m plan formed p = λ v left.
-    let w = widened m plan.lists in
     let form = form_left names m plan formed p v left in
-    let shown = shown_atoms v.grid in
-    let sites : All IsSiteLine (map (atom_fields names) shown) = form.each in
-    let all = short_lines names m plan v form (λ k d lt. site_line _ (form.each k d lt)) in
-    let a = count_fields (codes "atoms") (length shown) in
-    let r = count_fields (codes "journal") (length v.records) in
-    let g = count_fields (codes "abandoned") (length v.abandoned) in
-    let atoms = map (atom_fields names) shown in
-    let events = map short_record_fields v.records in
-    let gone = map short_abandoned_fields v.abandoned in
-    let ls = short_header ∷ ((a ∷ atoms) ++ ((r ∷ events) ++ (g ∷ gone))) in
-    let one : map w atoms ≡ atoms = site_lines w atoms (λ k d lt. site_same m plan.lists _ (form.each k d lt)) in
-    let two : map w events ≡ map record_fields v.records = each_wide w short_record_fields record_fields v.records (λ k d lt. record_wide m plan p _ (form.small k d lt) (left.owes.accounted.events k d lt)) in
-    let three : map w gone ≡ map abandoned_fields v.abandoned = each_wide w short_abandoned_fields abandoned_fields v.abandoned (λ k d lt. abandoned_wide m plan p _ (form.abandoned k d lt) (left.owes.accounted.given_up k d lt)) in
-    let same : map w ls ≡ report_lines names shown v.records v.abandoned =
-    (λ i. header_wide m plan.lists i ∷ (map-append w (a ∷ atoms) ((r ∷ events) ++ (g ∷ gone)) ∙ ap (λ z. map w (a ∷ atoms) ++ z) (map-append w (r ∷ events) (g ∷ gone))) i)
-    ∙ (λ i. (codes "feast" ∷ codes "1" ∷ []) ∷ ((count_same m plan.lists (codes "atoms") (length shown) refl refl i ∷ one i)
-    ++ ((count_same m plan.lists (codes "journal") (length v.records) refl refl i ∷ two i) ++ (count_same m plan.lists (codes "abandoned") (length v.abandoned) refl refl i ∷ three i)))) in
-    text_wide m plan.lists ls all ∙ ap text_of same
-  where
-    site_lines : (w : List (List ℕ) → List (List ℕ)) (ls : List (List (List ℕ))) → All (λ l. w l ≡ l) ls → map w ls ≡ ls
-    site_lines w [] all = refl
-    site_lines w (l ∷ ls) all = λ i. All-head (λ l. w l ≡ l) l ls all i ∷ site_lines w ls (All-tail (λ l. w l ≡ l) l ls all) i
+    let sites = map (atom_fields names) (shown_atoms v.grid) in
+    let each : All IsSiteLine sites = form.each in
+    let all = short_lines sites (entries_in v) (λ k d lt. site_line _ (each k d lt)) form.small form.abandoned form.few_sites form.few_records form.few_abandoned in
+    let same = form_wide m plan.lists sites (entries_in v) each (λ k d lt. record_wide m plan p _ (form.small k d lt) (left.owes.accounted.events k d lt)) (λ k d lt. abandoned_wide m plan p _ (form.abandoned k d lt) (left.owes.accounted.given_up k d lt)) in
+    text_wide m plan.lists (short_lines_of sites (entries_in v)) all ∙ ap text_of same

@@ -13,6 +13,7 @@ pub mod Reading
 pub mod Report
 pub mod ReportForm
 pub mod Short
+pub mod ShortForm
 pub mod ShortLaws
 pub mod Tables
 pub mod Widened

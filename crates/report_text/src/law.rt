@@ -5,6 +5,7 @@ ghost use Rattle.report_text.specs.Cuts.{AreCutShort, AreShortCutShort};
 ghost use Rattle.report_text.specs.OneReport.{AreTypeNames, IsOneReport, IsReported};
 ghost use Rattle.report_text.specs.Report.{AreNamed, of_logs};
 ghost use Rattle.report_text.specs.ReportForm.{AreReports};
+ghost use Rattle.report_text.specs.ShortForm.{AreShortReports};
 ghost use Rattle.report_text.specs.ShortLaws.{AreInARow, IsTheShortOne, StandsForWhole};
 
 use crate::fitting::is_reported;
@@ -68,13 +69,16 @@ pub fn cuts(map: &Map, plan: &AttemptPlan)
 }
 
 /// What holds of short reports of a map and a plan, with these names of types. That of what a run of the
-/// plan left stands for the whole one, and no other bytes do. The call does nothing: its contract is the
-/// law.
+/// plan left stands for the whole one, and no other bytes do. And which bytes are read as a short report,
+/// and as which entries: exactly those that are their short text, where the plan says the site and the
+/// seed of each event, and the site of each abandoned attempt. The call does nothing: its contract is
+/// the law.
 pub fn short_reports(map: &Map, plan: &AttemptPlan, names: &[Name])
     requires names { AreFormed names.now }
     requires plan { IsDrawablePlan map.now plan.now }
     ensures whole { StandsForWhole names.now map.now plan.now }
     ensures short { IsTheShortOne names.now map.now plan.now }
+    ensures read { AreShortReports map.now plan.now }
 {
     // Only the contract speaks of the arguments; they are read so that none is unused.
     let _tiles = map.tiles();
