@@ -6,6 +6,7 @@ use Rattle.std.proofs.lemmas.Grind.{flat_map-append}
 use Rattle.std.proofs.lemmas.List.Elements.{All-drop, All-take}
 use Rattle.std.proofs.lemmas.List.{take-append-le}
 use Rattle.chain_text.specs.Chain.{ChainValue}
+use Rattle.chain_text.specs.Legs.{leg_plan}
 use Rattle.chain_text.specs.declared.chain.Journal.{Journal}
 use Rattle.chain_text.specs.declared.chain.Journal.TheVariants.{Whole, Short, Counts}
 use Rattle.draw_stream.specs.Plans.{PlanValue}
@@ -24,7 +25,7 @@ use Rattle.text_lines.specs.Lines.{ended_line, line_text, text_of}
 use Rattle.text_lines.specs.Printed.{IsLine}
 use Rattle.tile_map.specs.Plane.{MapValue}
 use Rattle.chain_run.specs.Cuts.{AreChainsCutShort}
-use Rattle.chain_run.specs.Reading.{LegSaid, leg_plan, leg_then, read_chain_by, read_leg, read_legs}
+use Rattle.chain_run.specs.Reading.{LegSaid, leg_then, read_chain_by, read_leg, read_legs}
 
 -- The report of a leg
 

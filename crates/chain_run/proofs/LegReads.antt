@@ -10,6 +10,7 @@ use Rattle.report_text.specs.Entries.{Entries}
 use Rattle.report_text.specs.Reading.{Said, entries_said, read_report}
 use Rattle.report_text.specs.declared.journal_fault.LineFault.{LineFault}
 use Rattle.chain_text.specs.Chain.{ChainValue, IsChain}
+use Rattle.chain_text.specs.Legs.{leg_plan}
 use Rattle.event_journal.specs.Serial.{course}
 use Rattle.report_judge.specs.Judging.{Judges, ReadValue, named_course, read_value}
 use Rattle.report_judge.specs.declared.judgement.Judgement.{Judgement}
@@ -21,7 +22,6 @@ use Rattle.chain_run.specs.Between.{IsBetween}
 use Rattle.chain_run.specs.Chains.{making}
 use Rattle.chain_run.specs.Judging.{judged_chain}
 use Rattle.chain_run.specs.Reader.{IsKnownBetween, IsReadLeg, LegValue}
-use Rattle.chain_run.specs.Reading.{leg_plan}
 use Rattle.chain_run.specs.Standings.{IsRight}
 
 said_live : (m : MapValue) (plan : PlanValue) (bytes : List ℕ) (e : Entries) → CanRun m plan → (r : Result Said (ℕ × LineFault)) → read_report m plan.lists bytes ≡ r → entries_said r ≡ Ok e → All (IsLiveEvent m) e.records

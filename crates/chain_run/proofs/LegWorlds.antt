@@ -4,6 +4,7 @@ use Rattle.window_sites.specs.Window.{WindowValue}
 use Rattle.cell_grid.specs.Grid.{GridValue}
 use Rattle.cell_grid.specs.Known.{BringsNone}
 use Rattle.chain_text.specs.Chain.{ChainValue, IsChain}
+use Rattle.chain_text.specs.Legs.{leg_plan}
 use Rattle.event_journal.specs.Serial.{course}
 use Rattle.chain_run.proofs.Betweens.{acted_between, between_again, front_between}
 use Rattle.chain_run.proofs.Plans.{leg_runs}
@@ -12,7 +13,6 @@ use Rattle.chain_run.specs.Between.{IsBetween}
 use Rattle.chain_run.specs.Chains.{first_grid, making}
 use Rattle.chain_run.specs.LegWorlds.{IsRunOfItsWorld}
 use Rattle.chain_run.specs.Legs.{AreLegs, Leg, grid_after}
-use Rattle.chain_run.specs.Reading.{leg_plan}
 
 pub leg_is_run : (names : List (List ℕ)) (c : ChainValue) (meaning : WindowValue → ℕ → WindowValue) (k : ℕ) (g : GridValue) → IsChain names c → IsBetween names c g → IsRunOfItsWorld c meaning k g
 leg_is_run names c meaning k g is between =

@@ -6,7 +6,7 @@ use Rattle.cell_grid.specs.Grid.{GridValue, IsLive}
 use Rattle.cell_grid.specs.Records.{replay}
 use Rattle.cell_grid.specs.declared.record.Record.{Record}
 use Rattle.chain_text.specs.Chain.{ChainValue}
-use Rattle.chain_text.specs.Legs.{act_seed, order_seed}
+use Rattle.chain_text.specs.Legs.{act_seed, leg_plan, order_seed}
 use Rattle.draw_stream.proofs.Plans.{no_attempt}
 use Rattle.draw_stream.specs.Plans.{PlanValue}
 use Rattle.event_journal.specs.declared.abandoned.Abandoned.{Abandoned}
@@ -26,7 +26,6 @@ use Rattle.world_runs.specs.Orders.{attempts_in, drawn_order}
 use Rattle.world_runs.specs.Worlds.{CanRun}
 use Rattle.chain_run.specs.Chains.{making}
 use Rattle.chain_run.specs.Legs.{leg_course}
-use Rattle.chain_run.specs.Reading.{leg_plan}
 use Rattle.chain_run.specs.Runs.{IsRunLeg, IsStepLeg, leg_order}
 
 -- the attempts of a plan that can be run are those of its tiles

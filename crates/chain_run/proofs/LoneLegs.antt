@@ -8,7 +8,7 @@ use Rattle.cell_grid.specs.Grid.{GridValue}
 use Rattle.cell_grid.specs.Records.{replay}
 use Rattle.chain_text.proofs.Counts.{leg_few}
 use Rattle.chain_text.specs.Chain.{ChainValue, IsChain}
-use Rattle.chain_text.specs.Legs.{leg_attempts, leg_seed, order_seed}
+use Rattle.chain_text.specs.Legs.{leg_attempts, leg_plan, leg_seed, order_seed}
 use Rattle.draw_stream.proofs.Plans.{attempts_few, length_seeded_lists, seeded_planned}
 use Rattle.draw_stream.specs.Words.{tile_word}
 use Rattle.draw_stream.specs.Plans.{attempts}
@@ -26,8 +26,7 @@ use Rattle.chain_run.proofs.LoneSteps.{IsLeft, lone_machine}
 use Rattle.chain_run.proofs.Plans.{leg_runs}
 use Rattle.chain_run.specs.Chains.{AreLegsOf, first_grid, making}
 use Rattle.chain_run.specs.Legs.{AreLegs, Leg, leg_course}
-use Rattle.chain_run.specs.Reading.{leg_plan}
-use Rattle.chain_run.specs.Runs.{leg_order, machine_of_leg, stepped_leg, stepped_legs, stepped_legs_from}
+use Rattle.chain_run.specs.Runs.{AreAlone, leg_order, machine_of_leg, stepped_leg, stepped_legs, stepped_legs_from}
 
 -- all events of one tile are its own
 own_events : (m : MapValue) (i : ℕ) (list : List Attempt) → of_tile 0 (events_from m i list) ≡ events_from m i list
@@ -75,13 +74,15 @@ module _ (names : List (List ℕ)) (c : ChainValue) (meaning : WindowValue → �
       let grid = serial.replayed ∙ ap (replay meaning ((making c meaning).acts k g)) entries.0 in
       λ i. record { grid = grid i; records = entries.0 i; abandoned = entries.1 i }
 
-  legs_lone : (k : ℕ) (g : GridValue) (legs : List Leg) → AreLegs (making c meaning) k g legs → legs ≡ stepped_legs_from c meaning k g (length legs)
-  unfolding AreLegs stepped_legs_from
-  legs_lone k g [] h = refl
+  pub legs_lone : (k : ℕ) (g : GridValue) (legs : List Leg) → AreLegs (making c meaning) k g legs → (legs ≡ stepped_legs_from c meaning k g (length legs)) × AreAlone (making c meaning) k legs
+  unfolding AreLegs AreAlone stepped_legs_from
+  legs_lone k g [] h = (refl, tt)
   legs_lone k g (l ∷ ls) h =
-      let same = leg_lone k g l h.0 ∙ sym (steps_lone k g) in
-      let more = legs_lone (k + 1) l.grid ls h.1 ∙ ap (λ (x : Leg). stepped_legs_from c meaning (k + 1) x.grid (length ls)) same in
-      λ i. same i ∷ more i
+      let lone = leg_lone k g l h.0 in
+      let same = lone ∙ sym (steps_lone k g) in
+      let later = legs_lone (k + 1) l.grid ls h.1 in
+      let more = later.0 ∙ ap (λ (x : Leg). stepped_legs_from c meaning (k + 1) x.grid (length ls)) same in
+      (λ i. same i ∷ more i, ((ap (λ (x : Leg). x.records) lone, ap (λ (x : Leg). x.abandoned) lone), later.1))
 
   pub lone_are_stepped : (legs : List Leg) → AreLegsOf c meaning legs → legs ≡ stepped_legs c meaning
-  lone_are_stepped legs h = legs_lone c.first (first_grid c) legs h.follow ∙ ap (stepped_legs_from c meaning c.first (first_grid c)) h.count
+  lone_are_stepped legs h = (legs_lone c.first (first_grid c) legs h.follow).0 ∙ ap (stepped_legs_from c meaning c.first (first_grid c)) h.count

@@ -8,6 +8,7 @@ use Rattle.cell_grid.specs.Grid.{GridValue}
 use Rattle.cell_grid.specs.Records.{replay}
 use Rattle.cell_grid.specs.declared.record.Record.{Record}
 use Rattle.chain_text.specs.Chain.{ChainValue}
+use Rattle.chain_text.specs.Legs.{leg_plan}
 use Rattle.window_sites.specs.Window.{WindowValue}
 use Rattle.report_judge.specs.Judging.{Judges, named_course}
 use Rattle.report_judge.specs.declared.judgement.Judgement.{Judgement}
@@ -18,7 +19,7 @@ use Rattle.chain_run.specs.Judging.{IsJudged, JudgesLegs, grid_said, in_file, ju
 use Rattle.chain_run.specs.Legs.{Making, leg_course}
 use Rattle.chain_run.specs.Places.{IsSought, Sought, place_past}
 use Rattle.chain_run.specs.Reader.{IsLegSaid, LegValue, grid_by}
-use Rattle.chain_run.specs.Reading.{LegSaid, leg_plan, whole_text}
+use Rattle.chain_run.specs.Reading.{LegSaid, whole_text}
 use Rattle.chain_run.specs.Replays.{events_in, grid_amid, grid_at, grid_behind}
 use Rattle.chain_run.specs.Standings.{IsRight, JudgesRest, StandsBehind}
 use Rattle.chain_run.specs.declared.judgement.ChainJudgement.{ChainJudgement}

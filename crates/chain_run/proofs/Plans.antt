@@ -3,14 +3,13 @@ use Rattle.std.proofs.Common.{ℕ, ◌≡◌, ◌+◌, ◌<◌, ◌*◌, ◌++�
 use Rattle.std.specs.Prelude.{IfOk}
 use Rattle.std.proofs.lemmas.List.{take_more, take_all}
 use Rattle.chain_text.specs.Chain.{ChainValue, IsChain}
-use Rattle.chain_text.specs.Legs.{leg_attempts, leg_seed}
+use Rattle.chain_text.specs.Legs.{leg_attempts, leg_plan, leg_seed}
 use Rattle.draw_stream.proofs.Plans.{length_seeded_lists}
 use Rattle.draw_stream.specs.Plans.{PlanValue, seeded}
 use Rattle.tile_map.specs.Plane.{IsMap, MapValue, is_on, tiles_of}
 use Rattle.world_runs.proofs.Valid.{seeded_are}
 use Rattle.world_text.proofs.Marked.{off_at}
 use Rattle.world_runs.specs.Worlds.{CanRun}
-use Rattle.chain_run.specs.Reading.{leg_plan}
 
 pub leg_runs : (names : List (List ℕ)) (c : ChainValue) (k : ℕ) → IsChain names c → CanRun c.plane (leg_plan c k)
 leg_runs names c k is = record {

@@ -4,6 +4,7 @@ use Rattle.window_sites.specs.Window.{WindowValue}
 use Rattle.cell_grid.specs.Grid.{GridValue}
 use Rattle.cell_grid.specs.Records.{replay}
 use Rattle.chain_text.specs.Chain.{ChainValue}
+use Rattle.chain_text.specs.Legs.{leg_plan}
 use Rattle.chain_text.specs.declared.chain.Journal.{Journal}
 use Rattle.chain_text.specs.declared.chain.Journal.TheVariants.{Whole, Short, Counts}
 use Rattle.event_journal.specs.Serial.{IsSerial, OwesNothing}
@@ -25,7 +26,7 @@ use Rattle.chain_run.specs.Chains.{AreLegsOf, first_grid, making}
 use Rattle.chain_run.specs.Judging.{IsJudged, JudgesLegs, judged_chain}
 use Rattle.chain_run.specs.Legs.{AreLegs, Leg, leg_course}
 use Rattle.chain_run.specs.Reader.{leg_said}
-use Rattle.chain_run.specs.Reading.{LegSaid, leg_plan, leg_then, read_leg, read_legs, whole_text}
+use Rattle.chain_run.specs.Reading.{LegSaid, leg_then, read_leg, read_legs, whole_text}
 use Rattle.chain_run.specs.Reports.{chain_report, leg_text, leg_text_by, legs_text, no_counts}
 use Rattle.chain_run.specs.declared.judgement.ChainJudgement.{ChainJudgement}
 use Rattle.chain_run.specs.declared.judgement.ChainJudgement.TheVariants.{Yes}

@@ -1,6 +1,7 @@
 -- The reports of legs are taken one after another.
 use Rattle.std.proofs.Common.{ℕ, suc, ◌≡◌, ◌≢◌, ◌≤◌, ◌<◌, ◌+◌, ◌^◌, ◌==◌, true, false, List, [], ◌∷◌, Option, Result, Ok, Err, length, refl, sym, ap, subst, ◌∙◌, arith}
 use Rattle.std.specs.Result.{IsErrAnd}
+use Rattle.chain_text.specs.Legs.{leg_plan}
 use Rattle.chain_text.specs.declared.chain.Journal.{Journal}
 use Rattle.draw_stream.specs.Plans.{PlanValue}
 use Rattle.report_text.specs.Entries.{Entries}
@@ -11,7 +12,7 @@ use Rattle.report_text.specs.declared.journal_fault.LineFault.{LineFault}
 use Rattle.report_text.specs.declared.journal_fault.LineFault.TheVariants.{BadForm}
 use Rattle.tile_map.specs.Plane.{MapValue}
 use Rattle.chain_run.specs.Reader.{IsReader, IsTaken, LegValue, ReaderValue, ReadsLeg, Reports, Takes, leg_said, next_leg, said_by, said_then}
-use Rattle.chain_run.specs.Reading.{leg_plan, leg_then, read_leg, read_legs}
+use Rattle.chain_run.specs.Reading.{leg_then, read_leg, read_legs}
 
 module _ (j : Journal) (m : MapValue) (plan : ℕ → PlanValue) (k before : ℕ) where
   pub read_none : (n : ℕ) (bytes : List ℕ) → n ≡ 0 → bytes ≡ [] → read_legs j m plan k n before bytes ≡ Ok []

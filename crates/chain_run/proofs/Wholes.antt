@@ -13,7 +13,7 @@ use Rattle.cell_grid.specs.Records.{replay}
 use Rattle.cell_grid.specs.declared.record.Record.{Record}
 use Rattle.chain_text.proofs.Counts.{leg_few}
 use Rattle.chain_text.specs.Chain.{ChainValue, IsChain}
-use Rattle.chain_text.specs.Legs.{act_seed, leg_attempts, leg_seed}
+use Rattle.chain_text.specs.Legs.{act_seed, leg_attempts, leg_plan, leg_seed}
 use Rattle.draw_stream.proofs.Plans.{length_seeded_attempts, length_seeded_lists, seeded_attempts_at, seeded_lists_at, sum_seeded_lists}
 use Rattle.draw_stream.specs.Attempts.{seeded_attempts, stream_seed}
 use Rattle.draw_stream.specs.Plans.{attempts, count_of, seeded}
@@ -35,7 +35,6 @@ use Rattle.chain_run.proofs.Acted.{acts_known, before_known}
 use Rattle.chain_run.proofs.First.{atoms_known}
 use Rattle.chain_run.proofs.Plans.{leg_runs}
 use Rattle.chain_run.specs.Chains.{first_grid, making}
-use Rattle.chain_run.specs.Reading.{leg_plan}
 
 -- The plan of a leg
 

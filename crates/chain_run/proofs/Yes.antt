@@ -3,6 +3,7 @@ use Rattle.std.proofs.Common.{ℕ, suc, zero, ◌≡◌, ◌≢◌, ◌+◌, Lis
 use Rattle.window_sites.specs.Window.{WindowValue}
 use Rattle.cell_grid.specs.Grid.{GridValue}
 use Rattle.chain_text.specs.Chain.{ChainValue}
+use Rattle.chain_text.specs.Legs.{leg_plan}
 use Rattle.chain_text.specs.declared.chain.Journal.{Journal}
 use Rattle.chain_text.specs.declared.chain.Journal.TheVariants.{Whole, Short, Counts}
 use Rattle.report_judge.specs.declared.judgement.Judgement.TheVariants as word
@@ -19,7 +20,7 @@ use Rattle.chain_run.specs.Chains.{first_grid, making}
 use Rattle.chain_run.specs.Judging.{IsJudged, JudgesChain, JudgesLegs, grid_said, judged_chain}
 use Rattle.chain_run.specs.Legs.{AreLegs, Leg}
 use Rattle.chain_run.specs.Reader.{Reports, leg_said}
-use Rattle.chain_run.specs.Reading.{LegSaid, leg_plan, leg_then, read_chain_by, read_leg, read_legs, whole_text}
+use Rattle.chain_run.specs.Reading.{LegSaid, leg_then, read_chain_by, read_leg, read_legs, whole_text}
 use Rattle.chain_run.specs.Reports.{CountsValue, counts_behind_by, leg_text_by, legs_text, no_counts}
 use Rattle.chain_run.specs.declared.judgement.ChainJudgement.TheVariants.{Yes}
 

@@ -4,14 +4,13 @@ use Rattle.window_sites.specs.Window.{WindowValue}
 use Rattle.cell_grid.specs.Grid.{GridValue}
 use Rattle.cell_grid.specs.Known.{BringsNone}
 use Rattle.chain_text.specs.Chain.{ChainValue, IsChain}
-use Rattle.chain_text.specs.Legs.{act_seed, placed}
+use Rattle.chain_text.specs.Legs.{act_seed, leg_plan, placed}
 use Rattle.plane_acts.specs.Schedules.{acts}
 use Rattle.report_text.specs.Report.{shown_atoms}
 use Rattle.world_runs.specs.Start.{start_grid}
 use Rattle.world_text.specs.declared.world.Placed.{Placed}
 use Rattle.chain_run.specs.Course.{items_from, played}
 use Rattle.chain_run.specs.Legs.{AreLegs, Leg, Making, grid_after}
-use Rattle.chain_run.specs.Reading.{leg_plan}
 
 -- what makes the legs of a chain whose elements mean this
 abbrev pub making : ChainValue → (WindowValue → ℕ → WindowValue) → Making

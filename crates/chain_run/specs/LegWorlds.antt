@@ -18,8 +18,8 @@ use Rattle.chain_run.specs.Runs.{leg_order}
 abbrev pub world_behind : ChainValue → (WindowValue → ℕ → WindowValue) → ℕ → GridValue → WorldValue
 world_behind c meaning k g = leg_world c k ((making c meaning).acts k g)
 
--- leg k is a run of its world, if the leg before it left this grid: that world can be run, the leg is a run of what a run of it is
--- of, and if the leg is stepped, its order is that of the world
+-- leg k is a run of its world, if the leg before it left this grid: the world can be run, what the leg is a run of is that of the
+-- world, and so is the order of its steps, if it is stepped
 pub record IsRunOfItsWorld (c : ChainValue) (meaning : WindowValue → ℕ → WindowValue) (k : ℕ) (g : GridValue) : Type 0 where
   pub world : IsWorld (world_behind c meaning k g)
   pub course : leg_course (making c meaning) k g ≡ world_course (world_behind c meaning k g) meaning

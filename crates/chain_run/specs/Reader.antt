@@ -6,6 +6,7 @@ use Rattle.cell_grid.specs.Known.{BringsNone}
 use Rattle.cell_grid.specs.Records.{replay}
 use Rattle.cell_grid.specs.declared.record.Record.{Record}
 use Rattle.chain_text.specs.Chain.{ChainValue, IsChain}
+use Rattle.chain_text.specs.Legs.{leg_plan}
 use Rattle.draw_stream.specs.Plans.{PlanValue}
 use Rattle.report_text.specs.Again.{SaysThese}
 use Rattle.report_text.specs.Entries.{Entries}
@@ -15,7 +16,7 @@ use Rattle.report_text.specs.declared.journal_fault.LineFault.{LineFault}
 use Rattle.world_runs.specs.Worlds.{CanRun}
 use Rattle.chain_run.specs.Between.{IsBetween}
 use Rattle.chain_run.specs.Legs.{Making}
-use Rattle.chain_run.specs.Reading.{LegSaid, leg_plan, leg_then, read_chain, read_leg, read_legs, whole_text}
+use Rattle.chain_run.specs.Reading.{LegSaid, leg_then, read_chain, read_leg, read_legs, whole_text}
 use Rattle.chain_run.specs.declared.leg_read.WholeText.{WholeText}
 use Rattle.chain_run.specs.declared.leg_read.WholeText.TheVariants.{Own, Made}
 

@@ -1,10 +1,10 @@
 -- What the reports of legs say, one after another.
 use Rattle.std.specs.Prelude.{ℕ, zero, suc, ◌+◌, ◌*◌, ◌==◌, List, [], ◌∷◌, Result, Ok, Err, if◌then◌else◌}
 use Rattle.chain_text.specs.Chain.{ChainValue}
-use Rattle.chain_text.specs.Legs.{leg_attempts, leg_seed}
+use Rattle.chain_text.specs.Legs.{leg_plan}
 use Rattle.chain_text.specs.declared.chain.Journal.{Journal}
 use Rattle.chain_text.specs.declared.chain.Journal.TheVariants.{Whole, Short, Counts}
-use Rattle.draw_stream.specs.Plans.{PlanValue, seeded}
+use Rattle.draw_stream.specs.Plans.{PlanValue}
 use Rattle.draw_stream.specs.declared.attempt.Attempt.{Attempt}
 use Rattle.report_text.specs.Entries.{Entries}
 use Rattle.report_text.specs.First.{first_lines, first_report, later_reports}
@@ -13,10 +13,6 @@ use Rattle.report_text.specs.Widened.{widened_text}
 use Rattle.report_text.specs.declared.journal_fault.LineFault.{LineFault}
 use Rattle.report_text.specs.declared.journal_fault.LineFault.TheVariants.{BadForm, OutOfTurn}
 use Rattle.tile_map.specs.Plane.{MapValue}
-
--- the attempts of leg k
-abbrev pub leg_plan : ChainValue → ℕ → PlanValue
-leg_plan c k = seeded (leg_seed c k) (leg_attempts c k) c.plane.off (c.plane.w * c.plane.h)
 
 -- the report of a leg as it was read: how many lines come before it, its bytes, and its entries
 pub record LegSaid : Type 0 where

@@ -1,9 +1,9 @@
 -- The legs of a run and of a stepped run.
-use Rattle.std.specs.Prelude.{ℕ, suc, zero, ◌≡◌, ◌+◌, List, [], ◌∷◌}
+use Rattle.std.specs.Prelude.{ℕ, suc, zero, ◌≡◌, ◌+◌, List, [], ◌∷◌, length}
 use Rattle.window_sites.specs.Window.{WindowValue}
 use Rattle.cell_grid.specs.Grid.{GridValue}
 use Rattle.chain_text.specs.Chain.{ChainValue, IsChain}
-use Rattle.chain_text.specs.Legs.{order_seed}
+use Rattle.chain_text.specs.Legs.{leg_plan, order_seed}
 use Rattle.event_journal.specs.Logs.{abandoned_in, records_in}
 use Rattle.event_journal.specs.Serial.{IsSerial}
 use Rattle.serial_order.specs.declared.outcome.Outcome.{Outcome}
@@ -13,9 +13,8 @@ use Rattle.tile_map.specs.Plane.{tiles_of}
 use Rattle.world_runs.specs.OneTile.{events_of}
 use Rattle.world_runs.specs.Orders.{turns_of}
 use Rattle.world_text.specs.Named.{drawn}
-use Rattle.chain_run.specs.Chains.{AreLegsOf, first_grid, making}
-use Rattle.chain_run.specs.Legs.{Leg, Making, leg_course}
-use Rattle.chain_run.specs.Reading.{leg_plan}
+use Rattle.chain_run.specs.Chains.{first_grid, making}
+use Rattle.chain_run.specs.Legs.{AreLegs, Leg, Making, leg_course}
 
 -- what a run left, as a leg
 abbrev pub leg_of : Outcome → Leg
@@ -55,7 +54,12 @@ stepped_legs_from c meaning k g (suc n) = stepped_leg c meaning k g ∷ stepped_
 abbrev pub stepped_legs : ChainValue → (WindowValue → ℕ → WindowValue) → List Leg
 stepped_legs c meaning = stepped_legs_from c meaning c.first (first_grid c) c.legs
 
--- on a plane of one tile the legs of a chain that names give are those of its stepped run
+-- each attempt of each leg with the numbers from k on is an event, in its order
+unfoldable pub AreAlone : Making → ℕ → List Leg → Type 0
+AreAlone c k [] = Unit {0}
+AreAlone c k (l ∷ ls) = ((l.records ≡ events_of c.map (c.plan k)) × (l.abandoned ≡ [])) × AreAlone c (k + 1) ls
+
+-- on a plane of one tile legs that follow one another are the stepped ones, and each of their attempts is an event
 abbrev pub AreLoneLegsStepped : Type 0
 AreLoneLegsStepped = (names : List (List ℕ)) (c : ChainValue) (meaning : WindowValue → ℕ → WindowValue) → IsChain names c → tiles_of c.plane ≡ 1
-    → (legs : List Leg) → AreLegsOf c meaning legs → legs ≡ stepped_legs c meaning
+    → (k : ℕ) (g : GridValue) (legs : List Leg) → AreLegs (making c meaning) k g legs → (legs ≡ stepped_legs_from c meaning k g (length legs)) × AreAlone (making c meaning) k legs

@@ -32,16 +32,17 @@ pub fn cut_and_join()
 {}
 
 /// A leg of a chain is a run of a world of its own, which can be run: that of the chain's plane, the leg's seeds and
-/// attempts, and the atoms that are shown by the grid before the leg once its acts are done. It is a run of what a run of
-/// that world is of, with the same order if it is stepped; so what is known of runs of worlds holds of legs. The call does
-/// nothing: its contract is the law, over grids between legs and behind the first legs of a chain.
+/// attempts, and the atoms that are shown by the grid before the leg once its acts are done. What the leg is a run of, and
+/// the order of its steps if it is stepped, are those of this world. The call does nothing: its contract is the law, over
+/// grids between legs and behind the first legs of a chain.
 pub fn legs_are_runs()
     ensures grids { AreLegsRuns }
     ensures chains { AreNextLegsRuns }
 {}
 
-/// On a plane of one tile a chain has but one list of legs, that of its stepped run: each run of the chain leaves it, and each
-/// attempt is an event. The call does nothing: its contract is the law.
+/// On a plane of one tile nothing is left to chance: legs that follow one another are those of the stepped run, and each of
+/// their attempts is an event, in its order. So each run of a chain leaves the same legs. The call does nothing: its contract
+/// is the law.
 pub fn lone_legs()
     ensures { AreLoneLegsStepped }
 {}

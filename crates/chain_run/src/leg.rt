@@ -1,9 +1,8 @@
 //! A leg of a chain.
 ghost use Rattle.std.specs.Prelude.{◌≡◌, ℕ, List, IfOk};
 ghost use Rattle.chain_run.specs.Between.{IsBetween};
-ghost use Rattle.chain_run.specs.Reading.{leg_plan};
 ghost use Rattle.chain_text.specs.Chain.{IsChain};
-ghost use Rattle.chain_text.specs.Legs.{act_seed};
+ghost use Rattle.chain_text.specs.Legs.{act_seed, leg_plan};
 ghost use Rattle.chain_text.specs.Values.{chain_value};
 ghost use Rattle.plane_acts.specs.Schedules.{acts};
 ghost use Rattle.world_runs.specs.Worlds.{CanRun};

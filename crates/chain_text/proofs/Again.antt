@@ -195,7 +195,7 @@ lines_said n d (l ∷ ls) p =
     on again (Ok e) = again e
     on again (Err code) = refl
 
-lines_are : (ls : List ChainLine) → All IsPrinted ls → All IsClear (map line_fields ls)
+pub lines_are : (ls : List ChainLine) → All IsPrinted ls → All IsClear (map line_fields ls)
 lines_are [] p = All-nil _
 lines_are (l ∷ ls) p = All-cons IsClear (line_fields l) (map line_fields ls) (line_is l (All-head IsPrinted l ls p)) (lines_are ls (All-tail IsPrinted l ls p))
 

@@ -22,10 +22,12 @@ use Rattle.chain_text.specs.Chain.{ChainValue}
 use Rattle.chain_text.specs.Drafts.{ChainDraft, IsChainDraft, after_act, after_atom, after_every, after_journal, is_plane, nothing_said, only_world}
 use Rattle.chain_text.specs.Line.{ChainLine, header, plain, legs}
 use Rattle.chain_text.specs.Named.{ReadsChain, acts_fault, chain_of, chain_with_names, every_of, name_fault, once_of, origin_of}
-use Rattle.chain_text.specs.Printed.{IsNamed, act_lines, chain_lines, chain_text, every_line, first_lines, journal_lines, once_line, placed_line}
+use Rattle.chain_text.specs.Printed.{IsNamed, act_lines, chain_lines, chain_text, every_line, first_lines, journal_lines, line_fields, once_line, placed_line}
+use Rattle.chain_text.specs.Reading.{begins_chain, is_chain}
 use Rattle.chain_text.specs.declared.stage.Stage.{Stage}
 use Rattle.chain_text.specs.declared.stage.Stage.TheVariants.{Legs}
-use Rattle.chain_text.proofs.Again.{IsPrinted, draft_after_lines, text_again}
+use Rattle.chain_text.proofs.Again.{IsPrinted, draft_after_lines, lines_are, text_again}
+use Rattle.chain_text.proofs.Joined.{texts_again}
 use Rattle.chain_text.proofs.Lifted.{IsOfPlane, atoms_lifted, header_lifted}
 use Rattle.chain_text.proofs.Said.{relined, relined_every, relined_fine, relined_once}
 use Rattle.chain_text.proofs.Taken.{Takes, every_taken, first_taken, journal_taken, legs_taken, once_taken, takes_then}
@@ -209,6 +211,15 @@ chain_taken names d k fine =
       said = said_then 1 n numbers.0 acts.number nothing_said (only_world w) (counted w numbers.1 d) before front middle done atoms (chain_lines names c) (Ok e) same part numbers.3 acts.takes end.said;
       same = rw (relined_fine names numbers.0 d.every f.0, relined_fine names acts.second d.once g.0, t.fine (m.tx * m.w) [] g.1, relined_every names numbers.0 d.every, relined_once names acts.second d.once, t.same) refl;
     }
+
+-- the text of a chain begins as that of a chain
+pub begins_again : (names : List (List ℕ)) (c : ChainValue) → IsNamed names c → is_chain (chain_text names c) ≡ true
+unfolding begins_chain
+begins_again names c h =
+    let p = chain_is names h.0 c h.2 in
+    let t = subst (ChainTaken names) p.1 (chain_taken names h.0 h.1 p.0) in
+    let ls = chain_lines names c in
+    ap begins_chain (texts_again (map line_fields ls) (lines_are ls t.printed)) ∙ refl
 
 -- the text of a chain says this chain with the same names
 pub reads_again : (names : List (List ℕ)) (c : ChainValue) → IsNamed names c → ReadsChain (chain_text names c) names c

@@ -45,7 +45,7 @@ pub record IsPlacedIn (n : ℕ) (m : MapValue) (p : Placed) : Type 0 where
   pub live : is_live m (site p.x p.y) ≡ true
   pub known : IsKnownAtom n p.atom
 
--- what holds of every chain that these names give: its numbers are in their ranges
+-- what legs need of a chain, which holds of every chain that these names give
 pub record IsChain (names : List (List ℕ)) (c : ChainValue) : Type 0 where
   pub map : IsMap c.plane
   pub on : 1 ≤ tiles_on c.plane.off

@@ -248,7 +248,7 @@ pub record IsNumberedAct (m : MapValue) (a : NumberedAct) : Type 0 where
   pub high : a.number ≤ LAST_LEG
   pub act : IsRawAct m a.act
 
--- reports after legs whose number is in its range, if not after all
+-- the period is in its range, if counts are printed
 abbrev pub IsJournal : Journal → Type 0
 IsJournal (Counts p) = (1 ≤ p) × (p ≤ MOST_LEGS)
 IsJournal j = Unit {0}

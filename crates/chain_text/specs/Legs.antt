@@ -1,7 +1,7 @@
 -- The numbers of a chain's legs, and their worlds.
 use Rattle.std.specs.Prelude.{ℕ, ◌+◌, ◌-◌, ◌*◌, ◌%◌, ◌^◌, ◌==◌, fold, map, if◌then◌else◌}
 use Rattle.cell_grid.specs.Grid.{GridValue}
-use Rattle.draw_stream.specs.Plans.{seeded}
+use Rattle.draw_stream.specs.Plans.{PlanValue, seeded}
 use Rattle.plane_acts.specs.declared.act.Act.{Act}
 use Rattle.plane_acts.specs.declared.schedule.Once.{Once}
 use Rattle.plane_acts.specs.declared.act.Act.TheVariants.{Attempts}
@@ -37,6 +37,10 @@ count_by k count o = if o.leg == k then count_after count o.act else count
 abbrev pub leg_attempts : ChainValue → ℕ → ℕ
 leg_attempts c k = fold (count_by k) c.attempts c.schedule.once
 
+-- the attempts of leg k
+abbrev pub leg_plan : ChainValue → ℕ → PlanValue
+leg_plan c k = seeded (leg_seed c k) (leg_attempts c k) c.plane.off (c.plane.w * c.plane.h)
+
 -- a shown atom, as a world places it
 abbrev pub placed : Shown → Placed
 placed s = record { x = s.x; y = s.y; atom = s.atom }
@@ -46,7 +50,7 @@ placed s = record { x = s.x; y = s.y; atom = s.atom }
 abbrev pub leg_world : ChainValue → ℕ → GridValue → WorldValue
 leg_world c k g = record {
   plane = c.plane;
-  plan = seeded (leg_seed c k) (leg_attempts c k) c.plane.off (c.plane.w * c.plane.h);
+  plan = leg_plan c k;
   atoms = map placed (shown_atoms g);
   order = drawn (order_seed c k);
 }

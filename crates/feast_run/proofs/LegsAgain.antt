@@ -1,7 +1,7 @@
 -- The report of a chain's legs is their own: it says them, is audited with yes, and leads to their atoms.
 use Rattle.std.proofs.Common.{ℕ, ◌≡◌, ◌≢◌, ◌≤◌, List, Some, Ok, length, ap, sym, subst, refl, ◌∙◌, inr}
 use Rattle.chain_run.proofs.Audits.{report_if_yes, yes_if_report}
-use Rattle.chain_run.proofs.LoneLegs.{lone_are_stepped}
+use Rattle.chain_run.proofs.LoneLegs.{legs_lone, lone_are_stepped}
 use Rattle.chain_run.proofs.Own.{own_grid, readable_if_read, yes_alone}
 use Rattle.chain_run.specs.Audits.{AreLegsIn, IsAuditable, IsJudgedYes}
 use Rattle.chain_run.specs.Chains.{AreLegsOf, first_grid, making}
@@ -9,6 +9,7 @@ use Rattle.chain_run.specs.Judging.{JudgesChain, chain_judgement_text}
 use Rattle.chain_run.specs.Legs.{Leg, grid_after}
 use Rattle.chain_run.specs.Reading.{LegSaid, read_chain}
 use Rattle.chain_run.specs.Reports.{chain_report}
+use Rattle.chain_run.specs.Runs.{AreAlone}
 use Rattle.chain_run.specs.declared.judgement.ChainJudgement.TheVariants.{Yes}
 use Rattle.chain_text.proofs.Valid.{chain_valid}
 use Rattle.chain_text.proofs.Kept.{read_kept}
@@ -114,3 +115,7 @@ only_if files word bytes c e said line sound told is audits affirmed =
 pub lone_text : (files : List File) (word text : List ℕ) (c : ChainValue) (e : ElementsValue) (legs : List Leg) → ChainTold files word e.names c → AreLegsOf c e.meaning legs → text ≡ chain_report c e.names legs → tiles_of c.plane ≡ 1 →
     text ≡ stepped_text (chain_with c e)
 lone_text files word text c e legs told are shown one = shown ∙ ap (chain_report c e.names) (lone_are_stepped e.names c e.meaning (named files word c e.names told) one legs are)
+
+-- and each attempt is an event
+pub lone_events : (files : List File) (word : List ℕ) (c : ChainValue) (e : ElementsValue) (legs : List Leg) → ChainTold files word e.names c → AreLegsOf c e.meaning legs → tiles_of c.plane ≡ 1 → AreAlone (making c e.meaning) c.first legs
+lone_events files word c e legs told are one = (legs_lone e.names c e.meaning (named files word c e.names told) one c.first (first_grid c) legs are.follow).1

@@ -6,7 +6,7 @@ use Rattle.event_journal.specs.Logs.{abandoned_in, records_in}
 use Rattle.report_text.specs.Entries.{Entries}
 use Rattle.feast_run.proofs.Again.{replays_to}
 use Rattle.feast_run.proofs.CodeStages.{codes_are}
-use Rattle.feast_run.proofs.LegsAgain.{lone_text, only_if, yes_if}
+use Rattle.feast_run.proofs.LegsAgain.{lone_events, lone_text, only_if, yes_if}
 use Rattle.feast_base.proofs.Stages.{went}
 use Rattle.feast_run.proofs.Runs.{ReadyChainTold, ReadyTold, SettingTold, ready_told, set_is}
 use Rattle.feast_run.proofs.Sound.{AreSound, codes_sound, set_sound}
@@ -68,6 +68,7 @@ ran_told elements S IsTold files world text (a_chain c) are s h =
       told_chain = s.told;
       reports = reports;
       lone = lone_text files world text s.chain (elements s.given) reports.legs s.told reports.are reports.shown;
+      alone = lone_events files world s.chain (elements s.given) reports.legs s.told reports.are;
     })
 
 run_told : {X : Type 0} (elements : X → ElementsValue) (S : Stage X HaltValue) (IsTold : X → Type 0) (files : List File) (world text : List ℕ) → AreTold elements S IsTold → and_then (ready_by elements S (Some files) world) runs_setting (Ok text) → RunShown elements IsTold files world text

@@ -85,8 +85,8 @@ IsStepPackAgain files world file text (inr told) = IfReadable told.chain text (I
 
 -- the bytes of a run or a stepped run determine its journal: what they say when they are read as a
 -- report of its world are its own events and abandoned attempts. An audit of them comes to `yes`, and
--- a rewind of them to the atoms after the journal's first events. The same of a chain, leg by leg, if
--- its report can be read
+-- a rewind of them to the atoms after the journal's first events. Of a chain the same holds, leg by leg,
+-- if its report can be read; a replay then comes to the atoms that the last leg left
 abbrev pub IsReadAgain : (files : List File) (form : FormValue) (appended : List ℕ) → Shows files form appended → Type 0
 IsReadAgain files (check words) appended told = Unit {0}
 IsReadAgain files (code words) appended told = Unit {0}

@@ -1,10 +1,11 @@
 -- What is known of the bytes that a form appended, if its files are known.
 use Rattle.std.specs.Prelude.{ℕ, ◌≡◌, ◌≤◌, length, take, List, [], ◌∷◌, codes, false, true, Some, Ok, ◌⊎◌}
 use Rattle.chain_run.specs.Audits.{AreLegsIn}
-use Rattle.chain_run.specs.Chains.{AreLegsOf}
+use Rattle.chain_run.specs.Chains.{AreLegsOf, making}
 use Rattle.chain_run.specs.Judging.{chain_judgement_text}
 use Rattle.chain_run.specs.Reading.{LegSaid, read_chain}
 use Rattle.chain_run.specs.Replays.{events_in}
+use Rattle.chain_run.specs.Runs.{AreAlone}
 use Rattle.chain_run.specs.declared.judgement.ChainJudgement.TheVariants.{Yes}
 use Rattle.chain_text.specs.Chain.{ChainValue}
 use Rattle.chain_text.specs.Named.{ReadsChain}
@@ -97,8 +98,9 @@ pub record ChainRanTold {X : Type 0} (elements : X → ElementsValue) (IsTold : 
   pub is_told : IsTold given
   pub told_chain : ChainTold files word (elements given).names chain
   pub reports : ReportsLegs (chain_with chain (elements given)) appended
-  -- on a plane of one tile they are those of the stepped legs
+  -- on a plane of one tile they are those of the stepped legs, and each attempt of each leg is an event, in its order
   pub lone : tiles_of chain.plane ≡ 1 → appended ≡ stepped_text (chain_with chain (elements given))
+  pub alone : tiles_of chain.plane ≡ 1 → AreAlone (making chain (elements given).meaning) chain.first reports.legs
 
 -- a stepped run of a chain: the bytes appended are the reports of its stepped legs, and these are legs of the chain
 pub record ChainSteppedTold {X : Type 0} (elements : X → ElementsValue) (IsTold : X → Type 0) (files : List File) (word appended : List ℕ) : Type 0 where
@@ -181,8 +183,8 @@ pub record ReplayLegsTold (files : List File) (words : ReportWords) (appended : 
 abbrev pub AreReportedLegs : ChainValue → SetValue → List ℕ → Type 0
 AreReportedLegs chain set bytes = AreLegsIn (element_names set) chain (source_elements set).meaning bytes
 
--- an audit of a chain's report: the bytes appended are the line of the judgement on it. It is `yes` where they are the report of legs
--- that are the chain's, and nowhere else
+-- an audit of a chain's report: the bytes appended are the line of the judgement on it. They are `yes` where the report's bytes are
+-- those of legs that are the chain's, and nowhere else
 pub record AuditLegsTold (files : List File) (words : ReportWords) (appended : List ℕ) : Type 0 where
   pub known : KnownLegs files words
   pub audits : AuditsLegs (chain_of_set known.chain known.set) known.said appended

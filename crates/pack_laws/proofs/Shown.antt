@@ -1,6 +1,7 @@
 -- What is told of a text that a form showed is told with the other elements too, where these are called and do the same.
 use Rattle.std.proofs.Common.{ℕ, ◌≡◌, false, true, List, Option, Some, None, Result, Ok, Err, inl, inr, sym, ap, subst, ◌∙◌}
-use Rattle.chain_run.specs.Chains.{AreLegsOf}
+use Rattle.chain_run.specs.Chains.{AreLegsOf, making}
+use Rattle.chain_run.specs.Runs.{AreAlone}
 use Rattle.chain_text.specs.Chain.{ChainValue}
 use Rattle.chain_text.specs.Named.{chain_with_names}
 use Rattle.chain_text.specs.Reading.{is_chain, read_text as read_chain_text}
@@ -12,6 +13,7 @@ use Rattle.feast_run.specs.Owing.{Reports}
 use Rattle.feast_run.specs.Told.{ChainRanTold, ChainSteppedTold, ChainTold, RanTold, RunShown, StepShown, SteppedTold, WorldTold}
 use Rattle.feast_run.specs.Stages.{chain_with, ready_with}
 use Rattle.feast_run.specs.Stepped.{IsSteppedRun, machine_of, stepped_report}
+use Rattle.tile_map.specs.Plane.{tiles_of}
 use Rattle.world_text.specs.Named.{WorldValue, world_with_names}
 use Rattle.world_text.specs.Reading.{read_text}
 
@@ -41,6 +43,8 @@ module _ (files : List File) (word text : List ℕ) where
   record RanLegs (chain : ChainValue) (e : ElementsValue) : Type 0 where
     pub told_chain : ChainTold files word e.names chain
     pub reports : ReportsLegs (chain_with chain e) text
+    pub lone : tiles_of chain.plane ≡ 1 → text ≡ stepped_text (chain_with chain e)
+    pub alone : tiles_of chain.plane ≡ 1 → AreAlone (making chain e.meaning) chain.first reports.legs
 
   module _ (X Y : Type 0) (value : X → ElementsValue) (other : Y → ElementsValue) (T : X → Type 0) (U : Y → Type 0) (x : X) (y : Y) (s : OneTold T x) (t : OneTold U y) (same : value x ≡ other y) where
     stepped_same : SteppedTold value T files word text → SteppedTold other U files word text
@@ -63,9 +67,9 @@ module _ (files : List File) (word text : List ℕ) where
 
     legs_ran_same : ChainRanTold value T files word text → ChainRanTold other U files word text
     legs_ran_same h =
-        let here : RanLegs h.chain (value h.given) = record { told_chain = h.told_chain; reports = h.reports } in
+        let here : RanLegs h.chain (value h.given) = record { told_chain = h.told_chain; reports = h.reports; lone = h.lone; alone = h.alone } in
         let there = subst (RanLegs h.chain) same (subst (λ (a : X). RanLegs h.chain (value a)) (s.one h.given h.is_told) here) in
-        record { chain = h.chain; given = y; is_told = t.told; told_chain = there.told_chain; reports = there.reports }
+        record { chain = h.chain; given = y; is_told = t.told; told_chain = there.told_chain; reports = there.reports; lone = there.lone; alone = there.alone }
 
     pub step_same : StepShown value T files word text → StepShown other U files word text
     step_same h = elim h [ inl w ↦ inl (stepped_same w) | inr c ↦ inr (legs_stepped_same c) ]

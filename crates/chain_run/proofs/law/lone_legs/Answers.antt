@@ -1,5 +1,5 @@
-use Rattle.chain_run.proofs.LoneLegs.{lone_are_stepped}
+use Rattle.chain_run.proofs.LoneLegs.{legs_lone}
 use Rattle.chain_run.proofs.law.lone_legs.Goals as goal
 
 pub returns : goal.returns
-returns c = lone_are_stepped
+returns c = legs_lone

@@ -1,4 +1,5 @@
 use Rattle.std.proofs.Common.{ℕ, ◌+◌, ◌-◌, List, Ok, Err, ap, arith, length, length-append, subst, sym, ◌∙◌}
+use Rattle.chain_text.specs.Legs.{leg_plan}
 use Rattle.chain_text.specs.Values.{chain_value}
 use Rattle.report_text.proofs.Firsts.{first_and_later}
 use Rattle.report_text.specs.First.{first_report, later_reports}
@@ -6,7 +7,6 @@ use Rattle.report_text.specs.Reading.{IsFault, fault_of}
 use Rattle.chain_run.proofs.Numbered.{first_few}
 use Rattle.chain_run.proofs.Readers.{before_low, empty_of, next_fails, read_none, read_over, some_of, stops, taken, taken_on}
 use Rattle.chain_run.specs.Reader.{ReaderValue, ReadsLeg, next_leg, said_by}
-use Rattle.chain_run.specs.Reading.{leg_plan}
 use Rattle.chain_run.proofs.reports.LegReports.next.Goals as goal
 
 pub returns-then-is_empty : goal.returns-then-is_empty
