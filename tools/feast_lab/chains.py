@@ -89,9 +89,9 @@ class Chain:
         if not 0 <= leg < len(course.legs):
             raise LabError(f"plane({leg}): the chain has the legs 0 to {len(course.legs) - 1}")
         events = course.upto(leg).events
-        return self._moment(leg, events, self.folder.atoms(leg, self.begun))
+        return self.moment(leg, events, self.folder.atoms(leg, self.begun))
 
-    def _moment(self, leg: int, events: int, atoms: str) -> Moment:
+    def moment(self, leg: int, events: int, atoms: str) -> Moment:
         """The plane with these atoms, as `replay` writes them."""
         title = f"leg {leg} of {self.folder.path.name}"
         return Moment.of(title, self.folder.world, self.layout, self.texts, events, atom_lines(atoms))
@@ -101,11 +101,11 @@ class Chain:
         if self.begun.every > 1:
             raise LabError(f"{self.folder.path}: the chain keeps the atoms of every {self.begun.every}th leg alone")
         course = self._course()
-        yield self._moment(0, 0, self.folder.atoms(0, self.begun))
+        yield self.moment(0, 0, self.folder.atoms(0, self.begun))
         events = 0
         for leg, report in self.folder.packed(self.begun).all():
             events += course.legs[leg].events
-            yield self._moment(leg, events, report.atoms)
+            yield self.moment(leg, events, report.atoms)
 
     def measure(self, of: Callable[[Moment], Any]) -> Array:
         """What a function says of the plane at the end of each leg, from the start on: a row of an array for each."""
