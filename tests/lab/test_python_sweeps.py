@@ -85,6 +85,21 @@ class Sweeps(PackageCase):
         shutil.rmtree(self.room / "asked" / "runs" / "00002")
         self.refused("a function old of Python says when a run is over", "sweep", "--task", self.room / "asked", "2")
 
+    def test_closed(self) -> None:
+        """What had no folder of its own says so once it is closed; what has one is still there."""
+        script = PLAIN + (
+            "words = dict(set={'attempts': [20, 30]}, step=True, keep='reports')\n"
+            "with feast_lab.sweep(world, elements, **words) as sweep, sweep.chain(1) as chain: print(len(chain), chain.is_closed)\n"
+            "with feast_lab.chain(world, elements, legs=2, step=True) as own: plane = own.plane(1)\n"
+            "with feast_lab.chain(world, elements, legs=2, step=True, folder='kept') as kept: pass\n"
+            "print(sweep, own, chain.is_closed, len(kept), len(plane) > 0)\n"
+            "for wrong in (lambda: sweep.rows, lambda: sweep.missing, lambda: own.course, lambda: feast_lab.go_on(own, 3), lambda: len(own)):\n"
+            "    try: wrong()\n"
+            "    except feast_lab.LabError as error: print(error)\n")
+        gone = "is closed, and its folder has gone with it"
+        self.assertEqual(self.says(script), ["1 False", "<Sweep, closed> <Chain, closed> True 2 True",
+                                             *[f"the sweep {gone}"] * 2, *[f"the chain {gone}"] * 3])
+
     def test_values(self) -> None:
         """Values come back as what they are: numbers, truth values, pairs; a frame has them too."""
         self.elements.write_text(self.elements.read_text().replace("Unsigned odds = 2", "Unsigned odds = 2; constant Bool quick = true"))

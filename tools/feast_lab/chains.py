@@ -20,6 +20,7 @@ from .lab.measure.measures import Measure, measures_of
 
 from . import arrays, datasets, recordings
 from .arrays import Array
+from .closing import Closing
 from .films import Film
 from .measured import Measure as Measured, said, with_columns
 from .moments import Moment
@@ -27,33 +28,23 @@ from .programs import found
 from .runs import Run
 
 
-class Chain:
-    """The chain of a folder, as far as it is made."""
+class Chain(Closing):
+    """The chain of a folder, as far as it is made. Closed, its folder is gone if it has none of its own."""
 
     def __init__(self, folder: str | Path, *, program: str | Path | None = None, room: TemporaryDirectory[str] | None = None) -> None:
         """The chain that was begun in a folder. `room` is what the folder lies in if it goes away with this object."""
-        self.folder = Folder(Path(folder))
+        super().__init__(room)
+        self._folder = Folder(Path(folder))
         self.begun = self.folder.begun()
         self.program = found(program)
         self.layout = Layout.of(self.program, self.folder.files)
         self.texts = [(file, read_comments(file)) for file in self.folder.files]
-        self._room = room
-
-    def __enter__(self) -> "Chain":
-        return self
-
-    def __exit__(self, *_error: object) -> None:
-        self.close()
-
-    def close(self) -> None:
-        """Takes the chain's folder away, if it has none of its own."""
-        if self._room is not None:
-            self._room.cleanup()
 
     @property
-    def is_passing(self) -> bool:
-        """Whether its folder goes away with it."""
-        return self._room is not None
+    def folder(self) -> Folder:
+        """Its folder."""
+        self.refuse_gone("the chain")
+        return self._folder
 
     @property
     def recording(self) -> Recording:
@@ -61,6 +52,8 @@ class Chain:
         return recording_of_chain(self.program, self.folder.path, [])
 
     def __repr__(self) -> str:
+        if self.is_gone:
+            return "<Chain, closed>"
         return f"<Chain of {len(self)} legs>" if self.is_passing else f"<Chain {self.folder.path}: {len(self)} legs>"
 
     def __len__(self) -> int:

@@ -21,6 +21,7 @@ from . import arrays
 from .arrays import Array
 from .asked import Until, asked
 from .chains import Chain, kind_of, number_of
+from .closing import Closing
 from .measured import Measure, said, with_columns
 from .programs import Paths, found, plain_names
 from .runs import elements_of, world_file
@@ -31,30 +32,28 @@ Sets = Mapping[str | tuple[str, ...], Sequence[object]]
 TRUTH = {"true": True, "false": False}
 
 
-class Sweep:
-    """The sweep of a folder, as far as its runs are made."""
+class Sweep(Closing):
+    """The sweep of a folder, as far as its runs are made. Closed, its folder is gone if it has none of its own."""
 
-    def __init__(self, folder: str | Path, *, program: str | Path | None = None) -> None:
-        self.folder = Made(Path(folder))
+    def __init__(self, folder: str | Path, *, program: str | Path | None = None, room: TemporaryDirectory[str] | None = None) -> None:
+        """The sweep that was planned in a folder. `room` is what the folder lies in if it goes away with this object."""
+        super().__init__(room)
+        self._folder = Made(Path(folder))
         self.plan = self.folder.plan
         self.layout = Layout.of(found(program), self.folder.files)
-        self._room: TemporaryDirectory[str] | None = None  # of a sweep without a folder of its own
+
+    @property
+    def folder(self) -> Made:
+        """Its folder."""
+        self.refuse_gone("the sweep")
+        return self._folder
 
     def __repr__(self) -> str:
+        if self.is_gone:
+            return "<Sweep, closed>"
         missing = self.missing
-        where = f"{self.folder.path}:" if self._room is None else "of"
+        where = "of" if self.is_passing else f"{self.folder.path}:"
         return f"<Sweep {where} {len(self):,} runs{f', {len(missing):,} of them missing' if missing else ''}>"
-
-    def __enter__(self) -> "Sweep":
-        return self
-
-    def __exit__(self, *_error: object) -> None:
-        self.close()
-
-    def close(self) -> None:
-        """Takes the sweep's folder away, if it has none of its own."""
-        if self._room is not None:
-            self._room.cleanup()
 
     def __len__(self) -> int:
         return self.plan.runs
@@ -129,9 +128,7 @@ def sweep(world: str | Path | World, elements: Paths | None = None, *, set: Sets
         ends = asked(until)
         for _ in made(place, place.missing(), side_by_side, told, None if isinstance(ends, str) else ends):
             pass
-    done = Sweep(place.path)
-    done._room = room if folder is None else None
-    return done
+    return Sweep(place.path, room=room if folder is None else None)
 
 
 def told_of(until: Until | None) -> str | None:
