@@ -20,8 +20,7 @@ from .values import Setting, settings
 
 @dataclass(frozen=True)
 class WantedSweep:
-    """What a sweep is to be; `sets`, `at` and `until` are as the options have them, but that `until` may name a function, and
-    `measures` are columns. With `drift` the
+    """What a sweep is to be; `sets`, `at` and `until` are as the options have them, `measures` are columns. With `drift` the
     rows have how far the tiles were apart."""
 
     world: Path
@@ -32,7 +31,7 @@ class WantedSweep:
     step: bool
     seed: int | None
     at: Sequence[str]
-    until: str | None
+    until: str | None  # or the name of a function behind FUNCTION
     keep: str
     measures: Sequence[str]
     drift: bool
