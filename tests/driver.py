@@ -6,7 +6,7 @@ The parts, in the order in which they are begun:
   lab         the lab
   hostile     the quick part of hostile use
   pages       the pages: links, paths, files, commands and what they write
-  python      what a type checker and a linter find in Python (mypy and flake8, where they are there)
+  python      what a type checker and a linter find in Python, where they are there
   first_call  ./feast where the program has to be proved first, on a toolchain that only pretends
   dist        dist/ is of the sources that lie here; which program is taken, on small repositories that only pretend
   cases       the cases of tests/cases

@@ -2,7 +2,8 @@
 """What a type checker and a linter find in the repository's Python: python_code.py [NAME..].
 
 mypy and flake8 are Debian's packages of these names, and pytest, which has to find the tests of the lab, is python3-pytest
-(`apt-get install mypy flake8 python3-pytest`). One that isn't there is left out.
+(`apt-get install mypy flake8 python3-pytest`). One that isn't there is left out. The linter is ruff where that is there, which
+Debian 12 and 13 don't have, and else flake8; pyproject.toml and .flake8 ask both for the same.
 Modules of several folders have one name, so mypy looks at one folder after another.
 """
 from __future__ import annotations
@@ -73,14 +74,15 @@ def checks(_: object) -> Iterator[Check]:
     packages = [str(path.parent.relative_to(TOP)) for path in sorted((TOP / "tools").glob("*/__init__.py"))]
     for folder in [*packages, *TYPED]:
         yield Check(f"mypy/{folder}", partial(type_faults, folder))
-    yield Check("flake8", lint_faults)
+    yield Check("linter", lint_faults)
     yield Check("pytest", collection_faults)
 
 
 def lint_faults() -> Optional[str]:
-    """What flake8 finds."""
+    """What the linter finds."""
     scripts = [script for script in SCRIPTS if (TOP / script).is_file() and is_python(TOP / script)]
-    return said_by([program("flake8"), "tools", "tests", "bench", "editors", "examples", "setup.py", *scripts])
+    linter = [program("ruff"), "check", "--no-cache"] if shutil.which("ruff") else [program("flake8")]
+    return said_by([*linter, "tools", "tests", "bench", "editors", "examples", "setup.py", *scripts])
 
 
 def collection_faults() -> Optional[str]:

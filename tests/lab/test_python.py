@@ -273,12 +273,15 @@ for name, x in (("Cell.big", 1), ("Other.deep", 2), ("Third.high", 3), ("Cell.sm
 class Page(LabCase):
     """The page, whose blocks are one script."""
 
-    def test_study(self) -> None:
+    MOST_LINES = 25  # of a whole experiment
+
+    def check(self, text: str) -> str:
+        """Runs the blocks of a text of the page, which are to print what they say; gives them."""
         python = with_extras()
         if python is None:
             raise unittest.SkipTest("no Python has NumPy, pandas and Matplotlib")
         (self.room / "examples").symlink_to(EXAMPLES)
-        blocks = list(pieces(PAGE.read_text().partition("## A study")[2]))
+        blocks = list(pieces(text))
         script = "".join(block for before, block in blocks if not before.endswith("prints"))
         prints = "".join(block for before, block in blocks if before.endswith("prints"))
         self.assertEqual(script.splitlines()[0], "import feast_lab")
@@ -287,5 +290,18 @@ class Page(LabCase):
         done = subprocess.run([python, "-"], input=script, cwd=self.room, env=around, capture_output=True,
                               text=True, check=False)
         self.assertEqual((done.returncode, done.stdout), (0, prints), done.stderr)  # Matplotlib may tell of its fonts
+        return script
+
+    def test_study(self) -> None:
+        """All of them."""
+        self.check(PAGE.read_text().partition("## A study")[2])
         self.assertIn("<svg", (self.room / "gradient.svg").read_text())
-        shutil.rmtree(self.room / "examples", ignore_errors=True)
+
+    def test_experiment(self) -> None:
+        """Those of a whole experiment stand alone, in few lines, and use nothing but the package."""
+        script = self.check(PAGE.read_text().partition("## A whole experiment")[2].partition("\n## ")[0])
+        lines = list(filter(None, script.splitlines()))
+        self.assertLessEqual(len(lines), self.MOST_LINES)
+        self.assertEqual([line for line in lines if "import" in line], ["import feast_lab"])
+        self.assertIn("<svg", (self.room / "heal.svg").read_text())
+        self.assertIn("<html", (self.room / "heal.html").read_text())

@@ -132,7 +132,7 @@ class Hearing(PackageCase):
         slow = self.file("slow", "#!/bin/sh\n[ \"$1\" != step ] || sleep 1\nexec \"$REAL\" \"$@\"\n")
         slow.chmod(0o755)
         script = (f"import os, sys; sys.path.insert(0, {str(TOP / 'tools')!r})\nos.environ['REAL'] = os.environ['FEAST_PROGRAM']\n"
-                  "import feast_lab.waiting, lab.base.progress as progress\n"
+                  "import feast_lab.waiting, feast_lab.lab.base.progress as progress\n"
                   "progress.LINE_EVERY = 0.1\n"
                   f"feast_lab.run({str(self.world)!r}, {str(self.elements)!r}, step=True, program={str(slow)!r}, progress=True)\n")
         done = subprocess.run([self.python(), "-B", "-c", script], capture_output=True, text=True, check=True)
@@ -176,7 +176,8 @@ class Measures(PackageCase):
             "begun = feast_lab.chain(world, elements, legs=1, step=True)\n"
             "print(len(feast_lab.go_on(begun, 40, until=old)) == len(rule), len(feast_lab.fork(begun, 1, 'fork', 40, until=old)) == len(rule))\n"
             "twin = feast_lab.fork(own, 1)\n"
-            "print(twin.course.tolist() == own.course.tolist(), twin.folder.path.exists(), twin.close(), twin.folder.path.exists())\n"
+            "place = twin.folder.path\n"
+            "print(twin.course.tolist() == own.course.tolist(), place.exists(), twin.close(), place.exists())\n"
             "print(len(feast_lab.chain(world, elements, legs=3, step=True, until=lambda plane: False)))\n"
             "print(len(feast_lab.go_on(begun, 1, until=old)) == len(rule))\n"
             "kept = feast_lab.chain(world, elements, legs=2, step=True, folder='kept')\n"

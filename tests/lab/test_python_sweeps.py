@@ -1,5 +1,6 @@
 """Sweeps from Python, against what the verb writes."""
 import csv
+import shutil
 
 from calls import Word
 from packaged import PackageCase
@@ -54,6 +55,50 @@ class Sweeps(PackageCase):
             "<Sweep here: 2 runs, 1 of them missing> [2] [1]", "here: run 2 isn't made yet",
             "here: the sweep has the runs 1 to 2, and no run 3", "here: the sweep was planned with other repeat: 1, not 2; name another folder",
             "jobs=0: it has to be at least 1", "True yes True"])
+
+    def test_until(self) -> None:
+        """A function of the plane ends runs where a rule that says the same does, side by side too; a sweep in a folder goes on
+        with it alone, and is audited."""
+        script = PLAIN + (
+            "import pathlib, shutil\n"
+            "def old(plane): return plane.grid('Cell.age').max() >= 3\n"
+            "def make(until, **more):\n"
+            "    return feast_lab.sweep(world, elements, set={'Cell.odds': [2, 5], 'attempts': [20, 60]}, repeat=2, legs=9, seed=7,\n"
+            "                           step=True, until=until, **more)\n"
+            "ruled, asked = make('max(Cell.age)>=3').rows, make(old, folder='asked', keep='reports', jobs=4).rows\n"
+            "print(len(asked), len(asked) < 10 * 8, asked.tolist() == ruled.tolist())\n"
+            "print(len(make(lambda plane: True).rows), len(make(lambda plane: False).rows))\n"
+            "for number in (1, 3): shutil.rmtree(f'asked/runs/0000{number}')\n"
+            "try: make(max, folder='asked', keep='reports')\n"
+            "except feast_lab.LabError as error: print(error)\n"
+            "print(make(old, folder='asked', keep='reports').rows.tolist() == ruled.tolist())\n"
+            "def wrong(plane): raise KeyError(plane.title)\n"
+            "try: make(wrong)\n"
+            "except KeyError as error: print(error)\n")
+        first, *said = self.says(script)
+        count, _, rest = first.partition(" ")
+        self.assertEqual((rest, int(count) > 16), ("True True", True))
+        self.assertEqual(said, ["8 80", 'asked: the sweep was planned with other until: "function old", not "function max"; name another folder',
+                                "True", "'leg 0 of chain'"])
+        self.passes("sweep", "--gather", self.room / "asked")
+        self.assertEqual(self.passes("sweep", "--audit", self.room / "asked"), "yes\n")
+        shutil.rmtree(self.room / "asked" / "runs" / "00002")
+        self.refused("a function old of Python says when a run is over", "sweep", "--task", self.room / "asked", "2")
+
+    def test_closed(self) -> None:
+        """What had no folder of its own says so once it is closed; what has one is still there."""
+        script = PLAIN + (
+            "words = dict(set={'attempts': [20, 30]}, step=True, keep='reports')\n"
+            "with feast_lab.sweep(world, elements, **words) as sweep, sweep.chain(1) as chain: print(len(chain), chain.is_closed)\n"
+            "with feast_lab.chain(world, elements, legs=2, step=True) as own: plane = own.plane(1)\n"
+            "with feast_lab.chain(world, elements, legs=2, step=True, folder='kept') as kept: pass\n"
+            "print(sweep, own, chain.is_closed, len(kept), len(plane) > 0)\n"
+            "for wrong in (lambda: sweep.rows, lambda: sweep.missing, lambda: own.course, lambda: feast_lab.go_on(own, 3), lambda: len(own)):\n"
+            "    try: wrong()\n"
+            "    except feast_lab.LabError as error: print(error)\n")
+        gone = "is closed, and its folder has gone with it"
+        self.assertEqual(self.says(script), ["1 False", "<Sweep, closed> <Chain, closed> True 2 True",
+                                             *[f"the sweep {gone}"] * 2, *[f"the chain {gone}"] * 3])
 
     def test_values(self) -> None:
         """Values come back as what they are: numbers, truth values, pairs; a frame has them too."""

@@ -20,6 +20,7 @@ from .lab.measure.measures import Measure, measures_of
 
 from . import arrays, datasets, recordings
 from .arrays import Array
+from .closing import Closing
 from .films import Film
 from .measured import Measure as Measured, said, with_columns
 from .moments import Moment
@@ -27,33 +28,23 @@ from .programs import found
 from .runs import Run
 
 
-class Chain:
-    """The chain of a folder, as far as it is made."""
+class Chain(Closing):
+    """The chain of a folder, as far as it is made. Closed, its folder is gone if it has none of its own."""
 
     def __init__(self, folder: str | Path, *, program: str | Path | None = None, room: TemporaryDirectory[str] | None = None) -> None:
         """The chain that was begun in a folder. `room` is what the folder lies in if it goes away with this object."""
-        self.folder = Folder(Path(folder))
+        super().__init__(room)
+        self._folder = Folder(Path(folder))
         self.begun = self.folder.begun()
         self.program = found(program)
         self.layout = Layout.of(self.program, self.folder.files)
         self.texts = [(file, read_comments(file)) for file in self.folder.files]
-        self._room = room
-
-    def __enter__(self) -> "Chain":
-        return self
-
-    def __exit__(self, *_error: object) -> None:
-        self.close()
-
-    def close(self) -> None:
-        """Takes the chain's folder away, if it has none of its own."""
-        if self._room is not None:
-            self._room.cleanup()
 
     @property
-    def is_passing(self) -> bool:
-        """Whether its folder goes away with it."""
-        return self._room is not None
+    def folder(self) -> Folder:
+        """Its folder."""
+        self.refuse_gone("the chain")
+        return self._folder
 
     @property
     def recording(self) -> Recording:
@@ -61,6 +52,8 @@ class Chain:
         return recording_of_chain(self.program, self.folder.path, [])
 
     def __repr__(self) -> str:
+        if self.is_gone:
+            return "<Chain, closed>"
         return f"<Chain of {len(self)} legs>" if self.is_passing else f"<Chain {self.folder.path}: {len(self)} legs>"
 
     def __len__(self) -> int:
@@ -89,9 +82,9 @@ class Chain:
         if not 0 <= leg < len(course.legs):
             raise LabError(f"plane({leg}): the chain has the legs 0 to {len(course.legs) - 1}")
         events = course.upto(leg).events
-        return self._moment(leg, events, self.folder.atoms(leg, self.begun))
+        return self.moment(leg, events, self.folder.atoms(leg, self.begun))
 
-    def _moment(self, leg: int, events: int, atoms: str) -> Moment:
+    def moment(self, leg: int, events: int, atoms: str) -> Moment:
         """The plane with these atoms, as `replay` writes them."""
         title = f"leg {leg} of {self.folder.path.name}"
         return Moment.of(title, self.folder.world, self.layout, self.texts, events, atom_lines(atoms))
@@ -101,11 +94,11 @@ class Chain:
         if self.begun.every > 1:
             raise LabError(f"{self.folder.path}: the chain keeps the atoms of every {self.begun.every}th leg alone")
         course = self._course()
-        yield self._moment(0, 0, self.folder.atoms(0, self.begun))
+        yield self.moment(0, 0, self.folder.atoms(0, self.begun))
         events = 0
         for leg, report in self.folder.packed(self.begun).all():
             events += course.legs[leg].events
-            yield self._moment(leg, events, report.atoms)
+            yield self.moment(leg, events, report.atoms)
 
     def measure(self, of: Callable[[Moment], Any]) -> Array:
         """What a function says of the plane at the end of each leg, from the start on: a row of an array for each."""

@@ -10,14 +10,13 @@ from .lab.chain.making import WantedChain, made
 from .lab.chain.start import Options
 from .lab.worlds.starting import drawn_world
 
+from .asked import Until, asked
 from .chains import Chain
 from .moments import Moment
 from .programs import Paths, plain_names
 from .runs import elements_of, world_file
 from .waiting import Hearer, reporter
 from .worlds import World
-
-Until = str | Callable[[Moment], bool]  # a rule as `./lab chain --until` has it, or a function of the plane at the end of a leg
 
 
 def chain(world: str | Path | World, elements: Paths | None = None, *, legs: int, folder: str | Path | None = None, step: bool = False,
@@ -27,9 +26,9 @@ def chain(world: str | Path | World, elements: Paths | None = None, *, legs: int
     """Makes a chain, or goes on with the one of a folder; the words mean what those of `./lab chain` do. `noise` is a text, such
     as "0.001".
 
-    `until` is a rule, or a function of a plane: once it holds at the end of a leg the chain is over. Without a folder the
-    chain goes away with the object. With `progress` a line on standard error says how far it is; or a function is told, by
-    the part that is done, from 0 to 1, and what is at work. The program is the one that `./lab` would call.
+    `until` is a rule, or a function of a plane: once it holds of the start, or at the end of a leg, the chain is over. Without
+    a folder the chain goes away with the object. With `progress` a line on standard error says how far it is; or a function
+    is told, by the part that is done, from 0 to 1, and what is at work. The program is the one that `./lab` would call.
     """
     files = elements_of(world, elements)
     with TemporaryDirectory() as room:
@@ -38,22 +37,21 @@ def chain(world: str | Path | World, elements: Paths | None = None, *, legs: int
         place = Path(own.name) / "chain" if own is not None else Path(folder or "")
         acts = [*at, *([noise_act(noise, drawn_world(path))] if noise is not None else [])]
         options = Options(step, seed, keep, atoms, acts)
-        wanted = WantedChain(place, path, files, first_of(legs, until), options, rule_of(until), measures, failures, drift)
+        wanted = WantedChain(place, path, files, legs, options, asked(until), measures, failures, drift)
         with plain_names():
             made(wanted, reporter(progress), Stop(), is_lasting=own is None)
-    return ended(Chain(place, room=own), legs, until)
+    return Chain(place, room=own)
 
 
 def go_on(begun: Chain, legs: int, at: Sequence[str] = (), until: Until | None = None, progress: Hearer = False) -> Chain:
     """Goes on with a chain until it has so many legs in all, or until a rule or a function holds at the end of one; gives the
     chain back. `at` are acts before legs that are still to come."""
     how, folder = begun.begun, begun.folder
-    first = min(len(begun) + 1, legs) if callable(until) else legs
     options = Options(how.step, how.seed, how.keep, how.atoms, at)
-    wanted = WantedChain(folder.path, folder.start, folder.files, first, options, rule_of(until))
+    wanted = WantedChain(folder.path, folder.start, folder.files, legs, options, asked(until))
     with plain_names():
         made(wanted, reporter(progress), Stop(), is_lasting=not begun.is_passing)
-    return ended(begun, legs, until)
+    return begun
 
 
 def walk(begun: Chain, legs: int, until: Callable[[Moment], bool] | None = None) -> Iterator[Moment]:
@@ -73,28 +71,9 @@ def fork(begun: Chain, leg: int, folder: str | Path | None = None, legs: int | N
     of its own, until it has so many legs in all (those of the other, if no number is given), or until a rule or a function
     holds at the end of one. Without a folder it goes away with the object."""
     whole = legs if legs is not None else len(begun)
-    first = min(leg + 1, whole) if callable(until) else whole
     own: TemporaryDirectory[str] | None = TemporaryDirectory() if folder is None else None
     place = Path(own.name) / "chain" if own is not None else Path(folder or "")
     with plain_names():
-        wanted = WantedChain(place, begun.folder.start, begun.folder.files, first, Options(at=at), rule_of(until))
+        wanted = WantedChain(place, begun.folder.start, begun.folder.files, whole, Options(at=at), asked(until))
         made(Origin.of(begun.folder.path).branch(str(leg), wanted), Progress(), Stop(), is_lasting=own is None)
-    return ended(Chain(place, room=own), whole, until)
-
-
-def rule_of(until: Until | None) -> str | None:
-    """The rule that the lab heeds; it knows nothing of functions."""
-    return until if isinstance(until, str) else None
-
-
-def first_of(legs: int, until: Until | None) -> int:
-    """How many legs are made before a function is asked: one, as far as there are any."""
-    return min(legs, 1) if callable(until) else legs
-
-
-def ended(begun: Chain, legs: int, until: Until | None) -> Chain:
-    """The chain, once a function holds of the plane at the end of a leg, or it has so many legs."""
-    if callable(until):
-        for _ in walk(begun, legs, until):
-            pass
-    return begun
+    return Chain(place, room=own)

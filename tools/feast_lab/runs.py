@@ -25,6 +25,7 @@ from .lab.worlds.starting import drawn_world
 
 from . import arrays, datasets, recordings
 from .arrays import Array
+from .closing import Closing
 from .films import Film
 from .moments import Moment
 from .programs import Paths, files_of, found
@@ -32,39 +33,29 @@ from .waiting import Hearer, called
 from .worlds import World as OwnWorld
 
 
-class Run:
+class Run(Closing):
     """A run of a world with element files: its events, its abandoned attempts, and its atoms at any moment.
 
-    `with` closes it at the end: its temporary files go away, and what the program has to be called for is over. What
-    it has given stays good.
+    Closed, it has no temporary files any more, and what the program has to be called for is over. What it has given stays
+    good.
     """
 
     def __init__(self, program: Program, world: Path, files: Sequence[Path], report: bytes, room: TemporaryDirectory[str]) -> None:
+        """The run of a report; `room` is the folder of copies, which goes away with the run."""
+        super().__init__(room)
         self.program = program
         self.path = world
         self.files = list(files)
         self.bytes = report
-        self._room = room  # the folder of copies, which goes away with the run
+        self._copies = Path(room.name)
         self.world = World.read(world)
         self.layout = Layout.of(program, self.files)
         self.texts = [(file, read_comments(file)) for file in self.files]
         self.outcome = Outcome.of(report)
-        self.is_closed = False
 
     def __repr__(self) -> str:
         told = self.outcome
         return f"<Run of {self.path.name}: {told.events:,} events, {told.abandoned:,} abandoned, {len(atom_lines(told.atoms)):,} atoms>"
-
-    def __enter__(self) -> "Run":
-        return self
-
-    def __exit__(self, *_error: object) -> None:
-        self.close()
-
-    def close(self) -> None:
-        """Takes the run's temporary files away."""
-        self.is_closed = True
-        self._room.cleanup()
 
     def part(self, head: bytes, until: int | None = None) -> bytes:
         """The lines of the report behind the line that counts them."""
@@ -155,7 +146,7 @@ class Run:
         """The report as a file of the run's own folder."""
         if self.is_closed:
             raise LabError(f"the run of {self.path.name} is closed; only what it had at its end is still there")
-        path = Path(self._room.name) / "report"
+        path = self._copies / "report"
         if not path.exists():
             write_new(path, self.bytes)
         return path

@@ -10,6 +10,7 @@ from .lab.base.errors import LabError
 from .lab.base.limits import MOST_COLUMNS
 from .lab.formats.layout import Layout
 from .lab.measure.measures import measures_of
+from .lab.measure.until import FUNCTION
 from .lab.sweep.check import check_runs
 from .lab.sweep.making import WantedSweep, made
 from .lab.sweep.plan import Sweep as Made, write_plan
@@ -18,7 +19,9 @@ from .lab.sweep.values import Setting
 
 from . import arrays
 from .arrays import Array
+from .asked import Until, asked
 from .chains import Chain, kind_of, number_of
+from .closing import Closing
 from .measured import Measure, said, with_columns
 from .programs import Paths, found, plain_names
 from .runs import elements_of, world_file
@@ -29,30 +32,28 @@ Sets = Mapping[str | tuple[str, ...], Sequence[object]]
 TRUTH = {"true": True, "false": False}
 
 
-class Sweep:
-    """The sweep of a folder, as far as its runs are made."""
+class Sweep(Closing):
+    """The sweep of a folder, as far as its runs are made. Closed, its folder is gone if it has none of its own."""
 
-    def __init__(self, folder: str | Path, *, program: str | Path | None = None) -> None:
-        self.folder = Made(Path(folder))
+    def __init__(self, folder: str | Path, *, program: str | Path | None = None, room: TemporaryDirectory[str] | None = None) -> None:
+        """The sweep that was planned in a folder. `room` is what the folder lies in if it goes away with this object."""
+        super().__init__(room)
+        self._folder = Made(Path(folder))
         self.plan = self.folder.plan
         self.layout = Layout.of(found(program), self.folder.files)
-        self._room: TemporaryDirectory[str] | None = None  # of a sweep without a folder of its own
+
+    @property
+    def folder(self) -> Made:
+        """Its folder."""
+        self.refuse_gone("the sweep")
+        return self._folder
 
     def __repr__(self) -> str:
+        if self.is_gone:
+            return "<Sweep, closed>"
         missing = self.missing
-        where = f"{self.folder.path}:" if self._room is None else "of"
+        where = "of" if self.is_passing else f"{self.folder.path}:"
         return f"<Sweep {where} {len(self):,} runs{f', {len(missing):,} of them missing' if missing else ''}>"
-
-    def __enter__(self) -> "Sweep":
-        return self
-
-    def __exit__(self, *_error: object) -> None:
-        self.close()
-
-    def close(self) -> None:
-        """Takes the sweep's folder away, if it has none of its own."""
-        if self._room is not None:
-            self._room.cleanup()
 
     def __len__(self) -> int:
         return self.plan.runs
@@ -101,13 +102,14 @@ class Sweep:
 
 
 def sweep(world: str | Path | World, elements: Paths | None = None, *, set: Sets | None = None, repeat: int = 1,
-          legs: int | None = None, step: bool = False, seed: int | None = None, at: Sequence[str] = (), until: str | None = None,
+          legs: int | None = None, step: bool = False, seed: int | None = None, at: Sequence[str] = (), until: Until | None = None,
           measures: Sequence[str] = (), drift: bool = False, keep: str = "none", folder: str | Path | None = None,
           jobs: int | None = None, progress: Hearer = False) -> Sweep:
     """Makes the runs of a sweep, or goes on with one in a folder; the words mean what those of `./lab sweep` do.
 
     `set` has for each name its values, such as `{"Shark.starving": [3, 5], "fill.Fish": [0.1, 0.3], "size": [(16, 16)]}`;
     a tuple of names has tuples of values, which go together. Every combination is run `repeat` times with the same seeds.
+    `until` is a rule, or a function of a plane, by whose name a folder knows it.
     Without a folder the runs go away with the sweep. `jobs` are the runs that are made side by side. With `progress` a
     line on standard error says how far it is. The program is the one that `./lab` would call.
     """
@@ -118,16 +120,20 @@ def sweep(world: str | Path | World, elements: Paths | None = None, *, set: Sets
         raise LabError(f"jobs={jobs}: it has to be at least 1")
     place = Made(Path(folder) if folder is not None else Path(room.name) / "sweep", is_lasting=folder is not None)
     with plain_names():
-        plan = WantedSweep(path, files, settings_of(set or {}), repeat, legs, step, seed, at, until, keep, measures, drift).plan()
+        plan = WantedSweep(path, files, settings_of(set or {}), repeat, legs, step, seed, at, told_of(until), keep, measures, drift).plan()
         if not place.is_planned:
             check_runs(plan, path, files, told)
         write_plan(place, plan, path, files)
         side_by_side = jobs or (len(os.sched_getaffinity(0)) if step or place.most_tiles == 1 else 1)
-        for _ in made(place, place.missing(), side_by_side, told):
+        ends = asked(until)
+        for _ in made(place, place.missing(), side_by_side, told, None if isinstance(ends, str) else ends):
             pass
-    done = Sweep(place.path)
-    done._room = room if folder is None else None
-    return done
+    return Sweep(place.path, room=room if folder is None else None)
+
+
+def told_of(until: Until | None) -> str | None:
+    """What the plan of a sweep has of a rule or a function."""
+    return until if until is None or isinstance(until, str) else FUNCTION + str(getattr(until, "__qualname__", type(until).__name__))
 
 
 def settings_of(sets: Sets) -> list[Setting]:

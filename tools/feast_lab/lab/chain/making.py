@@ -10,7 +10,7 @@ from ..base.progress import Progress, Stop
 from ..formats.layout import Layout
 from ..formats.outcome import atom_lines
 from ..measure.measures import measures_of
-from ..measure.until import LegEnd, Until
+from ..measure.until import Ends, LegEnd, OfChain, ends
 from .columns import with_drift, with_failures, with_measures
 from .course import Course
 from .folder import Folder
@@ -23,8 +23,8 @@ from .start import Options, Start
 class WantedChain:
     """What a chain is to be: its folder, what it begins with, and how many legs it has in all.
 
-    `until` is the rule of --until, and `measures` are columns of the course. With `failures` the course has a column of the
-    events that failed, with `drift` one of how far the tiles were apart.
+    `until` is the rule of --until or says otherwise when it is over, and `measures` are columns of the course. With `failures`
+    the course has a column of the events that failed, with `drift` one of how far the tiles were apart.
     """
 
     folder: Path
@@ -32,7 +32,7 @@ class WantedChain:
     files: Sequence[Path]
     legs: int
     options: Options = field(default_factory=Options)
-    until: str | None = None
+    until: str | OfChain | None = None
     measures: Sequence[str] = ()
     failures: bool = False
     drift: bool = False
@@ -47,7 +47,7 @@ def made(wanted: WantedChain, progress: Progress, stop: Stop, is_lasting: bool) 
     start = Start.of(program, wanted.world, wanted.files, wanted.options)
     layout = Layout.of(program, wanted.files)
     measures_of(wanted.measures, layout)
-    until = Until.of(wanted.until, layout) if wanted.until is not None else None
+    until = ends(wanted.until, folder.path, layout) if wanted.until is not None else None
     folder.make()
     with folder.held():
         maker, course = start.opened(folder)
@@ -60,11 +60,11 @@ def made(wanted: WantedChain, progress: Progress, stop: Stop, is_lasting: bool) 
     return course
 
 
-def go(maker: LegMaker, course: Course, legs: int, until: Until | None, progress: Progress, stop: Stop) -> None:
-    """Makes the legs that are still to be made, or those up to the first at whose end the rule holds."""
+def go(maker: LegMaker, course: Course, legs: int, until: Ends | None, progress: Progress, stop: Stop) -> None:
+    """Makes the legs that are still to be made, or those up to the first at whose end it is over."""
     done = len(course.legs) - 1
     atoms = maker.folder.atoms(done, maker.begun)
-    if done >= legs or (until is not None and until.holds(LegEnd(atoms, course.events, course.sites))):
+    if done >= legs or (until is not None and until(LegEnd(atoms, course.events, course.sites, done))):
         return
     progress.begin(legs, done)
     with Keeper(maker.folder, maker.begun, course) as keeper:
@@ -72,7 +72,7 @@ def go(maker: LegMaker, course: Course, legs: int, until: Until | None, progress
         for number, report in maker.made(done + 1, legs, before):
             failed = maker.failed(number, before, report)
             keeper.keep(maker.row(number, report, failed), report)
-            if until is not None and until.holds(LegEnd(report.atoms, course.events, course.sites)):
+            if until is not None and until(LegEnd(report.atoms, course.events, course.sites, number)):
                 break
             stop.heed()
             progress.at(number, f"leg {number} of {legs}")

@@ -3,6 +3,7 @@ import re
 from collections.abc import Callable
 from dataclasses import dataclass
 from fractions import Fraction
+from pathlib import Path
 
 from ..base.errors import LabError
 from ..formats.layout import Layout
@@ -10,17 +11,23 @@ from ..formats.outcome import counts
 from .measures import SIGNS, Measure, measured
 
 RULE = re.compile(r"(?P<term>Atoms\.\w+|events|aeps|\w+\(.*\))(?P<sign>!=|<=|>=|=|<|>)(?P<number>-?\d+(?:\.\d+)?)")
+FUNCTION = "function "  # before the name of a function of Python, which a plan has in place of a rule
 FORM = "Atoms.Element=N, or in place of Atoms.Element a measure, events or aeps, as in mean(Field.dist)>3.5 or aeps>=100"
 
 
 @dataclass(frozen=True)
 class LegEnd:
-    """What a chain has come to at the end of a leg: its atoms, as `replay` writes them, the events of all legs so far, and the
-    live sites of the plane."""
+    """What a chain has come to at the end of a leg: its atoms, as `replay` writes them, the events of all legs so far, the
+    live sites of the plane, and the number of the leg."""
 
     atoms: str
     events: int
     sites: int
+    leg: int
+
+
+Ends = Callable[[LegEnd], bool]
+OfChain = Callable[[Path], Ends]  # what says of the chain of a folder when it is over
 
 
 @dataclass(frozen=True)
@@ -48,6 +55,15 @@ class Until:
         """Whether it holds at the end of a leg. A mean, a least or a greatest of no atom never does."""
         number = self.number(end)
         return number is not None and SIGNS[self.sign](number, self.limit)
+
+
+def ends(until: str | OfChain, folder: Path, layout: Layout) -> Ends:
+    """When the chain of a folder is over, by a rule or in another way."""
+    if not isinstance(until, str):
+        return until(folder)
+    if until.startswith(FUNCTION):
+        raise LabError(f"--until: a {until} of Python says when a run is over, so Python has to make the runs, by feast_lab.sweep")
+    return Until.of(until, layout).holds
 
 
 def number_of(term: str, layout: Layout) -> Callable[[LegEnd], Fraction | None]:

@@ -12,7 +12,7 @@ from ..base.program import Program
 from ..base.progress import Progress
 from ..chain.audit import AuditedChain
 from ..chain.folder import Folder
-from ..measure.until import LegEnd, Until
+from ..measure.until import FUNCTION, LegEnd, Until
 from .plan import TABLE, PlannedRun, Sweep
 from .run import again, rows_of
 
@@ -98,12 +98,15 @@ def fault_of(program: Program, sweep: Sweep, run: PlannedRun) -> str | None:
 
 
 def ends_as_planned(sweep: Sweep, chain: AuditedChain) -> bool:
-    """Whether a run has all its legs, or else those up to the first at whose end the rule of --until holds."""
+    """Whether a run has all its legs, or else those up to the first at whose end the rule of --until holds. Of a function it
+    isn't known when it holds."""
     folder, last, legs = chain.maker.folder, chain.packs.done, sweep.plan.legs or 1
     if sweep.plan.until is None:
         return last == legs
+    if sweep.plan.until.startswith(FUNCTION):
+        return last <= legs
     until = Until.of(sweep.plan.until, chain.maker.layout)
     atoms = itertools.chain([folder.atoms(0, chain.maker.begun)], (report.atoms for _, report in chain.packs.all()))
     ends = itertools.accumulate(leg.events for leg in chain.course.legs)
-    holds = [leg for leg, (left, events) in enumerate(zip(atoms, ends, strict=True)) if until.holds(LegEnd(left, events, chain.course.sites))]
+    holds = [leg for leg, (left, events) in enumerate(zip(atoms, ends, strict=True)) if until.holds(LegEnd(left, events, chain.course.sites, leg))]
     return holds == [last] or (last == legs and not holds)

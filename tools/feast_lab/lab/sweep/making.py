@@ -11,7 +11,7 @@ from ..base.program import Program
 from ..base.progress import Progress, Stop
 from ..formats.layout import Layout
 from ..measure.measures import measures_of
-from ..measure.until import Until
+from ..measure.until import FUNCTION, OfChain, Until
 from ..worlds.starting import drawn_world, first_seed
 from .plan import FORM, MOST_RUNS, Plan, PlannedRun, Sweep
 from .run import make_run
@@ -31,7 +31,7 @@ class WantedSweep:
     step: bool
     seed: int | None
     at: Sequence[str]
-    until: str | None
+    until: str | None  # or the name of a function behind FUNCTION
     keep: str
     measures: Sequence[str]
     drift: bool
@@ -45,7 +45,7 @@ class WantedSweep:
         program, world = Program.find(), drawn_world(self.world)
         layout = Layout.of(program, self.files)
         measures = [measure.name for measure in measures_of(self.measures, layout)]
-        if self.until is not None:
+        if self.until is not None and not self.until.startswith(FUNCTION):
             Until.of(self.until, layout)
         texts = [read_byte_text(file) for file in self.files]
         acts = [*(Setting("--at", text) for text in self.at), *(Setting("--noise", text) for text in [self.noise] if text is not None)]
@@ -58,15 +58,15 @@ class WantedSweep:
         return plan
 
 
-def made(sweep: Sweep, numbers: Sequence[int], jobs: int, progress: Progress) -> Iterator[PlannedRun]:
-    """Makes runs, and gives back each when it and those before it are over."""
+def made(sweep: Sweep, numbers: Sequence[int], jobs: int, progress: Progress, until: OfChain | None = None) -> Iterator[PlannedRun]:
+    """Makes runs, and gives back each when it and those before it are over. `until` is the function that the plan names."""
     stop = Stop()
     progress.begin(len(numbers))
 
     def make(number: int) -> PlannedRun:
         """Makes one run."""
         wanted = sweep.run(number)
-        make_run(sweep, wanted, stop)
+        make_run(sweep, wanted, stop, until)
         return wanted
 
     pool = ThreadPoolExecutor(jobs)

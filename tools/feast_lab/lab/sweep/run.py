@@ -16,24 +16,26 @@ from ..base.progress import Progress, Stop
 from ..chain.course import COLUMNS, COURSE
 from ..chain.making import WantedChain, made
 from ..chain.start import Options
+from ..measure.until import Ends, OfChain
 from .plan import Plan, PlannedRun, Sweep
 
 LABEL = "run.json"
 
 
-def make_run(sweep: Sweep, run: PlannedRun, stop: Stop) -> None:
-    """Makes a run, if it isn't there yet. If another maker puts it in its place first, that one stays."""
+def make_run(sweep: Sweep, run: PlannedRun, stop: Stop, until: OfChain | None = None) -> None:
+    """Makes a run, if it isn't there yet. If another maker puts it in its place first, that one stays. `until` is the function
+    that the plan names."""
     if sweep.folder(run.number).is_dir():
         return
     with inputs(sweep, run) as (room, world, files):
-        made(wanted_chain(sweep, run, room / "chain", world, files), Progress(), stop, is_lasting=False)
+        made(wanted_chain(sweep, run, room / "chain", world, files, until), Progress(), stop, is_lasting=False)
         put_in_place(sweep, run, room / "chain")
 
 
 def again(sweep: Sweep, run: PlannedRun) -> None:
     """Asks for a chain again that has all its legs: nothing is made. Raises LabError if it was begun with anything else."""
     with inputs(sweep, run) as (_, world, files):
-        made(wanted_chain(sweep, run, sweep.folder(run.number), world, files), Progress(), Stop(), is_lasting=False)
+        made(wanted_chain(sweep, run, sweep.folder(run.number), world, files, at_once), Progress(), Stop(), is_lasting=False)
 
 
 @contextmanager
@@ -48,11 +50,16 @@ def inputs(sweep: Sweep, run: PlannedRun) -> Iterator[tuple[Path, Path, list[Pat
         yield room, world, files
 
 
-def wanted_chain(sweep: Sweep, run: PlannedRun, folder: Path, world: Path, files: Sequence[Path]) -> WantedChain:
-    """The chain that a run is."""
+def at_once(_folder: Path) -> Ends:
+    """Has a chain be over as it is."""
+    return lambda _end: True
+
+
+def wanted_chain(sweep: Sweep, run: PlannedRun, folder: Path, world: Path, files: Sequence[Path], until: OfChain | None) -> WantedChain:
+    """The chain that a run is; it is over as the plan says, or by something else."""
     plan = sweep.plan
     options = Options(plan.step, run.seed, plan.keep, 1, sweep.acts_of(run))
-    return WantedChain(folder, world, files, plan.legs or 1, options, plan.until, plan.measures, drift=plan.drift)
+    return WantedChain(folder, world, files, plan.legs or 1, options, until or plan.until, plan.measures, drift=plan.drift)
 
 
 def label(plan: Plan, run: PlannedRun) -> str:
