@@ -82,6 +82,9 @@ class Living:
         assert answer.status == 200, answer.status
         try:
             while line := answer.readline().decode().rstrip("\n"):
+                if line.startswith(":"):  # it says that it is still there
+                    answer.readline()
+                    continue
                 name = line.removeprefix("event: ")
                 data = answer.readline().decode().rstrip("\n").removeprefix("data: ")
                 answer.readline()

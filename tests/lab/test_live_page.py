@@ -8,6 +8,7 @@ import time
 import unittest
 
 import films
+import kept_chain
 from browser import Browser, chromium
 from calls import EXAMPLES, program
 from living import Living
@@ -100,7 +101,7 @@ class Regulator(LivePage):
 
     def test_scenario(self) -> None:
         slow = self.file("slow", "#!/bin/sh\n"
-                                 f"case $* in run*world*) test -e {self.room}/now && {{ touch {self.room}/there; sleep 60; }} ;; esac\n"
+                                 f"case $* in run*chain*) test -e {self.room}/now && {{ touch {self.room}/there; sleep 60; }} ;; esac\n"
                                  f"exec {program()} \"$@\"\n")
         slow.chmod(0o755)
         live = self.living(self.chain, WORLD, ELEMENTS, instead=slow)
@@ -123,7 +124,7 @@ class Regulator(LivePage):
         self.browser.wait("document.getElementById('play').textContent === 'Play'")
         leg: int = live.shot()["leg"]
         self.browser.wait(f"{LEG} === {leg}")
-        atoms = films.plane_of((self.chain / f"{leg:04}.atoms").read_text().splitlines()[2:])
+        atoms = films.plane_of(kept_chain.atoms(self.chain, leg))
         self.shown_plane(atoms)
         self.picture("live-pause")
         return leg, atoms
@@ -143,7 +144,7 @@ class Regulator(LivePage):
         self.set("chance", "0.5")
         self.over((0, 8), (7, 15))
         self.waits(3)
-        self.assertRegex(self.acts()[2], rf"^{leg + 1}:erase:0.5:0,8,8,8:seed=\d+$")
+        self.assertEqual(self.acts()[2], f"{leg + 1}:erase:0.5:0,8,8,8")
         self.tool("erase")
         self.over((15, 0), (15, 2))
         self.waits(4)
@@ -169,7 +170,9 @@ class Regulator(LivePage):
         """The chain is killed in the midst of a leg, and the page says so."""
         (self.room / "now").touch()
         self.press_button("play")
+        end = time.monotonic() + 600
         while not (self.room / "there").exists():
+            self.assertLess(time.monotonic(), end, "the program is not called")
             time.sleep(0.02)
         live.ends(signal.SIGKILL)
         (self.room / "now").unlink()
@@ -199,7 +202,7 @@ class Regulator(LivePage):
         self.open(page)
         self.browser.value(f"window.location.hash = '#frame={after}'")
         self.browser.wait(f"document.getElementById('slider').value === '{after}'")
-        self.assertRegex(self.text("done"), r"^Done by hand: put:Regulator:1,1,5,1; clear:8,8,5,8; erase:0.5:0,8,8,8:seed=\d+$")
+        self.assertEqual(self.text("done"), "Done by hand: put:Regulator:1,1,5,1; clear:8,8,5,8; erase:0.5:0,8,8,8")
         self.shown_plane(films.plane_of(self.begins(leg + 1)))
         self.picture("live-film")
 
@@ -216,7 +219,8 @@ class Others(LivePage):
         self.set("chance", "half")
         self.over((0, 0), (3, 3))
         self.browser.wait("!document.getElementById('fault').hidden")
-        self.assertRegex(self.text("fault"), r"^erase:half:0,0,4,4:seed=[0-9]+: half is no probability from 0 to 1, such as 0.25$")
+        self.assertEqual(self.text("fault"), "erase:half:0,0,4,4: half is no probability from 0 to 1 with at most nine digits behind "
+                                             "the point, such as 0.25")
         self.tool("stamp")
         self.set("drawing", "x = 3, y = 1, rule = B3/S23\n3o!\n")
         self.set("drawing-keys", "o=Resource")
