@@ -75,7 +75,7 @@ def tables() -> list[str]:
     heads = ("Sorters", "Numbers in the tallies", "Mean error")
     return [
         table(("Attempts", *heads), map(moment, MOMENTS)),
-        table(("Attempts", "Numbers taken in", "One in so many attempts", "Numbers in the tallies at the end"), [
+        table(("Attempts", "Numbers taken in", "Attempts for each number", "Numbers in the tallies at the end"), [
             (attempts, span(it for it, _ in counted), span(attempts / it for it, _ in counted), span(it for _, it in counted))]),
         table(("Attempts", "Numbers on the plane", "Numbers in the tallies", "Mean error"), map(unregulated, (200_000, 400_000))),
         table(("Attempts after the damage", *heads), map(damaged, (25_000, 50_000, 100_000, 200_000))),
