@@ -84,5 +84,7 @@ class Chains(PackageCase):
             "    for shape in (None, numpy.ones((3, 3))):\n"
             "        sizes = numpy.bincount(label(drawn, shape)[0].ravel())[1:]\n"
             "        assert sorted(sizes.tolist(), reverse=True) == feast_lab.clusters(drawn, shape is not None).tolist()\n"
-            "except ImportError: pass\n")
-        self.assertEqual(self.says(script), ["[4, 3, 1, 1] [6, 3]", "[] [9]"])
+            "except ImportError: print('no SciPy')\n")
+        first, second, *lacks = self.says(script)
+        self.assertEqual([first, second], ["[4, 3, 1, 1] [6, 3]", "[] [9]"])
+        self.parts = ["no Python has NumPy and SciPy"] * len(lacks)  # what SciPy says isn't tried then

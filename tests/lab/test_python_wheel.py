@@ -2,13 +2,12 @@
 import os
 import shutil
 import subprocess
-import sys
 import unittest
 import zipfile
-from functools import cache
 from pathlib import Path
 
 from calls import EXAMPLES, TOP, LabCase, program
+from packaged import python_with
 
 NEEDS = "import numpy, setuptools, wheel, venv, ensurepip, pip"
 LACKS = "no Python has NumPy, setuptools, wheel, pip and venv"
@@ -29,24 +28,16 @@ with feast_lab.chain(world, legs=2, until=lambda plane: fish(plane) < 0) as chai
 """
 
 
-@cache
-def builder() -> str | None:
-    """A Python that can build the wheel without the network and has NumPy."""
-    for path in ("/usr/bin/python3", sys.executable):
-        if subprocess.run([path, "-c", NEEDS], capture_output=True, check=False).returncode == 0:
-            return path
-    return None
-
-
 class Wheels(LabCase):
     """Wheels that are built and installed without the network."""
 
     def setUp(self) -> None:
         super().setUp()
-        found = builder()
+        found = python_with(NEEDS)
         if found is None:
             raise unittest.SkipTest(LACKS)
-        self.builder = found
+        self.builder = found  # which builds without the network, and whose NumPy is used
+        self.parts: list[str] = []
         self.around = {name: value for name, value in os.environ.items() if name not in ("FEAST_PROGRAM", "PYTHONPATH")}
 
     def said(self, *words: str | Path, **around: str) -> str:
@@ -102,8 +93,10 @@ class Wheels(LabCase):
         checked = subprocess.run([commands / "python", "-m", "pip", "check"], capture_output=True, text=True, env=self.around, check=False)
         self.assertNotIn("feast-lab", checked.stdout)
         checker = shutil.which("mypy")
-        if checker:
-            self.said(checker, "--strict", "--python-executable", commands / "python", "--cache-dir", self.room / "kept", script)
+        if checker is None:
+            self.parts.append("mypy is not there: apt-get install mypy")
+            return
+        self.said(checker, "--strict", "--python-executable", commands / "python", "--cache-dir", self.room / "kept", script)
 
     def test_clone(self) -> None:
         """From a clone."""
@@ -128,7 +121,7 @@ class Machines(LabCase):
 
     def test_refused(self) -> None:
         """Another system, another processor and an older C library are named, unless a program is."""
-        python = builder()
+        python = python_with(NEEDS)
         if python is None:
             raise unittest.SkipTest(LACKS)
         script = ("import os, platform, sys\nfrom unittest import mock\nimport feast_lab\nfrom feast_lab import command, programs\n"
