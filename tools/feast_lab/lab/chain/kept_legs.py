@@ -1,4 +1,6 @@
 """The legs of a chain that keeps reports, each as a run of its own world."""
+from collections import deque
+
 from ..base.errors import LabError
 from ..base.program import Program
 from ..formats.leg_report import LegReport
@@ -11,14 +13,17 @@ from .legs import LegMaker
 from .packed_legs import PackedLegs
 from .start import chain_of
 
+AT_HAND = 2  # so many packs
+
 
 class KeptLegs:
-    """The legs of a chain, counted from 1. The pack of the leg that was asked for last is at hand still."""
+    """The legs of a chain, counted from 1. The packs of the legs that were asked for last are at hand still: that of a leg, and
+    that of the leg before, whose atoms it begins with."""
 
     def __init__(self, maker: LegMaker, packs: PackedLegs) -> None:
         self.maker = maker
         self.packs = packs
-        self.opened: dict[int, LegReport] = {}
+        self.opened: deque[dict[int, LegReport]] = deque(maxlen=AT_HAND)
 
     @staticmethod
     def of(folder: Folder, program: Program | None = None) -> "KeptLegs":
@@ -32,9 +37,11 @@ class KeptLegs:
 
     def report(self, number: int) -> LegReport:
         """The short report of a leg."""
-        if number not in self.opened:
-            self.opened = self.packs.legs(self.packs.pack_of(number))
-        return self.opened[number]
+        for legs in self.opened:
+            if number in legs:
+                return legs[number]
+        self.opened.append(self.packs.legs(self.packs.pack_of(number)))
+        return self.opened[-1][number]
 
     def whole(self, number: int) -> bytes:
         """The whole report of a leg."""

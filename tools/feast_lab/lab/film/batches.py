@@ -179,4 +179,4 @@ def put(cells: dict[int, str], frame: Frame) -> None:
 def both(before: Frame, after: Frame, events: int) -> Frame:
     """What two frames have that follow one another, as one."""
     return Frame(events, before.changes | after.changes, before.abandoned + after.abandoned, before.places + after.places,
-                 before.made + after.made, before.failed + after.failed)
+                 before.drifts + after.drifts, before.failed + after.failed)

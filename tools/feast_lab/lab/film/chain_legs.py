@@ -3,10 +3,11 @@
 A moment within a leg is a `replay` of the events since the moment before: the chain file has that leg alone, with the atoms
 of then, and the report the events between. So each event is made once, and the program draws where it is.
 """
-from collections import Counter, defaultdict
+from collections import Counter
 from collections.abc import Callable, Sequence
 from dataclasses import dataclass
 from functools import lru_cache
+from itertools import compress
 from pathlib import Path
 
 from ..base.errors import LabError
@@ -18,7 +19,7 @@ from ..formats.outcome import atom_lines
 from ..formats.report import Report
 from ..formats.whole import Drawn
 from ..formats.world import Placed
-from ..measure.drift import plans
+from ..measure.drift import LegDrift, plans
 from .frames import Frame, Player, ReportPlayer
 from .replays import Plane
 
@@ -128,10 +129,8 @@ class LegPlayer:
             self.plane.comes_to(self.leg.legs.left, self.leg.number)
         else:
             self.plane.comes_to(list, self.atoms)
-        if self.plane.world.tiles > 1:
-            frame.made += self.report.tiles(self.at, upto)
-        else:
-            frame.made += bytes(upto - self.at)
+        if upto == self.leg.events:
+            frame.drifts.append(LegDrift.of(self.leg.planned(), self.report.tiles if self.plane.world.tiles > 1 else b""))
         self.at = upto
         while self.given_up and self.given_up[-1][0] <= upto:
             frame.places[self.given_up.pop()[1]] += 1
@@ -148,16 +147,21 @@ class LegPlayer:
     def places(self) -> list[tuple[int, int]]:
         """When and at which site attempts were given up, from the last to the first: each with the next event of its tile."""
         world = self.leg.legs.maker.rule.world_of(self.leg.number)
-        events: dict[int, list[int]] = defaultdict(list)  # of each tile, with their numbers
-        for number, tile in enumerate(self.report.tiles(0, self.leg.events), 1):
-            events[tile].append(number)
+        given_up = Drawn.given_up(world, self.report)
+        tiles, numbers = self.report.tiles, range(1, self.leg.events + 1)
+        events = {tile: list(compress(numbers, tiles.translate(only(tile)))) for tile in {int(name) for name, _, _ in given_up}}
         found, lost = [], Counter[int]()
-        for name, attempt, site in Drawn.given_up(world, self.report):
+        for name, attempt, site in given_up:
             tile, (x, y) = int(name), site.split(" ")
             place = attempt - lost[tile]  # each attempt before it was an event, or was given up
             lost[tile] += 1
             found.append((events[tile][place] if place < len(events[tile]) else self.leg.events, int(y) * world.columns + int(x)))
         return sorted(found, reverse=True)
+
+
+def only(tile: int) -> bytes:
+    """What makes all bytes 0 but that of a tile."""
+    return bytes(number == tile for number in range(256))
 
 
 @dataclass(frozen=True)

@@ -10,7 +10,7 @@ from ..base.errors import LabError
 from ..base.program import Program
 from ..formats.report import Report, read_report
 from ..formats.world import World
-from ..measure.drift import plans, tiles_of
+from ..measure.drift import LegDrift, plans, tiles_of
 from .replays import Plane, call_on
 
 
@@ -18,15 +18,15 @@ from .replays import Plane, call_on
 class Frame:
     """A moment of a run: how many events lie before it, and what is new since the frame before.
 
-    A change is a site, numbered row by row, with its atom as `NAME STATE`, or with nothing. `made` has the tile of
-    each event since the frame before, as a byte, if the events are known.
+    A change is a site, numbered row by row, with its atom as `NAME STATE`, or with nothing. `drifts` are those of the legs
+    that ended since the frame before, if their events are known.
     """
 
     events: int = 0
     changes: dict[int, str] = field(default_factory=dict)
     abandoned: int = 0
     places: Counter[int] = field(default_factory=Counter)  # how many attempts were given up at a site, if that is known
-    made: bytearray = field(default_factory=bytearray)
+    drifts: list[LegDrift] = field(default_factory=list)
     failed: Counter[int] = field(default_factory=Counter)  # how many events failed at a site, if the plane looks for that
 
 
@@ -123,7 +123,8 @@ class ReportPlayer:
     def go(self, upto: int, frame: Frame) -> None:
         """Plays until so many events are over, into a frame."""
         frame.changes |= self.plane.play(self.records[self.at:upto])
-        frame.made += tiles_of(self.records[self.at:upto]) if self.plane.world.tiles > 1 else bytes(max(upto - self.at, 0))
+        if upto == len(self.records):
+            frame.drifts.append(LegDrift.of(plans(self.world), tiles_of(self.records) if self.world.tiles > 1 else b""))
         frame.failed.update(self.plane.failed)
         self.plane.failed.clear()
         self.at = upto

@@ -2,7 +2,6 @@
 import sys
 from collections.abc import Iterator, Mapping, Sequence
 from dataclasses import dataclass
-from itertools import pairwise
 from pathlib import Path
 
 from ..base.errors import LabError
@@ -10,7 +9,7 @@ from ..base.program import Program
 from ..base.progress import Progress
 from ..formats.layout import Leaf
 from ..machine.code import element_codes
-from ..measure.drift import MIXED, of_legs, tiles_of, warning
+from ..measure.drift import MIXED, LegDrift, tiles_of, warning
 from ..pictures.figure import plane_figure
 from ..pictures.marks import marks
 from ..pictures.tints import tinted, tints
@@ -85,21 +84,21 @@ class Filming:
     def page(self, beside: Table | None = None) -> str:
         """The film as a page; a table that is to be beside it gets the same frames."""
         recording, films = self.recording, self.curves.watched(self.frames())
-        packer, made = Packer(recording.layout.elements, self.wanted.failures), bytearray()
+        packer, drifts = Packer(recording.layout.elements, self.wanted.failures), list[LegDrift]()
         marked = marks(recording.layout.elements, recording.files)
         for frame in films if beside is None else beside.noting(films):
             packer.add(frame)
-            made += frame.made
+            drifts += frame.drifts
         more = {"measures": self.curves.head(), "colorBy": [tint.head() for tint in tints(self.leaves, packer.atoms).values()]}
         return page(recording.title, recording.world, recording.layout, marked, packer, recording.act_moments,
-                    drift_of(recording, made), more)
+                    drift_of(recording, drifts), more)
 
     def counts(self) -> str:
         """The counts of the elements in each frame, as CSV."""
-        table, made = self.table(), bytearray()
+        table, drifts = self.table(), list[LegDrift]()
         for frame in table.noting(self.curves.watched(self.frames())):
-            made += frame.made
-        drift_of(self.recording, made)
+            drifts += frame.drifts
+        drift_of(self.recording, drifts)
         return table.text()
 
     def movie(self, seconds: float) -> str:
@@ -115,18 +114,15 @@ class Filming:
         leg, events = recording.leg_at(moment)
         atoms = leg.atoms_after(self.plane, events)
         if isinstance(leg, Reported) and leg.known is not None and 0 < events < leg.events:
-            drift_of(recording, tiles_of(leg.known.journal.lines))
+            drift_of(recording, [LegDrift.of(leg.planned(), tiles_of(leg.known.journal.lines))])
         caption = f"{recording.title} after {moment:,} of {recording.ends[-1]:,} events"
         scales = tints(self.leaves, (line.split(" ", 2)[2] for line in atoms))
         return plane_figure(recording.world, atoms, marks(recording.layout.elements, recording.files), caption, scales)
 
 
-def drift_of(recording: Recording, made: bytes) -> float:
-    """The drift of the whole run, from the tile of each of its events; warns if its moments mix ages."""
-    drift = 0.0
-    if made and recording.world.tiles > 1:
-        parts = zip(recording.legs, pairwise(recording.ends), strict=True)
-        drift = max(of_legs([(leg.planned(), made[begin:end]) for leg, (begin, end) in parts]))
+def drift_of(recording: Recording, legs: Sequence[LegDrift]) -> float:
+    """The drift of the whole run, from those of its legs, if they are known; warns if its moments mix ages."""
+    drift = max(LegDrift.together(legs), default=0.0)
     if drift > MIXED:
         print(f"lab: warning: {recording.title}: {warning(drift)}", file=sys.stderr)
     return drift

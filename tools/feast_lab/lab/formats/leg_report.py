@@ -51,10 +51,16 @@ class LegReport:
         """The lines of its events from one moment to another."""
         return b"".join(line + b"\n" for line in self.lines[since:upto])
 
-    def tiles(self, since: int, upto: int) -> bytes:
-        """The tile of each event from one moment to another, as a byte."""
-        fields = b" ".join(self.lines[since:upto]).split(b" ")
-        return bytes(map(int, fields[1::len(fields) // (upto - since)])) if upto > since else b""
+    @cached_property
+    def tiles(self) -> bytes:
+        """The tile of each event, as a byte."""
+        lines = self.lines
+        if not lines:
+            return b""
+        fields = b" ".join(lines).split(b" ")
+        names = fields[1::len(fields) // len(lines)]
+        numbers = {name: int(name) for name in set(names)}
+        return bytes(map(numbers.__getitem__, names))
 
     @property
     def journal_lines(self) -> list[str]:

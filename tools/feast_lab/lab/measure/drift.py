@@ -12,6 +12,7 @@ its own plan and its own events, and weighs as much as its attempts are of those
 """
 from collections import Counter
 from collections.abc import Iterable, Sequence
+from dataclasses import dataclass
 from heapq import heappop, heapreplace
 
 from ..formats.world import World
@@ -68,11 +69,28 @@ def renew(slowest: list[tuple[float, int]], made: Sequence[int], each: Sequence[
             heapreplace(slowest, (made[tile] * each[tile], tile))
 
 
+@dataclass(frozen=True)
+class LegDrift:
+    """How far each tile was ahead of the slowest in a leg, and the longest of the plans, by which the leg weighs."""
+
+    longest: int
+    ahead: list[float]
+
+    @staticmethod
+    def of(planned: Sequence[int], tiles: Sequence[int]) -> "LegDrift":
+        """That of a leg, from its plans and its events."""
+        return LegDrift(max(planned), drifts(planned, tiles))
+
+    @staticmethod
+    def together(legs: Sequence["LegDrift"]) -> list[float]:
+        """How far each tile was ahead of the slowest in legs that follow one another."""
+        whole = sum(leg.longest for leg in legs) or 1
+        return [max(column) for column in zip(*([it * (leg.longest / whole) for it in leg.ahead] for leg in legs), strict=True)]
+
+
 def of_legs(legs: Sequence[tuple[Sequence[int], Sequence[int]]]) -> list[float]:
     """How far each tile was ahead of the slowest in legs that follow one another, each with its plans and its events."""
-    whole = sum(max(planned) for planned, _ in legs) or 1
-    found = [[ahead * (max(planned) / whole) for ahead in drifts(planned, tiles)] for planned, tiles in legs]
-    return [max(column) for column in zip(*found, strict=True)]
+    return LegDrift.together([LegDrift.of(planned, tiles) for planned, tiles in legs])
 
 
 def greatest(planned: Sequence[int], tiles: Sequence[int]) -> float:
