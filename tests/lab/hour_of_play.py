@@ -13,6 +13,7 @@ from collections.abc import Callable
 from contextlib import ExitStack
 from pathlib import Path
 from types import FrameType
+from typing import Any
 from unittest.mock import patch
 
 HERE = Path(__file__).resolve().parent
@@ -44,7 +45,7 @@ class Steps:
     def __init__(self) -> None:
         self.count = 0
 
-    def trace(self, frame: FrameType, event: str, _what: object) -> Callable[..., object]:
+    def trace(self, frame: FrameType, event: str, _what: object) -> Any:
         """Counts a step."""
         frame.f_trace_opcodes = True
         self.count += event == "opcode"
@@ -102,7 +103,8 @@ class Hour:
 
     def costs(self) -> Costs:
         """What a frame, a leg, an act and its undoing cost now."""
-        steps, found = Steps(), Costs()
+        steps = Steps()
+        found: Costs = {}
         told, frames, acts = self.told, 0, 0
         written = os.stat(self.folder.path / "acts.txt").st_size
         for _ in range(SAMPLE):
