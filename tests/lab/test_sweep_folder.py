@@ -9,7 +9,7 @@ from contextlib import redirect_stderr, redirect_stdout
 from itertools import accumulate
 from unittest import mock
 
-from calls import feast, here, lab, program
+from calls import Word, feast, here, lab, program
 from kept_chain import packs_of, repack, told
 from sweeps import BIRTH, SOURCE, WORLD, FolderCase, contents
 
@@ -93,17 +93,19 @@ class Folders(FolderCase):
                 course = self.rows((chain / "course.csv").read_text())
                 found = [row for row in rows if (row["p"], row["tiles"]) == (p, tiles)]
                 self.assertEqual([list(row.values())[5:] for row in found], [list(row.values())[2:] for row in course])
-        self.assertNotEqual(*([row["count(Regulator.part!=0)"] for row in rows if row["p"] == p] for p in ("0", "1")))
+        quiet, noisy = ([row["count(Regulator.part!=0)"] for row in rows if row["p"] == p] for p in ("0", "1"))
+        self.assertNotEqual(quiet, noisy)
         self.passes(*self.words(*words, "--keep", "reports", "--into", self.out))
         self.assertEqual(self.passes("sweep", "--audit", self.out), "yes\n")
         run = self.out / "runs" / "00004"
         self.assertEqual((run / "acts.txt").read_text(), "2:clear:0,0,2,2\nevery:1:flip:1:0,0,24,16\n")
         self.assertEqual(json.loads((self.out / "sweep.json").read_text())["noise"], "{p}")
-        for more, says in [
+        refused: list[tuple[list[Word], str]] = [
             (["--noise", "{p}"], "--noise {p}: p has no values; give them by --set p=A,B,.."),
             (["--noise", "2"], "--at every:1:flip:2:0,0,16,8: 2 is no probability"),
             (["--noise", "0.1", "--legs", "2", "--into", self.out], "the sweep was planned with other"),
-        ]:
+        ]
+        for more, says in refused:
             self.refused(says, *self.words(*more))
 
     def test_world(self) -> None:

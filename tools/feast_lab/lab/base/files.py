@@ -113,6 +113,16 @@ def cut_off(path: Path, size: int) -> None:
             os.close(handle)
 
 
+def ends_with(path: Path, data: bytes) -> bool:
+    """Whether these are the last bytes of a file, of which no more is read."""
+    try:
+        with path.open("rb") as file:
+            file.seek(max(0, file.seek(0, os.SEEK_END) - len(data)))
+            return file.read() == data
+    except OSError as error:
+        raise LabError(f"{path}: can't be read: {cause(error)}") from error
+
+
 def write_new(path: Path, data: str | bytes) -> None:
     """Writes a file of a folder that is temporary, so that nobody else sees it."""
     with telling(path):

@@ -88,6 +88,11 @@ class Acts:
         """Adds an act behind the others."""
         (self.every if act.is_every else self.by_leg.setdefault(act.leg, [])).append(act)
 
+    def forget(self, upto: int) -> None:
+        """Forgets the acts before single legs up to one; the record has them."""
+        for leg in [leg for leg in self.by_leg if leg <= upto]:
+            del self.by_leg[leg]
+
     def attempts(self, leg: int) -> int | None:
         """How many attempts each tile makes in a leg, if an act says so."""
         said = [act.attempts for act in self.by_leg.get(leg, ()) if act.attempts is not None]

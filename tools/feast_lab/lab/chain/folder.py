@@ -20,7 +20,7 @@ from pathlib import Path
 from typing import Any
 
 from ..base.errors import LabError
-from ..base.files import PART, append_to, cause, read_text
+from ..base.files import PART, append_to, cause, cut_off, ends_with, read_text
 from ..base.inputs import Inputs
 from ..base.locks import held
 from ..formats.layout import Layout
@@ -103,6 +103,13 @@ class Folder(Inputs):
         """The first copy that is not as it was when the chain was begun."""
         return self.other(begun.world, begun.elements)
 
+    def size(self) -> int:
+        """How many bytes its files have; 0 if it is gone."""
+        try:
+            return sum(it.stat().st_size for folder in (self.path, self.copies) for it in os.scandir(folder) if it.is_file())
+        except OSError:
+            return 0
+
     @property
     def manifest(self) -> Path:
         """What the chain was begun with. It is put in its place last, so it speaks of files that are there."""
@@ -165,7 +172,11 @@ class Folder(Inputs):
         append_to(self.path / ACTS, "".join(f"{text}\n" for text in texts).encode(), self.is_lasting)
 
     def take_back(self, text: str) -> None:
-        """Takes the last act of this text from the record."""
+        """Takes the last act of this text from the record; if it is the last of all, nothing is written anew."""
+        path, line = self.path / ACTS, f"{text}\n".encode()
+        if ends_with(path, b"\n" + line):
+            cut_off(path, path.stat().st_size - len(line))
+            return
         texts = self.act_texts()
         del texts[len(texts) - 1 - texts[::-1].index(text)]
         self.write(self.path / ACTS, "".join(f"{it}\n" for it in texts))

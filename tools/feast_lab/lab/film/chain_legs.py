@@ -4,10 +4,9 @@ A moment within a leg is a `replay` of the events since the moment before: the c
 of then, and the report the events between. So each event is made once, and the program draws where it is.
 """
 from collections import Counter
-from collections.abc import Callable, Sequence
+from collections.abc import Callable, Iterator, Sequence
 from dataclasses import dataclass
 from functools import lru_cache
-from itertools import compress
 from pathlib import Path
 
 from ..base.errors import LabError
@@ -148,8 +147,7 @@ class LegPlayer:
         """When and at which site attempts were given up, from the last to the first: each with the next event of its tile."""
         world = self.leg.legs.maker.rule.world_of(self.leg.number)
         given_up = Drawn.given_up(world, self.report)
-        tiles, numbers = self.report.tiles, range(1, self.leg.events + 1)
-        events = {tile: list(compress(numbers, tiles.translate(only(tile)))) for tile in {int(name) for name, _, _ in given_up}}
+        events = {tile: list(numbers_of(tile, self.report.tiles)) for tile in {int(name) for name, _, _ in given_up}}
         found, lost = [], Counter[int]()
         for name, attempt, site in given_up:
             tile, (x, y) = int(name), site.split(" ")
@@ -159,9 +157,11 @@ class LegPlayer:
         return sorted(found, reverse=True)
 
 
-def only(tile: int) -> bytes:
-    """What makes all bytes 0 but that of a tile."""
-    return bytes(number == tile for number in range(256))
+def numbers_of(tile: int, tiles: bytes) -> Iterator[int]:
+    """The numbers of the events of a tile, counted from 1; `tiles` has the tile of each event."""
+    number = 0
+    while (number := tiles.find(tile, number) + 1) > 0:
+        yield number
 
 
 @dataclass(frozen=True)

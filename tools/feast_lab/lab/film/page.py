@@ -14,7 +14,7 @@ from ..pictures.marks import Mark
 from .data import Packer
 
 PAGE = Path(__file__).resolve().parent / "page"
-SCRIPTS = ("film.js", "atoms.js", "looks.js", "tints.js", "plane.js", "chart.js", "measures.js", "failures.js", "page.js",
+SCRIPTS = ("film.js", "atoms.js", "looks.js", "tints.js", "plane.js", "camera.js", "chart.js", "measures.js", "failures.js", "page.js",
            "film_page.js")
 # The page runs its own script and no other, and asks for nothing.
 POLICY = ("default-src 'none'; script-src 'sha256-{script}'; style-src 'sha256-{style}'; img-src data:; base-uri 'none'; "

@@ -8,13 +8,15 @@ from typing import Any
 
 from ..base.carets import with_caret
 from ..base.errors import LabError
-from ..base.limits import MOST_COLUMNS
+from ..base.limits import LAST_LEG, MOST_COLUMNS
 from ..base.program import Program, Refusal
 from ..chain.columns import carried_on
 from ..chain.course import Course
 from ..chain.folder import Folder
 from ..chain.fork import anew, fork, free_folder
 from ..chain.legs import LegMaker
+from ..chain.start import going_on
+from ..chain.thin import thin
 from ..machine.finder import Finder
 from ..pictures.marks import marks
 from ..worlds.stamps import stamped
@@ -45,7 +47,7 @@ class Live:
         self.orders: dict[str, Callable[[dict[str, Any]], str]] = {
             "play": self.play, "pause": self.pause, "leg": self.leg,
             "slower": self.tempo, "faster": self.tempo, "alone": self.tempo, "same": self.tempo,
-            "act": self.act, "stamp": self.stamp, "undo": self.undo, "fork": self.fork, "reload": self.reload,
+            "act": self.act, "stamp": self.stamp, "undo": self.undo, "fork": self.fork, "reload": self.reload, "thin": self.thin,
         }
 
     def begin(self, maker: LegMaker, course: Course) -> None:
@@ -136,7 +138,7 @@ class Live:
             raise LabError("no element files were named: start it with ./lab live DIR WORLD FILE..")
         leg = self.session.rest()
         try:
-            with anew(self.program, self.session.maker, leg + 1, self.session.lines, self.files) as start:
+            with anew(self.program, self.session.maker, leg + 1, self.session.atoms.lines, self.files) as start:
                 marks(start.elements, self.files)
                 folder = Folder(free_folder(self.folder.path, "reload"))
                 folder.make()
@@ -144,15 +146,33 @@ class Live:
                     held.enter_context(folder.held())
                     maker, course = start.opened(folder)
                     maker, lost = carried_on(maker, course, self.session.course)
-                    last = self.session
-                    self.begin(maker, course)
-                    before, self.held = self.held, held.pop_all()
+                    self.go_over(maker, course, held.pop_all())
         except Refusal as refusal:
             raise LabError(with_caret(str(refusal))) from refusal
-        last.end()
-        before.close()
         told = f" No longer measured: {', '.join(lost)}." if lost else ""
         return f"The elements are read again; the chain goes on in {folder.path.name}.{told}"
+
+    def thin(self, order: dict[str, Any]) -> str:
+        """Goes on in a copy of the chain in a folder beside, which keeps the atoms of every N-th leg and no reports."""
+        every = order.get("every")
+        if type(every) is not int or not 1 <= every <= LAST_LEG:
+            raise LabError(f"the order needs `every`, a whole number from 1 to {LAST_LEG:,}")
+        self.session.rest()
+        session, folder = self.session, Folder(free_folder(self.folder.path, "thin"))
+        thin(self.folder, session.maker.begun, session.course, self.folder.act_texts(), every, folder)
+        with ExitStack() as held:
+            held.enter_context(folder.held())
+            self.go_over(*going_on(self.program, folder), held.pop_all())
+        return (f"The chain goes on in {folder.path.name}, which keeps the atoms of one leg in {every}, and no reports. "
+                f"{session.maker.folder.path.name} is as it was; delete it if you don't need it.")
+
+    def go_over(self, maker: LegMaker, course: Course, held: ExitStack) -> None:
+        """Ends the chain at work and shows another, whose folder is held."""
+        last, before = self.session, self.held
+        self.begin(maker, course)
+        self.held = held
+        last.end()
+        before.close()
 
 
 def strings(order: dict[str, Any], name: str) -> list[str]:

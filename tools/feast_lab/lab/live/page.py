@@ -4,7 +4,7 @@ from html import escape
 
 from ..film.page import filled, part
 
-SCRIPTS = ("live.js", "atoms.js", "looks.js", "tints.js", "plane.js", "chart.js", "failures.js", "page.js", "hands.js",
+SCRIPTS = ("live.js", "atoms.js", "looks.js", "tints.js", "plane.js", "camera.js", "chart.js", "failures.js", "page.js", "hands.js",
            "live_page.js")
 
 

@@ -9,6 +9,7 @@ import json
 import re
 import socket
 import sys
+import time
 from collections.abc import Sequence
 from http import HTTPStatus
 from http.server import BaseHTTPRequestHandler, ThreadingHTTPServer
@@ -26,6 +27,7 @@ HELLO = re.compile(r"/hello/([0-9a-f]{32})")  # asks for a proof that the server
 LONGEST = 1 << 20  # bytes of an order
 MOST_STREAMS = 16
 PATIENCE = 20  # seconds for which a page may keep the server waiting
+FRAME = 0.05  # seconds: a page is told no more often, and no more than half of its thread's time is spent on it
 QUIET = 10.0  # seconds after which a stream without news says that it is still there
 POLICY = ("default-src 'none'; script-src 'self'; style-src 'self'; connect-src 'self'; img-src 'self' data:; "
           "base-uri 'none'; form-action 'none'; frame-ancestors 'none'")
@@ -205,8 +207,11 @@ class Handler(BaseHTTPRequestHandler):
             if shot is None:
                 self.wfile.write(b": still there\n\n")
                 continue
+            began = time.monotonic()
             self.tell("shot", view.shot_text(shot, lines))
-            number, lines = shot.number, shot.lines
+            number, lines = shot.number, shot.atoms.lines
+            took = time.monotonic() - began
+            time.sleep(max(FRAME - took, took if shot.mode == "play" else 0.0))
         self.tell("anew", "another chain")
 
     def tell(self, name: str, text: str) -> None:

@@ -1,14 +1,16 @@
 """A chain that runs while it is watched: its legs one after another, and what is done to it in between.
 
 In a play many legs are made in one call of the program, which is at the legs to come while those before are taken. An order
-that they don't know of ends the call behind the leg that is being made, and the next call begins there.
+that they don't know of ends the call behind the leg that is being made, and the next call begins there. What is seen is asked
+for by those who watch, at their own rate, so a leg that nobody sees costs no more than to keep it.
 """
 import threading
 import time
 from bisect import bisect_right, insort
 from collections import Counter, deque
-from collections.abc import Mapping, Sequence
+from collections.abc import Callable, Mapping, Sequence
 from dataclasses import dataclass, replace
+from functools import cached_property
 
 from ..base.errors import LabError
 from ..base.files import cause
@@ -26,11 +28,23 @@ AT_ONCE = 1000  # so many legs are asked for in a call
 ENDED = "the session has ended, and makes no leg any more; end ./lab live by Ctrl-C, and start it again"
 
 
+class Atoms:
+    """Atoms whose lines are made when someone asks for them first."""
+
+    def __init__(self, made: Callable[[], Sequence[str]]) -> None:
+        self.made = made
+
+    @cached_property
+    def lines(self) -> Sequence[str]:
+        """The lines."""
+        return self.made()
+
+
 @dataclass(frozen=True)
 class Shot:
     """The chain between two legs, as those who watch see it.
 
-    `leg` is the number of legs that are over; `lines` are the atoms, with the acts before the next leg done.
+    `leg` is the number of legs that are over; `atoms` have the acts before the next leg done.
     `mode` is `play`, `pause`, `leg` while the last leg before a pause is made, or `end`.
     """
 
@@ -38,7 +52,7 @@ class Shot:
     leg: int
     events: int
     abandoned: int
-    lines: Sequence[str]
+    atoms: Atoms
     last: LegReport | None  # the report of the last leg, if it was made since the chain was opened
     mode: str
     attempts: int  # of each tile in the next leg
@@ -65,6 +79,7 @@ class Session:
         self.fault = ""
         self.is_busy = False
         self.orders = 0  # how many there have been, which legs at work don't know of
+        self.at_work = 0  # the attempts of each tile in the leg that is being made, unless the record says otherwise
         self.tempo = Tempo.of(maker.rule.world, course.legs[-1].attempts)
         self.open(maker, course)
         self.times: deque[tuple[float, int]] = deque()
@@ -79,17 +94,22 @@ class Session:
         self.last: LegReport | None = None
         self.failed: Counter[int] = Counter()
         self.hands = sorted(leg for leg, acts in maker.rule.acts.by_leg.items() for act in acts if act.attempts is None)
-        self.left: Sequence[str] = atom_lines(maker.folder.atoms(self.next - 1, maker.begun))
-        self.lines = self.with_acts(self.next, self.left)
+        maker.rule.acts.forget(self.next - 1)  # so what is done before a call doesn't grow with the legs that were made
+        text = maker.folder.atoms(self.next - 1, maker.begun)
+        self.left = Atoms(lambda: atom_lines(text))
+        self.atoms = self.with_acts(self.next, self.left)
         self.keeper = Keeper(maker.folder, maker.begun, course)
 
     def by_hand(self, leg: int) -> list[Act]:
         """What is done to the atoms before a leg, and before no other."""
         return [act for act in self.maker.rule.acts.by_leg.get(leg, ()) if act.attempts is None]
 
-    def with_acts(self, leg: int, left: Sequence[str]) -> Sequence[str]:
+    def with_acts(self, leg: int, left: Atoms) -> Atoms:
         """The atoms with which a leg begins, if something is done before it by hand; else those that the leg before left."""
-        return self.maker.before(leg, left) if self.by_hand(leg) else left
+        if not self.by_hand(leg):
+            return left
+        lines = self.maker.before(leg, left.lines)
+        return Atoms(lambda: lines)
 
     # what those who watch ask for
 
@@ -133,16 +153,34 @@ class Session:
             waiting = list(self.maker.rule.acts.by_leg.get(leg, ()))
             self.maker.rule.acts.by_leg[leg] = waiting + acts
             try:
-                lines = self.lines if self.is_busy else self.with_acts(leg, self.left)
+                atoms = self.atoms if self.is_busy else self.with_acts(leg, self.left)
+                self.keep_lengths()
                 self.maker.folder.add_acts(act.text for act in acts)
             except BaseException:
                 self.maker.rule.acts.by_leg[leg] = waiting
                 raise
             for _ in acts:
                 insort(self.hands, leg)
-            self.lines = lines
+            self.atoms = atoms
             self.orders += 1
             self.publish()
+
+    def keep_lengths(self) -> None:
+        """Puts the lengths of all legs that are made, or are being made, on record. So an act behind them is the last thing on
+        record, and can be taken back without a word of the rest being written anew."""
+        self.keeper.flush()
+        if self.is_busy:
+            length = self.length_of(self.next, self.at_work)
+            self.maker.folder.add_acts(length)
+
+    def length_of(self, number: int, attempts: int) -> list[str]:
+        """What is to be put on record of a leg of so many attempts, unless the record says it or the world does."""
+        rule = self.maker.rule
+        if rule.acts.attempts(number) is not None or attempts == rule.world.attempts:
+            return []
+        text = f"{number}:attempts:{attempts}"
+        rule.acts.add(Act.of(text, rule.world, self.maker.layout))
+        return [text]
 
     def undo(self) -> None:
         """Takes back the last act that waits for the next leg."""
@@ -161,7 +199,7 @@ class Session:
             self.hands.remove(leg)
             self.orders += 1
             if not self.is_busy:
-                self.lines = self.with_acts(leg, self.left)
+                self.atoms = self.with_acts(leg, self.left)
             self.publish()
 
     def rest(self) -> int:
@@ -203,15 +241,16 @@ class Session:
         """Waits until another leg is wanted; False if the session ends."""
         with self.changed:
             self.changed.wait_for(lambda: self.mode != "pause")
-            self.is_busy = self.mode != "end"
+            self.is_busy, self.at_work = self.mode != "end", self.tempo.attempts
             return self.is_busy
 
     def make(self) -> None:
         """Makes legs by one call of the program, until there is an order that they don't know of, or another length."""
         with self.changed:
             first, orders, attempts = self.next, self.orders, self.tempo.attempts
+            self.at_work = attempts
             last = first if self.mode == "leg" else first + AT_ONCE - 1
-        legs = self.maker.called(first, last, self.left, attempts)
+        legs = self.maker.called(first, last, self.left.lines, attempts)
         began = time.monotonic()
         try:
             for number, report in legs:
@@ -230,17 +269,16 @@ class Session:
 
     def take(self, number: int, report: LegReport, attempts: int) -> None:
         """Takes a leg that was made, of so many attempts unless the record says otherwise."""
-        rule = self.maker.rule
-        length = [] if rule.acts.attempts(number) is not None or attempts == rule.world.attempts else [f"{number}:attempts:{attempts}"]
-        for text in length:
-            rule.acts.add(Act.of(text, rule.world, self.maker.layout))
-        failed = self.maker.failed(number, self.left, report)
+        with self.changed:
+            length = self.length_of(number, attempts)
+        failed = self.maker.failed(number, self.left.lines, report) if self.maker.finder is not None else None
         row = self.maker.row(number, report, failed if self.course.has_failures else None)
-        left = atom_lines(report.atoms)
+        left = Atoms(lambda: atom_lines(report.atoms))
         with self.changed:
             self.keeper.keep(row, report, length)
             self.next = number + 1
-            self.left, self.lines = left, self.with_acts(self.next, left)
+            self.maker.rule.acts.forget(number)
+            self.left, self.atoms = left, self.with_acts(self.next, left)
             self.last, self.failed = report, failed or Counter()
             self.all_failed += self.failed.total()
             self.times.append((time.monotonic(), self.course.events))
@@ -300,7 +338,7 @@ class Session:
         coming = self.next + self.is_busy
         acts = [act.told for act in self.by_hand(coming)]
         mode = "leg" if self.is_busy and self.mode == "pause" else self.mode
-        return Shot(number, self.next - 1, self.course.events, self.course.abandoned, self.lines, self.last, mode,
+        return Shot(number, self.next - 1, self.course.events, self.course.abandoned, self.atoms, self.last, mode,
                     self.tempo.attempts, self.tempo.by_itself, self.speed(), acts, bisect_right(self.hands, coming),
                     self.failed if self.maker.finder else None, self.all_failed, self.fault)
 

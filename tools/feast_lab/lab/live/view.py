@@ -43,9 +43,10 @@ class View:
 
     def shot_text(self, shot: Shot, before: Sequence[str]) -> str:
         """A shot as JSON, for a page that shows the atoms before."""
+        after = shot.atoms.lines
         with self.lock:
-            if self.last[0] is not before or self.last[1] is not shot.lines:
-                self.last = (before, shot.lines, self.changes(before, shot.lines))
+            if self.last[0] is not before or self.last[1] is not after:
+                self.last = (before, after, self.changes(before, after))
             changes = self.last[2]
             if self.dots[0] is not shot.last:
                 self.dots = (shot.last, self.places(shot))
@@ -54,7 +55,7 @@ class View:
             "leg": shot.leg, "events": shot.events, "abandoned": shot.abandoned, "mode": shot.mode,
             "attempts": shot.attempts, "byItself": shot.by_itself, "speed": shot.speed, "fault": shot.fault,
             "acts": [act if len(act) < 80 else f"{act[:78]}.." for act in shot.acts],
-            "done": shot.done, "changes": changes, "places": places,
+            "done": shot.done, "size": self.session.maker.folder.size(), "changes": changes, "places": places,
             "failed": None if shot.failed is None else sites(shot.failed), "allFailed": shot.all_failed,
         }, separators=(",", ":"))
 

@@ -41,6 +41,12 @@ function numbered(number, name) {
   return `${spelled(number)} ${name}${number === 1 ? '' : 's'}`;
 }
 
+/** A number of bytes, with the unit that suits it. */
+function inBytes(count) {
+  const power = Math.min(4, Math.max(0, Math.floor(Math.log10(Math.max(count, 1)) / 3)));
+  return `${(count / 1000 ** power).toFixed(power === 0 ? 0 : 1)} ${['B', 'kB', 'MB', 'GB', 'TB'][power]}`;
+}
+
 /** An HTML element with a text. */
 function made(name, text, className = '') {
   const node = document.createElement(name);

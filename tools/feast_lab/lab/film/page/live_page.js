@@ -1,6 +1,6 @@
 const LOST = 'The chain does not answer: ./lab live has ended. This page goes on when it is started again.';
 const CURVES_EVERY = 250; // milliseconds in which the curves are drawn once at most while the chain plays
-const ORDERS = ['play', 'leg', 'slower', 'faster', 'alone', 'fork']; // the controls that need a chain at work
+const ORDERS = ['play', 'leg', 'slower', 'faster', 'alone', 'fork', 'thin']; // the controls that need a chain at work
 
 /** Says something in a part of the page, or nothing. */
 function say(part, text) {
@@ -34,6 +34,7 @@ class LivePage extends Page {
     this.on('play', 'click', () => this.toggle());
     for (const order of ['leg', 'slower', 'faster', 'undo', 'fork', 'reload']) this.on(order, 'click', () => this.order({ do: order }));
     this.on('alone', 'change', () => this.order({ do: this.part('alone').checked ? 'alone' : 'same' }));
+    this.on('thin', 'click', () => this.order({ do: 'thin', every: Number(this.part('every').value) }));
     this.on('file', 'change', () => this.readDrawing());
   }
 
@@ -189,6 +190,7 @@ class LivePage extends Page {
     this.part('moment').textContent = `Leg ${spelled(shot.leg)}: ${numbered(shot.events, 'event')}${gaveUp}; ${aeps} AEPS`
       + (this.isAtWork ? `, ${shot.speed.toFixed(2)} AEPS a second` : '');
     this.part('pace').textContent = `${spelled(shot.attempts)} attempts of each tile in a leg`;
+    write(this.part('size'), this.sizeText());
     this.part('alone').checked = shot.byItself;
     this.part('play').textContent = this.isAtWork && shot.mode === 'play' ? 'Pause' : 'Play';
     for (const id of ORDERS) this.part(id).disabled = !this.isAtWork;
@@ -199,6 +201,13 @@ class LivePage extends Page {
     this.part('done').textContent = shot.acts.length === 0 ? '' : `Done by hand before the next leg: ${shot.acts.join('; ')}`;
     this.showStroke();
     this.sayFaults();
+  }
+
+  /** How much room the chain takes, and an event of each site in it. */
+  sizeText() {
+    const { shot, head } = this.source;
+    const aeps = shot.events / head.liveSites;
+    return `The folder has ${inBytes(shot.size)}${aeps < 1 ? '' : `, ${inBytes(shot.size / aeps)} for an event of each site`}.`;
   }
 
   /** Shows the sites of a stroke that isn't over, or the rectangle that it spans. */

@@ -18,6 +18,7 @@ class Page {
     this.counts = source.head.elements.map((element, i) => this.addElement(element, i + 1));
     this.part('messages').classList.add('over');
     this.offerColors();
+    this.camera = new Camera(this.part('plane'), this.part('picture'), this.part('record'));
     this.listen();
   }
 
