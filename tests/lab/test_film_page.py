@@ -269,7 +269,7 @@ class Fence(FilmPage):
         """Each control has a name, each text can be read, and small windows show all of it."""
         nodes = self.browser.call("Accessibility.getFullAXTree")["nodes"]
         controls = [node for node in nodes if node.get("role", {}).get("value") in NAMED]
-        self.assertEqual(len(controls), 18)
+        self.assertEqual(len(controls), 20)
         self.assertEqual([node for node in controls if not node["name"]["value"].strip()], [])
         self.assertEqual(self.browser.value(PALE), [])
         for width, height, scale in ((1280, 700, 1), (768, 1024, 2), (320, 568, 2)):

@@ -340,6 +340,15 @@ class Ends(LiveCase):
         again.ends(signal.SIGINT)
         self.assertEqual(self.passes("chain", "--audit", self.chain), "yes\n")
 
+    def test_pause(self) -> None:
+        """A pause shows what is on record, whenever it comes: killed at once, the chain has the leg that was shown."""
+        live = self.kinds()
+        for leg in (2, 4, 6, 8):  # short legs, so most of the time is between two of them
+            self.does(live, {"do": "play"})
+            live.shot("play", leg=leg)
+            self.does(live, {"do": "pause"})
+            self.assertEqual(kept_chain.packs_of(self.chain).done, live.shot("pause")["leg"])
+
     def test_pages(self) -> None:
         """The commands of the pages serve."""
         commands = [line.split()[2:] for page in ("live.md", "tutorial.md")

@@ -127,7 +127,18 @@ class Session:
             self.mode = mode
             self.orders += 1
             self.times.clear()
+            if mode == "pause" and not self.is_busy and self.flush_fails():
+                return
             self.publish()
+
+    def flush_fails(self) -> bool:
+        """Puts on record what is made, so that a pause shows nothing else; True if that can't be, which is told then."""
+        try:
+            self.keeper.flush()
+        except Exception as error:
+            self.fail(said_of(error))
+            return True
+        return False
 
     def refuse_if_ended(self) -> None:
         """Refuses what a session can't do any more."""
